@@ -1,14 +1,48 @@
 """Canonical texts, keys, envelopes, reports and manifests: what a Primary writes, and what it needs to read the answer.
 
-The shipped scheme is HMAC-SHA-256: the same 32 bytes sign and verify. So every key here is a secret, those of the repositories'
-roles too, and whoever reads one can sign with it.
+Under HMAC-SHA-256 the same 32 bytes sign and verify: every key here is a secret, those of the repositories' roles too, and
+whoever reads one can sign with it. Under Ed25519 an ECU has its secret alone, and what verifies the repositories' files stands
+in their Root files.
 """
 import hashlib
 import hmac
 import json
+import sys
 from datetime import datetime, timedelta, timezone
+from pathlib import Path
 
-METHOD = "hmac-sha256"
+# (Python's standard library has no Ed25519; an ECU has a library of its own, or its hardware)
+sys.path.append(str(Path(__file__).resolve().parents[2] / "tools" / "oracle"))
+
+import ed25519
+
+
+class HmacSha256:
+    method = "hmac-sha256"
+
+    def public_of(secret):
+        return secret
+
+    def sign(secret, data):
+        return hmac.new(secret, data, hashlib.sha256).digest()
+
+    def verify(key, data, signature):
+        return hmac.compare_digest(hmac.new(key, data, hashlib.sha256).digest(), signature)
+
+
+class Ed25519:
+    method = "ed25519"
+    public_of, sign, verify = ed25519.public_of, ed25519.sign, ed25519.verify
+
+
+SCHEMES = {it.method: it for it in (HmacSha256, Ed25519)}
+scheme = HmacSha256
+
+
+def use(told):
+    """From here on the scheme is the one that an input or a vehicle names by its `method`, or HMAC."""
+    global scheme
+    scheme = SCHEMES[told.get("method", HmacSha256.method)]
 
 
 def canonical(value):
@@ -16,13 +50,15 @@ def canonical(value):
     return json.dumps(value, sort_keys=True, separators=(",", ":"))
 
 
-def mac(secret, text):
-    return hmac.new(secret, text.encode("ascii"), hashlib.sha256).hexdigest()
+def key_identifier(public):
+    """The identifier of a key: HMAC-SHA-256 of a fixed word under its public part, in lower case hex."""
+    return hmac.new(public, b"uptane-key-id", hashlib.sha256).hexdigest()
 
 
-def key_identifier(secret):
-    """The identifier of a key: HMAC-SHA-256 of a fixed word under it, in lower case hex."""
-    return mac(secret, "uptane-key-id")
+def shown_keys(root):
+    """The keys that a Root shows, by identifier. Under HMAC it shows none."""
+    told = {name: bytes.fromhex(key["public"]) for name, key in root.get("keys", {}).items() if key["method"] == scheme.method}
+    return {name: public for name, public in told.items() if key_identifier(public) == name}
 
 
 def moment(seconds):
@@ -37,15 +73,16 @@ def seconds(text):
 
 def sealed(secret, signed):
     """The envelope round a canonical text, with one signature. The text stands in it as it is."""
-    signature = {"keyid": key_identifier(secret), "method": METHOD, "sig": mac(secret, signed)}
+    sig = scheme.sign(secret, signed.encode("ascii")).hex()
+    signature = {"keyid": key_identifier(scheme.public_of(secret)), "method": scheme.method, "sig": sig}
     return '{"signatures":[%s],"signed":%s}' % (canonical(signature), signed)
 
 
-def is_signed_by(envelope, secret):
+def is_signed_by(envelope, key):
     """Whether some signature of the envelope is this key's, over the canonical text of what is signed."""
-    identifier, tag = key_identifier(secret), mac(secret, canonical(envelope["signed"]))
+    identifier, data = key_identifier(key), canonical(envelope["signed"]).encode("ascii")
     return any(
-        one["keyid"] == identifier and one["method"] == METHOD and hmac.compare_digest(one["sig"].lower(), tag)
+        one["keyid"] == identifier and one["method"] == scheme.method and scheme.verify(key, data, bytes.fromhex(one["sig"]))
         for one in envelope["signatures"]
     )
 

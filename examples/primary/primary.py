@@ -16,10 +16,11 @@ Nothing but Python's standard library is used. The input of `build` is one JSON 
     {"vehicle": .., "primary": .., "key": HEX, "counter": N,
      "reports": [{"ecu": .., "key": HEX, "counter": N, "time": SECONDS, "attack": .., "file": .., "length": N, "sha256": HEX}, ..]}
 
-A report may have `"sha512": HEX` too.
+A report may have `"sha512": HEX` too. With `"method": "ed25519"` the keys are secrets of Ed25519; without, they are HMAC's. So it
+is with VEHICLE and SECRETS; under Ed25519 `check` takes the text of the Director's Root in place of SECRETS.
 
 VEHICLE is a file that holds what the vehicle knows, `vehicle.json` for one; it is written anew in each round. It holds secrets: the
-ECUs' and those of the repositories' roles. In a vehicle each ECU signs its own report with its own key and hands the envelope to
+ECUs', and under HMAC those of the repositories' roles. In a vehicle each ECU signs its own report with its own key and hands the envelope to
 the Primary, and checks the metadata once more; here one program holds all keys. Images aren't served by the repositories: a round
 takes them from a folder, by their filenames, and leaves out those that aren't there yet. What `trust` fetches is believed as it
 comes: so that is done once, in the factory, and over a connection that nobody else can change.
@@ -39,7 +40,7 @@ from pathlib import Path
 sys.dont_write_bytecode = True
 
 import verify
-from envelopes import canonical, hashes, key_identifier, manifest
+from envelopes import canonical, hashes, key_identifier, manifest, use
 
 # seconds: what an answer may take, longer than the proxies of `examples/service` wait, and the waits between tries, each half as long again at
 # random so that a fleet doesn't come at once
@@ -83,7 +84,7 @@ def fetcher(url):
 
     def fetch(name):
         status, text = asked("%s/%s" % (url, name))
-        if status == 404:
+        if status == 404 and text.startswith('{"error":29,'):
             return None
         verify.expect(status == 200, "%s: %d %s", name, status, text)
         return json.loads(text)
@@ -109,7 +110,7 @@ def new_manifest(told, now):
 
 def verified(told, reply, url, now):
     """What is to be installed, by ECU, and what is trusted from now on of both repositories. The Director's Root files come first."""
-    fetch, secrets = fetcher(url), {key_identifier(key): key for key in map(bytes.fromhex, told["role_secrets"])}
+    fetch, secrets = fetcher(url), {key_identifier(key): key for key in map(bytes.fromhex, told.get("role_secrets", []))}
     ecus = {ecu["ecu"]: ecu for ecu in told["ecus"]}
     director = verify.latest_root(told["director"], fetch, secrets, "director", now)
     director["versions"] |= verify.check_reply(director, reply, secrets, told["vehicle"], now)
@@ -201,6 +202,7 @@ def write(path, told):
 
 def go_round(url, path, images):
     told = json.loads(path.read_text(encoding="ascii"))
+    use(told)
     save = lambda: write(path, told)
     try:
         due, trusted = answered(told, url, save)
@@ -247,32 +249,36 @@ def trust(url, path):
 # ---- words
 
 
-def check(text, roles):
+def check(text, told):
     """Looks at a reply alone: each file under its role's keys, its versions, and that the Timestamp names this very Snapshot."""
-    reply = json.loads(text)
-    trust = {"root": {"signed": root_of(roles)}, "versions": {}}
-    versions = verify.check_files(trust, reply, secrets_of(roles), "director", 0, reply["vehicle"])
+    reply, secrets = json.loads(text), {}
+    if "signed" in told:
+        use(next(iter(told["signed"]["keys"].values())))
+    else:
+        secrets = {key_identifier(key): key for role in told.values() for key in map(bytes.fromhex, role["secrets"])}
+        told = {"signed": {"roles": {name: root_role(role) for name, role in told.items()}}}
+    versions = verify.check_files({"root": told, "versions": {}}, reply, secrets, "director", 0, reply["vehicle"])
     verify.expect(set(versions.values()) == {reply["version"]}, "the files of the reply are of several versions")
 
 
-def secrets_of(roles):
-    every = [bytes.fromhex(key) for told in roles.values() for key in told["secrets"]]
-    return {key_identifier(key): key for key in every}
+def root_role(role):
+    """What a Root file says of a role with these secrets."""
+    return {"keyids": [key_identifier(bytes.fromhex(key)) for key in role["secrets"]], "threshold": role["threshold"]}
 
 
-def root_of(roles):
-    """What a Root file says of these roles."""
-    identifiers = lambda told: [key_identifier(bytes.fromhex(key)) for key in told["secrets"]]
-    return {"roles": {role: {"keyids": identifiers(told), "threshold": told["threshold"]} for role, told in roles.items()}}
+def given():
+    told = json.load(sys.stdin)
+    use(told)
+    return told
 
 
 def carried_out(words):
     if words == ["build"]:
-        print(manifest(json.load(sys.stdin)))
+        print(manifest(given()))
     elif len(words) == 2 and words[0] == "line":
-        print(canonical({"at": int(words[1]), "body": manifest(json.load(sys.stdin)), "do": "deliver"}))
+        print(canonical({"at": int(words[1]), "body": manifest(given()), "do": "deliver"}))
     elif len(words) == 2 and words[0] == "send":
-        status, answer = send(words[1], manifest(json.load(sys.stdin)))
+        status, answer = send(words[1], manifest(given()))
         print(answer if status == 200 else "%d %s" % (status, answer))
         return 0 if status == 200 else 1
     elif len(words) == 2 and words[0] == "check":

@@ -2,11 +2,11 @@
 
 What a vehicle trusts of a repository is `{"root": ENVELOPE, "versions": {ROLE: N, ..}}`: the last Root that it verified (the first
 is put in when the vehicle is built), and the versions of the last files. `secrets` are the roles' keys that the vehicle holds, by
-identifier. A check that fails raises `Refused`, and then nothing is trusted that wasn't before.
+identifier: under Ed25519 none, since a Root shows the keys of its roles. A check that fails raises `Refused`, and then nothing is trusted that wasn't before.
 """
 import hashlib
 
-from envelopes import canonical, is_signed_by, seconds
+from envelopes import canonical, is_signed_by, seconds, shown_keys
 
 ROLES = ("timestamp", "snapshot", "targets")
 # more Root versions than the service can make
@@ -28,8 +28,8 @@ def expect(holds, words, *given, kind=Refused):
 
 def check_signed(envelope, root, role, secrets, what):
     """That enough of the role's keys signed, by this Root. Keys are counted, and not signatures."""
-    told = root["roles"][role]
-    signers = {it for it in told["keyids"] if it in secrets and is_signed_by(envelope, secrets[it])}
+    told, keys = root["roles"][role], secrets | shown_keys(root)
+    signers = {it for it in told["keyids"] if it in keys and is_signed_by(envelope, keys[it])}
     expect(len(signers) >= told["threshold"], "%s isn't signed by %d of the %s keys", what, told["threshold"], role)
 
 

@@ -5,8 +5,9 @@
 //     node primary.mjs trust URL VEHICLE              puts the first Root of each repository into VEHICLE, as in the factory
 //     node primary.mjs round URL VEHICLE [IMAGES]     one round: a new manifest, the metadata of both repositories, what is to be installed
 //
-// VEHICLE is a file of the form of examples/primary/vehicle.json. It is for its owner alone: it holds the secrets of all keys.
-import { createHash, createHmac } from 'node:crypto';
+// VEHICLE is a file of the form of examples/primary/vehicle.json, or of examples/primary/ed25519/vehicle.json. It is for its owner alone: it
+// holds the secrets of the ECUs, and under HMAC those of the repositories' roles too.
+import { createHash, createHmac, createPrivateKey, createPublicKey, sign, verify } from 'node:crypto';
 import { existsSync, readFileSync, renameSync, writeFileSync } from 'node:fs';
 import { join } from 'node:path';
 
@@ -41,18 +42,48 @@ function read(text) {
   return value;
 }
 
-const mac = (secret, text) => createHmac('sha256', secret).update(text).digest('hex');
-const keyid = (secret) => mac(secret, 'uptane-key-id');
 const bytes = (hex) => Buffer.from(hex, 'hex');
+const mac = (secret, data) => createHmac('sha256', secret).update(data).digest();
+const keyid = (publicPart) => mac(publicPart, 'uptane-key-id').toString('hex');
 
-function sealed(secret, signed) {
-  const signature = canonical({ keyid: keyid(secret), method: 'hmac-sha256', sig: mac(secret, signed) });
-  return `{"signatures":[${signature}],"signed":${signed}}`;
+// Ed25519 keys as the library reads them: a fixed beginning, and 32 bytes
+const der = (type, begins, key) => ({ key: Buffer.concat([bytes(begins), key]), format: 'der', type });
+const privateKey = (secret) => createPrivateKey(der('pkcs8', '302e020100300506032b657004220420', secret));
+const publicKey = (key) => createPublicKey(der('spki', '302a300506032b6570032100', key));
+
+// Whether 32 bytes are the one encoding of a point by RFC 8032, of which the library takes others too.
+function isOneEncoding(point) {
+  const p = 2n ** 255n - 19n, number = BigInt(`0x${Buffer.from(point).reverse().toString('hex')}`), y = number % 2n ** 255n;
+  return y < p && !(number !== y && (y === 1n || y === p - 1n));
 }
 
-function isSignedBy(envelope, secret) {
-  const id = keyid(secret), sig = mac(secret, canonical(envelope.signed));
-  return envelope.signatures.some((it) => it.keyid === id && it.method === 'hmac-sha256' && it.sig.toLowerCase() === sig);
+const schemes = {
+  'hmac-sha256': { publicOf: (secret) => secret, sign: mac, verify: (key, data, sig) => mac(key, data).equals(sig) },
+  ed25519: {
+    publicOf: (secret) => createPublicKey(privateKey(secret)).export({ format: 'der', type: 'spki' }).subarray(-32),
+    sign: (secret, data) => sign(null, Buffer.from(data), privateKey(secret)),
+    verify(key, data, sig) {
+      if (sig.length !== 64 || !isOneEncoding(key) || !isOneEncoding(sig.subarray(0, 32))) return false;
+      try { return verify(null, Buffer.from(data), publicKey(key), sig); } catch { return false; }
+    },
+  },
+};
+let method = 'hmac-sha256';
+
+function sealed(secret, signed) {
+  const scheme = schemes[method], id = keyid(scheme.publicOf(secret));
+  return `{"signatures":[${canonical({ keyid: id, method, sig: scheme.sign(secret, signed).toString('hex') })}],"signed":${signed}}`;
+}
+
+function isSignedBy(envelope, key) {
+  const id = keyid(key), text = canonical(envelope.signed);
+  return envelope.signatures.some((it) => it.keyid === id && it.method === method && schemes[method].verify(key, text, bytes(it.sig)));
+}
+
+// The keys that a Root shows, by identifier: none under HMAC.
+function shownKeys(root) {
+  const shown = Object.entries(root.signed.keys).filter(([id, it]) => it.method === method && keyid(bytes(it.public)) === id);
+  return Object.fromEntries(shown.map(([id, it]) => [id, bytes(it.public)]));
 }
 
 // ---- what is sent
@@ -78,8 +109,8 @@ const ROLES = ['timestamp', 'snapshot', 'targets'];
 const expired = (file, now) => Date.parse(file.signed.expires) <= now * 1000;
 
 function checkSigned(file, role, root, secrets, what) {
-  const { keyids, threshold } = root.signed.roles[role];
-  const signers = new Set(keyids.filter((id) => secrets[id] && isSignedBy(file, secrets[id])));
+  const { keyids, threshold } = root.signed.roles[role], keys = { ...secrets, ...shownKeys(root) };
+  const signers = new Set(keyids.filter((id) => keys[id] && isSignedBy(file, keys[id])));
   expect(signers.size >= threshold, `${what} isn't signed by enough of its keys`);
 }
 
@@ -172,13 +203,13 @@ async function asked(url, body) {
 }
 
 const fetcher = (url) => async (name) => {
-  const { status, text } = await asked(`${url}/${name}`);
-  expect(status === 200 || status === 404, `${name}: ${text}`);
+  const { status, text, error } = await asked(`${url}/${name}`);
+  expect(status === 200 || error.error === 29, `${name}: ${text}`);
   return status === 200 ? read(text) : null;
 };
 
 async function answered(vehicle, url, save) {
-  const secrets = Object.fromEntries(vehicle.role_secrets.map((it) => [keyid(bytes(it)), bytes(it)]));
+  const secrets = Object.fromEntries((vehicle.role_secrets ?? []).map((it) => [keyid(bytes(it)), bytes(it)]));
   for (let turn = 0; turn < 3; turn += 1) {
     const now = Math.floor(Date.now() / 1000);
     vehicle.pending ??= manifest(vehicle, now);
@@ -220,6 +251,7 @@ function write(path, vehicle) {
 
 async function round(url, path, images) {
   const vehicle = read(readFileSync(path, 'ascii')), save = () => write(path, vehicle);
+  method = vehicle.method ?? method;
   const { due, trust } = await answered(vehicle, url, save);
   Object.assign(vehicle, trust, { pending: null });
   save();
@@ -254,32 +286,46 @@ async function vectors(folder) {
   };
   for (const it of load('canonical_texts').cases) compare(it.name, got(() => canonical(read(it.text))), it.canonical ?? null);
   for (const it of load('key_identifiers').cases) compare(it.name, keyid(bytes(it.public)), it.keyid);
-  const signatures = load('signatures_hmac');
-  for (const it of signatures.tags) compare(it.name, mac(bytes(it.key), bytes(it.data)), it.tag);
-  for (const it of signatures.cases.filter((it) => 'signed_by_the_key' in it)) {
-    compare(it.name, isSignedBy(read(it.envelope), bytes(signatures.key)), it.signed_by_the_key);
+  for (method of Object.keys(schemes)) {
+    signatures(load(`${method}/signatures`), compare);
+    await chains(load(`${method}/chains`), compare, got);
   }
-  const chains = load('chains'), secrets = Object.fromEntries(Object.entries(chains.vehicle.role_keys).map(([id, key]) => [id, bytes(key)]));
-  for (const it of chains.cases) {
-    const texts = { ...chains[`files of ${it.base}`], ...it.replace };
+  console.log(`${tried - other} passed, ${other} failed`);
+  return other ? 1 : 0;
+}
+
+function signatures(vector, compare) {
+  const scheme = schemes[method];
+  for (const it of vector.signatures) {
+    const [secret, data] = [bytes(it.secret), bytes(it.data)];
+    compare(it.name, [scheme.publicOf(secret).toString('hex'), scheme.sign(secret, data).toString('hex')], [it.public, it.sig]);
+  }
+  for (const it of vector.encodings ?? []) compare(it.name, scheme.verify(bytes(it.public), bytes(it.data), bytes(it.sig)), it.verified);
+  for (const it of vector.envelopes.filter((it) => 'signed_by_the_key' in it)) {
+    compare(it.name, isSignedBy(read(it.envelope), bytes(vector.key)), it.signed_by_the_key);
+  }
+}
+
+async function chains(vector, compare, got) {
+  const secrets = Object.fromEntries(Object.entries(vector.vehicle.role_keys).map(([id, key]) => [id, bytes(key)]));
+  for (const it of vector.cases) {
+    const texts = { ...vector[`files of ${it.base}`], ...it.replace };
     const fetched = async (name) => (texts[name] ? read(texts[name]) : null);
-    const known = (repository) => ({ root: read(chains['files of update'][`${repository}/1.root.json`]), versions: it.trusted?.[repository] ?? {} });
-    const ecus = chains.vehicle.ecus.map((ecu) => (
+    const known = (repository) => ({ root: read(vector['files of update'][`${repository}/1.root.json`]), versions: it.trusted?.[repository] ?? {} });
+    const ecus = vector.vehicle.ecus.map((ecu) => (
       { ...ecu, hardware: it.hardware?.[ecu.ecu] ?? ecu.hardware, installed: { ...ecu.installed, ...it.installed?.[ecu.ecu] } }));
-    const vehicle = { ...chains.vehicle, ecus }, trusted = { director: known('director'), image: known('image') };
+    const vehicle = { ...vector.vehicle, ecus }, trusted = { director: known('director'), image: known('image') };
     let verdict;
     try {
-      const { due } = await verified(vehicle, trusted, read(texts.reply), fetched, secrets, it.now ?? chains.now);
+      const { due } = await verified(vehicle, trusted, read(texts.reply), fetched, secrets, it.now ?? vector.now);
       verdict = ['accepted', Object.fromEntries(Object.entries(due).map(([ecu, target]) => [ecu, target.file]))];
     } catch (wrong) {
       if (!(wrong instanceof Refused)) throw wrong;
       verdict = [wrong instanceof Old ? 'old' : 'refused'];
     }
-    compare(`${it.attack}: ${it.name}`, verdict, it.verdict === 'accepted' ? ['accepted', chains.installs] : [it.verdict]);
+    compare(`${it.attack}: ${it.name}`, verdict, it.verdict === 'accepted' ? ['accepted', vector.installs] : [it.verdict]);
   }
-  for (const it of chains.contents) compare(it.name, got(() => checkImage(it.target, Buffer.from(it.content))) !== null, it.verdict === 'accepted');
-  console.log(`${tried - other} passed, ${other} failed`);
-  return other ? 1 : 0;
+  for (const it of vector.contents) compare(it.name, got(() => checkImage(it.target, Buffer.from(it.content))) !== null, it.verdict === 'accepted');
 }
 
 // ---- words

@@ -12,10 +12,10 @@ umask 077
 : "${SETTINGS:=/etc/uptane/settings}"
 # shellcheck source=/dev/null
 if [ -r "$SETTINGS" ]; then . "$SETTINGS"; fi
-: "${PROGRAM:=/usr/local/bin/uptane_desk}" "${TOOLS:=/usr/local/lib/uptane_desk/tools}" "${OWNER:=uptane}" "${PORT:=8080}"
+: "${PROGRAM:=/usr/bin/uptane_desk}" "${TOOLS:=/usr/lib/uptane_desk/tools/operate}" "${OWNER:=uptane}" "${PORT:=8080}"
 : "${FOLDER:=/var/lib/uptane}" "${SPOOL:=/var/spool/uptane}" "${JOURNAL:=/var/log/uptane/journal}" "${COPIES:=/var/backups/uptane}"
 # several desks: their number, and the folder of their division; how long a start may take, in seconds
-: "${DESKS:=}" "${DIVISION:=/var/lib/uptane-division}" "${PATIENCE:=600}" "${RUN:=/run}"
+: "${DESKS:=}" "${DIVISION:=/var/lib/uptane-division}" "${PATIENCE:=600}" "${RUN:=/run}" "${AFTER_APPLY:=/etc/uptane/after-apply}"
 
 refresh=
 if [ "${1:-}" = --refresh ]; then refresh=yes; shift; fi
@@ -96,6 +96,10 @@ give() {
 }
 each give
 
-if [ "$DESKS" ]; then tool divide_script "$DIVISION" --join > "$work/answers" || failed=yes; fi
+if [ "$DESKS" ]; then
+    tool divide_script "$DIVISION" --join > "$work/answers" || failed=yes
+    # the proxy's map of vehicles may be another now
+    if [ -x "$AFTER_APPLY" ]; then "$AFTER_APPLY" "$DIVISION/vehicles.map" || failed=yes; fi
+fi
 kept
 [ ! "$failed" ]

@@ -21,14 +21,24 @@ from pathlib import Path
 sys.dont_write_bytecode = True
 sys.path += map(str, Path(__file__).resolve().parents[1].iterdir())
 
-from reference import canonical, moment, sealed
+from reference import HASH, SCHEME, canonical, moment, sealed
 
 START = 1767225600
 ROLES = ("root", "targets", "snapshot", "timestamp")
 FACTORY = {"file": "factory.bin", "length": 4096, "sha256": hashlib.sha256(b"factory").hexdigest()}
 
 
+def with_public(ecu):
+    """An ECU with the public part of its key, if that is a secret."""
+    return ecu | {"key": SCHEME.public_of(bytes.fromhex(ecu["key"])).hex()} if HASH(ecu.get("key")) else ecu
+
+
 def line(do, at=START, **members):
+    """A line of a script. The keys of ECUs are given as secrets: the inventory gets their public parts."""
+    if do == "add_vehicle":
+        members["ecus"] = list(map(with_public, members["ecus"]))
+    elif do == "replace_ecu":
+        members = with_public(members)
     return canonical({"do": do, "at": at, **members})
 
 

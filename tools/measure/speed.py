@@ -15,20 +15,26 @@
     speed.py PROGRAM sums           instructions of a start and of a manifest over files with and without sums of pages
     speed.py PROGRAM http           requests for a second of a processor, beside the same by script, and instructions
     speed.py PROGRAM head           instructions for a head of 16,384 bytes in one piece and a byte at a time
+    speed.py PROGRAM millions       the same over files of one and four million kept replies, what stays in memory, and a manifest's time
+    speed.py PROGRAM allocators     memory behind a start and lines for a second, with the C library's malloc and with jemalloc
+    speed.py PROGRAM proxied        manifests a second behind each proxy that is installed, a connection each, on the disk of TMPDIR
     speed.py PROGRAM bodies         instructions a byte to refuse bodies of 64 KiB and of 256 KiB, by their shape
 
 Instructions are those that valgrind's callgrind counts; compressions are the calls of SHA-256's function in its file, and those of
-malloc are counted in it too. Other parts need no valgrind. A number behind `growth_counts`, `start` or `sums` is the greatest number
-of kept replies, for a quick trial. Files are made where `TMPDIR` says.
+malloc are counted in it too. Other parts need no valgrind. A number behind `growth_counts`, `start`, `millions` or `sums` is the
+greatest number of kept replies, for a quick trial; `millions` needs 9 GB of disk and as much memory, and makes its files by SQLite. Files are made where `TMPDIR` says.
 """
+import contextlib
 import json
 import os
 import re
+import shutil
 import sqlite3
 import subprocess
 import sys
 import threading
 import time
+from concurrent.futures import ThreadPoolExecutor
 from contextlib import closing
 from pathlib import Path
 
@@ -38,6 +44,7 @@ sys.path += map(str, Path(__file__).resolve().parents[1].iterdir())
 import fleet
 import http_cases
 import page_sums
+import proxy_cases
 import trials
 
 FLEETS = {
@@ -392,6 +399,81 @@ def start(program, own, most=MOST):
             print("| %d of %d | %d MB | %.2f | %d MB |" % words, flush=True)
 
 
+# where Debian has it, and how it gives memory back
+JEMALLOC = "/usr/lib/x86_64-linux-gnu/libjemalloc.so.2"
+PRELOADED = {"LD_PRELOAD": JEMALLOC, "MALLOC_CONF": "dirty_decay_ms:1000,muzzy_decay_ms:0"}
+
+
+def allocators_here():
+    """The variables of each allocator, by its name."""
+    if not os.path.exists(JEMALLOC):
+        print("there is no %s, so jemalloc isn't measured" % JEMALLOC)
+    return {"malloc": {}} | ({"jemalloc": PRELOADED} if os.path.exists(JEMALLOC) else {})
+
+
+def started(program, path, variables, script=()):
+    """Over a file, the processor seconds of a start, its peak of memory and what is resident three seconds later, in MB; and the
+    processor microseconds of a line of the script behind that."""
+    status = lambda it, name: int(re.search(name + r":\s+(\d+)", open("/proc/%d/status" % it.pid, encoding="ascii").read())[1]) >> 10
+    with subprocess.Popen([program, "run", str(path)], stdin=subprocess.PIPE, stdout=subprocess.PIPE, env=os.environ | variables) as it:
+        assert asked(it, ["x"]) == [b"refused 5 NotJson\n"]
+        took, peak = processor(it.pid) / 1e6, status(it, "VmHWM")
+        asked(it, script[:1])
+        time.sleep(3)
+        asked(it, ["x"])
+        stays, begun = status(it, "VmRSS"), processor(it.pid)
+        answers = asked(it, script[1:])
+        line = (processor(it.pid) - begun) / max(1, len(script) - 1)
+        it.stdin.close()
+    assert all(answer.startswith(b"reply ") for answer in answers)
+    return took, peak, stays, line
+
+
+def multiplied(path, vehicles, kept):
+    """Makes a file with one kept reply for each vehicle one with so many, by SQLite: the same texts with other counters and versions."""
+    more = kept // vehicles - 1
+    with closing(sqlite3.connect(path, isolation_level=None)) as db:
+        for pragma in ("journal_mode = OFF", "synchronous = OFF", "cache_size = -2000000"):
+            db.execute("PRAGMA " + pragma).fetchall()
+        db.execute("CREATE TEMP TABLE first AS SELECT * FROM kept WHERE version = 1")
+        db.execute("BEGIN")
+        for at in range(1, more + 1):
+            db.execute("INSERT INTO kept SELECT vehicle, counter + ?1, version + ?1, moment, root, signed, plan_text, reply FROM first", (at,))
+        db.execute("UPDATE vehicle SET version = version + ?1, last_counter = last_counter + ?1 WHERE version = 1", (more,))
+        db.execute("COMMIT")
+    with open(path, "r+b") as file:
+        page_sums.written(file, page_sums.page_size(file.read(100)))
+
+
+def millions(program, own, most=4_000_000):
+    vehicles = 1000
+    for ecus, kept in ((1, 1_000_000), (4, 1_000_000), (1, 4_000_000)):
+        kept, path = min(kept, most), own / ("%d of %d" % (kept, ecus))
+        trials.printed(program, path, [*prepared(vehicles, 10, 10, ecus), *manifests(vehicles, vehicles, 1, ecus)])
+        multiplied(path, vehicles, kept)
+        for at, (name, variables) in enumerate(allocators_here().items()):
+            fresh = list(manifests(vehicles, 201, 2 + kept // vehicles + at, ecus))
+            took, peak, stays, line = started(program, path, variables, fresh)
+            words = kept, ecus, name, os.stat(path).st_size >> 20, took, peak, stays, line
+            print("| %d of %d, %s | %d MB | %.1f | %d MB | %d MB | %.0f |" % words, flush=True)
+        path.unlink()
+
+
+def allocators(program, own):
+    path, kept = own / "kept", 40_000
+    trials.printed(program, path, prepared(100, 10, 10, 4))
+    kept_replies(program, path, 0, kept, 4)
+    script = list(fleet.script(vehicles=100, ecus=4))
+    for name, variables in allocators_here().items():
+        os.environ |= variables
+        memory, file = (seconds(program, it, script) for it in (":memory:", own / name))
+        for variable in variables:
+            del os.environ[variable]
+        took, peak, stays, _ = started(program, path, variables)
+        words = name, os.stat(path).st_size >> 20, took, peak, stays, len(script) / file, len(script) / memory
+        print("| %s | %d MB | %.2f | %d MB | %d MB | %d | %d |" % words, flush=True)
+
+
 def with_and_without(path, own):
     """The same rows, in files that SQLite packs alike: one with sums of pages and one without."""
     with_sums, without = own / "with", own / "without"
@@ -450,6 +532,56 @@ def rates(program, own, number=2000):
             took = (processor(running.pid) - begun) / 1_000_000
             assert http_cases.ended(running)
         yield kind, number / took, number / seconds(program, own / "script", lines)
+
+
+def through(proxy, body):
+    """The status of the answer to a manifest, by a connection of its own."""
+    return proxy_cases.asked(proxy, "POST", "/director/manifest", body)[0][0]
+
+
+class Directly:
+    """The service itself, in the place of a proxy."""
+
+    def __init__(self, port):
+        self.port = port
+
+    def client(self):
+        return http_cases.http.client.HTTPConnection("127.0.0.1", self.port, timeout=proxy_cases.PATIENCE)
+
+
+def rate(ask, bodies, clients):
+    """Manifests a second, by so many clients at once."""
+    with ThreadPoolExecutor(clients) as pool:
+        begun = time.perf_counter()
+        assert set(pool.map(lambda body: through(ask, body), bodies)) == {200}
+        return len(bodies) / (time.perf_counter() - begun)
+
+
+def proxied(program, own, number=2000, clients=8):
+    """Fresh manifests of four ECUs, a connection each; and what a synchronised write takes on this disk."""
+    own.chmod(0o755)
+    with open(own / "synced", "wb") as file:
+        begun = time.perf_counter()
+        for _ in range(200):
+            file.write(4096 * b"s")
+            file.flush()
+            os.fdatasync(file.fileno())
+        print("a write of 4,096 bytes that is synchronised: %.2f ms" % ((time.perf_counter() - begun) * 1000 / 200), flush=True)
+    bodies = [json.loads(line)["body"].encode("ascii") for line in manifests(100, number, 1, 4)]
+    secret = proxy_cases.certified(own)
+    for name in ("directly", *filter(shutil.which, ("nginx", "haproxy"))):
+        path = own / name
+        trials.printed(program, path, prepared(100, 10, 10, 4))
+        with http_cases.served(program, path, 100_000) as running, contextlib.ExitStack() as up:
+            ask = Directly(running.port)
+            if name != "directly":
+                ask = proxy_cases.Proxy(own, name, http_cases.free_port(), running.port, secret)
+                up.enter_context(ask.running())
+            begun = processor(running.pid)
+            rates = rate(ask, bodies, clients)
+            took = (processor(running.pid) - begun) / 1e6
+            print("| %s | %d | %d |" % (name, rates, number / took), flush=True)
+            running.kill()
 
 
 def instructions(program, path, requests):
@@ -526,7 +658,7 @@ def bodies(program, own):
         print("| %s | %d | %d |" % (name, *taken), flush=True)
 
 
-PARTS = (fleets, functions, malloc, commands, lines, growth, growth_counts, senders, loading, start, sums, http, head, bodies)
+PARTS = (fleets, functions, malloc, commands, lines, growth, growth_counts, senders, loading, start, millions, allocators, sums, http, proxied, head, bodies)
 
 
 def main(program, part, *most):

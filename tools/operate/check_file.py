@@ -1,7 +1,7 @@
 #!/usr/bin/env python3
 """Tells whether a database file has this product's tables and nothing more: no index, trigger or column that an operator added.
 
-    check_file.py FILE
+    check_file.py FILE [FILE ..]
 
 The program knows its file by `meta` alone, so it takes a file whose other tables were changed by hand, and what is proved of lines
 and requests isn't proved over it (`docs/use/TABLES.md`). For each thing that is too much, missing or different a line is printed:
@@ -12,8 +12,8 @@ and requests isn't proved over it (`docs/use/TABLES.md`). For each thing that is
 
 Compared are the tables of the schema that `meta` names (1, 2 or 3; where it names none, of the one that is nearest) and what SQLite
 keeps as the file's own: tables, columns with their kinds and rules, keys, references, indexes, triggers and views. Rows are not
-looked at, but for that of `meta`. Give it a file that no program writes to, or a copy. It is only read: where a log or a journal
-lies beside it, copies of both are read in a temporary folder.
+looked at, but for that of `meta`. Give it a file that no program writes to, or a copy. It is only read: where a log lies beside it,
+it is read under another name, in a temporary folder. Of several files each line begins with its file's name.
 
 The status is 0 where the file has just what it has to, 1 where it hasn't or is no such database, and 2 where it can't be read.
 """
@@ -22,12 +22,12 @@ import shutil
 import sqlite3
 import sys
 import tempfile
-import urllib.parse
 from contextlib import closing, contextmanager
 from pathlib import Path
 
 sys.dont_write_bytecode = True
 
+import fleet_tables
 from statements import LACKS, made
 
 LOGS = ("-wal", "-journal")
@@ -43,17 +43,17 @@ class Other(Exception):
 @contextmanager
 def opened(path):
     """A connection that reads the file and changes nothing, nor leaves anything beside it."""
-    with tempfile.TemporaryDirectory() as folder:
-        if any(Path(str(path) + end).exists() for end in LOGS):
+    if Path(str(path) + "-journal").exists():
+        with tempfile.TemporaryDirectory() as folder:
             own = Path(folder) / "copy"
             for end in ("", *LOGS):
                 if Path(str(path) + end).exists():
                     shutil.copyfile(str(path) + end, str(own) + end)
-            words = str(own)
-        else:
-            # (no lock, no log and no other file is made for such a connection)
-            words = "file:%s?mode=ro&immutable=1" % urllib.parse.quote(str(path.resolve()))
-        with closing(sqlite3.connect(words, uri=words.startswith("file:"))) as db:
+            with closing(sqlite3.connect(own)) as db:
+                yield db
+    else:
+        with fleet_tables.opened(path) as db:
+            db.row_factory = None
             yield db
 
 
@@ -150,20 +150,25 @@ def amiss(path):
         return found + min((compared(db, here, it) for it in [number] * bool(number) or sorted(LACKS, reverse=True)), key=len)
 
 
-def main(words):
-    if len(words) != 1 or words[0].startswith("-"):
-        print(__doc__)
-        return 2
+def told(path, front):
+    """The status of a file, whose lines are printed."""
     try:
-        found = amiss(Path(words[0]))
+        found = amiss(Path(path))
     except (Other, sqlite3.DatabaseError) as why:
-        print("it is no database of this product: %s" % why)
+        print("%sit is no database of this product: %s" % (front, why))
         return 1
     except OSError as error:
         print("check_file: %s" % error, file=sys.stderr)
         return 2
-    print("\n".join(found), end="\n" * bool(found))
+    print("".join("%s%s\n" % (front, it) for it in found), end="")
     return 1 if found else 0
+
+
+def main(words):
+    if not words or words[0].startswith("-"):
+        print(__doc__)
+        return 2
+    return max([told(path, path + ": " if len(words) > 1 else "") for path in words])
 
 
 if __name__ == "__main__":

@@ -3,13 +3,17 @@
 
     copy_served.py PID FILE COPY [--one]
 
-PID is the program's (`systemctl show -p MainPID --value uptane-desk`), and it has to have FILE open. Clients wait for as long
-as the copy takes. COPY and its log COPY-wal are made, for their owner alone, and mustn't be there. They are what a kill at that
-moment would have left: all that was answered before is in them. They belong together, and `run` or `serve` takes them so;
-`--one` has SQLite copy the log into the file and writes the sums of its pages, so that COPY stands alone.
+PID is the program's (`systemctl show -p MainPID --value uptane-desk`), and it has to have FILE open; 0 where no program runs.
+Clients wait while the program is stopped, which is printed. Where the filesystem can clone a file (XFS, Btrfs), and COPY is on the
+same one, that is some milliseconds however large the file is; else it is as long as the copy takes. COPY and its log COPY-wal are
+made, for their owner alone, and mustn't be there. They are what a kill at that moment would have left: all that was answered before
+is in them. They belong together, and `run` or `serve` takes them so; `--one` has SQLite copy the log into the file and writes the
+sums of its pages, so that COPY stands alone.
 
 The status is 0, or 1 with a message; the program goes on in any case.
 """
+import argparse
+import fcntl
 import os
 import shutil
 import signal
@@ -22,6 +26,8 @@ sys.dont_write_bytecode = True
 import page_sums
 
 PATIENCE = 10
+# the call of Linux that gives a new file the blocks of another (FICLONE)
+CLONE = 0x40049409
 
 
 def has_open(pid, path):
@@ -53,30 +59,39 @@ def stop(pid):
 
 
 def copied(path, to):
-    """Copies what is there into a new file of its owner alone."""
+    """Makes a new file of its owner alone: a clone where the filesystem can, else a copy. Whether it is a clone."""
     made = os.open(to, os.O_WRONLY | os.O_CREAT | os.O_EXCL, 0o600)
     with open(made, "wb") as out, open(path, "rb") as given:
-        shutil.copyfileobj(given, out, 1 << 20)
-        out.flush()
-    return to
+        try:
+            fcntl.ioctl(out.fileno(), CLONE, given.fileno())
+            return True
+        except OSError:
+            shutil.copyfileobj(given, out, 1 << 20)
+            return False
 
 
 def copy(pid, path, to):
-    """Copies both files while the process stands still. What was made is taken away again where it fails."""
-    if not has_open(pid, path):
+    """Copies both files while the process stands still. What was made is taken away again where it fails. Whether both are clones,
+    and how many seconds it stood still."""
+    if pid and not has_open(pid, path):
         raise OSError("process %d doesn't have %s open" % (pid, path))
-    made = []
+    made, clones, begun = [], [], time.monotonic()
     try:
-        stop(pid)
+        if pid:
+            stop(pid)
         for end in ("", "-wal"):
             if os.path.exists(path + end):
-                made.append(copied(path + end, to + end))
+                made.append(to + end)
+                clones.append(copied(path + end, to + end))
     except OSError:
         for name in made:
-            os.unlink(name)
+            if os.path.exists(name):
+                os.unlink(name)
         raise
     finally:
-        os.kill(pid, signal.SIGCONT)
+        if pid:
+            os.kill(pid, signal.SIGCONT)
+    return all(clones), time.monotonic() - begun
 
 
 def main(pid, path, to, one):
@@ -84,10 +99,12 @@ def main(pid, path, to, one):
         for name in (to, to + "-wal"):
             if os.path.lexists(name):
                 raise OSError("%s is there already" % name)
-        copy(int(pid), path, to)
+        is_clone, took = copy(pid, path, to)
     except (OSError, ValueError) as error:
         print("copy_served: %s" % error, file=sys.stderr)
         return 1
+    how = "cloned" if is_clone else "copied, since the filesystem can't clone it there"
+    print("%d bytes %s; the program stood still for %.3f seconds" % (os.stat(to).st_size, how, took if pid else 0))
     for name in (to, to + "-wal"):
         if os.path.exists(name):
             with open(name, "rb") as made:
@@ -96,9 +113,10 @@ def main(pid, path, to, one):
 
 
 if __name__ == "__main__":
-    if {"-h", "--help"} & {*sys.argv[1:]}:
-        sys.exit(print(__doc__))
-    given = [word for word in sys.argv[1:] if word != "--one"]
-    if len(given) != 3 or len(sys.argv) - len(given) > 2:
-        sys.exit(__doc__)
-    sys.exit(main(*given, len(given) + 1 < len(sys.argv)))
+    parser = argparse.ArgumentParser(description=__doc__, formatter_class=argparse.RawDescriptionHelpFormatter)
+    parser.add_argument("pid", type=int, metavar="PID")
+    parser.add_argument("file", metavar="FILE")
+    parser.add_argument("copy", metavar="COPY")
+    parser.add_argument("--one", action="store_true", help="COPY stands alone")
+    given = parser.parse_args()
+    sys.exit(main(given.pid, given.file, given.copy, given.one))

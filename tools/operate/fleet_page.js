@@ -3,8 +3,8 @@
 const A_PAGE = 50, WEEK = 7 * 86400;
 const holder = document.getElementById("data");
 const now = Number(holder.dataset.now);
-const { words, vehicles } = JSON.parse(holder.textContent);
-const [NAME, VERSION, SEEN, WITHHELD, ECUS] = [0, 1, 2, 3, 4];
+const { words, vehicles, sets } = JSON.parse(holder.textContent);
+const [NAME, VERSION, SEEN, WITHHELD, ECUS, DESK] = [0, 1, 2, 3, 4, 5];
 const [ECU, HARDWARE, FILE, ASSIGNED, ATTACK] = [0, 1, 2, 3, 4];
 
 const at = (id) => document.getElementById(id);
@@ -16,6 +16,14 @@ const FILTERS = {
   silent: (v) => v[SEEN] !== null && v[SEEN] < now - WEEK,
   never: (v) => v[SEEN] === null,
 };
+// the vehicles that are left of a campaign, and those among them whose plans are withheld for it
+for (const [name, places] of Object.entries(sets)) {
+  const those = new Set(places.map((place) => vehicles[place]));
+  const [kind, campaign] = [name.slice(0, name.indexOf(" ")), name.slice(name.indexOf(" ") + 1)];
+  FILTERS[name] = (v) => those.has(v);
+  at("filter").append(new Option((kind === "left" ? "left of " : "withheld for ") + campaign, name));
+}
+const many = new Set(vehicles.map((v) => v[DESK])).size > 1;
 const byName = (a, b) => (a[NAME] < b[NAME] ? -1 : 1);
 const ORDERS = {
   name: byName,
@@ -59,7 +67,7 @@ function ecus(vehicle) {
     has.append(made("code", words[e[FILE]] || "nothing reported"));
     if (words[e[ASSIGNED]]) has.append(made("span", " \u2192 ", "to"), made("code", words[e[ASSIGNED]], "to"));
     if (e[ATTACK]) has.append(made("div", "attack: " + e[ATTACK], "note"));
-    grid.append(made("span", e[ECU]), made("span", words[e[HARDWARE]], "hw"), has);
+    grid.append(made("span", e[ECU], "serial"), made("span", words[e[HARDWARE]], "hw"), has);
   }
   cell.append(grid);
   if (vehicle[WITHHELD]) cell.append(made("div", "withheld: " + vehicle[WITHHELD], "note"));
@@ -69,11 +77,13 @@ function ecus(vehicle) {
 function show() {
   const pages = Math.max(1, Math.ceil(found.length / A_PAGE));
   page = Math.min(Math.max(page, 0), pages - 1);
-  const table = made("table"), head = made("tr"), body = made("tbody");
+  const table = made("table", undefined, "vehicles"), head = made("tr"), body = made("tbody");
   for (const text of ["Vehicle", "Version", "Last seen (UTC)", "ECUs: installed \u2192 assigned"]) head.append(made("th", text));
   for (const vehicle of found.slice(page * A_PAGE, (page + 1) * A_PAGE)) {
     const row = made("tr");
-    row.append(made("td", vehicle[NAME]), made("td", vehicle[VERSION]), seen(vehicle), ecus(vehicle));
+    const name = made("td", vehicle[NAME], "name");
+    if (many) name.append(made("small", vehicle[DESK]));
+    row.append(name, made("td", vehicle[VERSION], "version"), seen(vehicle), ecus(vehicle));
     body.append(row);
   }
   const top = made("thead");
@@ -92,6 +102,43 @@ function find() {
   page = 0;
   show();
 }
+
+// ---- CSV: of a text that a spreadsheet would take for a formula the first sign is put behind an apostrophe
+const cell = (text) => '"' + String(text).replace(/^[=+\-@\t\r]/, "'$&").replaceAll('"', '""') + '"';
+
+function save(name, rows) {
+  const link = document.createElement("a");
+  link.href = URL.createObjectURL(new Blob([rows.map((row) => row.map(cell).join(",")).join("\r\n") + "\r\n"], { type: "text/csv" }));
+  link.download = name + ".csv";
+  link.click();
+  URL.revokeObjectURL(link.href);
+}
+
+// the rows of a table and of its further part, as they stand
+function rowsOf(name) {
+  const tables = document.querySelectorAll('table[data-csv="' + name + '"]');
+  const text = (it) => {
+    const own = it.cloneNode(true);
+    for (const end of own.querySelectorAll("br")) end.replaceWith(" ");
+    return own.textContent;
+  };
+  const lines = (it, part) => [...it.querySelectorAll(part + " tr")].map((row) => [...row.children].map(text));
+  return lines(tables[0], "thead").concat(...[...tables].map((it) => lines(it, "tbody")));
+}
+
+function rowsOfVehicles() {
+  const head = ["desk", "vehicle", "version", "seen", "withheld", "ecu", "hardware", "installed", "assigned", "attack"];
+  const time = (v) => v[SEEN] === null ? "" : new Date(v[SEEN] * 1000).toISOString();
+  return [head].concat(found.flatMap((v) => v[ECUS].map((e) =>
+    [v[DESK], v[NAME], v[VERSION], time(v), v[WITHHELD], e[ECU], words[e[HARDWARE]], words[e[FILE]], words[e[ASSIGNED]], e[ATTACK]])));
+}
+
+for (const name of new Set([...document.querySelectorAll("table[data-csv]")].map((it) => it.dataset.csv))) {
+  const button = made("button", "CSV", "csv");
+  button.addEventListener("click", () => save(name, rowsOf(name)));
+  document.querySelector('table[data-csv="' + name + '"]').parentElement.before(button);
+}
+at("csv").addEventListener("click", () => save("vehicles", rowsOfVehicles()));
 
 for (const id of ["search", "filter", "order"]) at(id).addEventListener("input", find);
 at("back").addEventListener("click", () => { page -= 1; show(); });

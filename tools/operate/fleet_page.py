@@ -1,165 +1,83 @@
 #!/usr/bin/env python3
-"""Writes a page of the fleet: one HTML file without outside parts, from a copy of the database file.
+"""Writes a page of the fleet: one HTML file without outside parts, from a copy of the database file, or of each desk's.
 
-    fleet_page.py COPY [--now SECONDS] > fleet.html
+    fleet_page.py [DESK=]COPY [DESK=COPY ..] [--now SECONDS] > fleet.html
 
-COPY is made as `docs/use/TABLES.md` says; a log that lies beside it is read with it. It is never written to: what is read is a
-copy in a temporary folder. The page shows how far each campaign is, files that expire soon, plans that were withheld, attacks
-that ECUs reported, and the vehicles with what they have and are assigned, to be searched and filtered. It holds no secrets, but
-it names vehicles and says which of them have old software: show it to no one who needn't know that.
+COPY is made as `docs/use/TABLES.md` says; a log that lies beside it is read with it, and neither is written to. The page shows how
+far each campaign is, and since when; files that expire soon, plans that were withheld, attacks that ECUs reported, releases by
+hardware, ECUs that were replaced, and the vehicles with what they have and are assigned, to be searched and filtered. Each table can
+be saved as CSV. It holds no secrets, but it names vehicles and says which of them have old software: show it to no one who needn't
+know that.
 
-Everything is as of the copy; what has expired and who was long silent is reckoned from now, by this machine's clock, or from
-SECONDS. The status is 1, with a message, where the file isn't a database of this product, of schema 1, 2 or 3.
+Everything is as of the newest moment in the copies; what has expired and who was long silent is reckoned from now, by this machine's
+clock, or from SECONDS. The status is 1, with a message, where a file isn't a database of this product, of schema 1, 2 or 3.
 """
 import argparse
 import html
 import json
-import re
-import shutil
 import sqlite3
 import sys
-import tempfile
 import time
-from contextlib import closing, contextmanager
 from datetime import datetime, timezone
 from pathlib import Path
 
-SCHEMAS = (1, 2, 3)
-DAY, WEEK = 86400, 7 * 86400
-ROOTS, IMAGES = 64, 1024
+sys.dont_write_bytecode = True
+
+import fleet_tables
+from fleet_tables import DAY, IMAGES, ROOTS, WEEK
+
 # rows of a table that are shown at once, at the top of the page
 SHOWN = 10
+# points of a line over time
+POINTS = 60
 SCRIPT = Path(__file__).resolve().parent / "fleet_page.js"
 STYLE = Path(__file__).resolve().parent / "fleet_page.css"
 
 
-class Other(Exception):
-    """The file isn't one that this page can be made of."""
+# ---- what the copies tell, as one fleet
 
 
-@contextmanager
-def opened(path):
-    """A connection to a copy of the file and its log."""
-    with tempfile.TemporaryDirectory() as folder:
-        own = Path(folder) / "copy"
-        shutil.copyfile(path, own)
-        log = Path(str(path) + "-wal")
-        if log.exists():
-            shutil.copyfile(log, str(own) + "-wal")
-        with closing(sqlite3.connect(own)) as db:
-            db.row_factory = sqlite3.Row
-            yield db
+def desk_of(name, path, now):
+    """What one copy tells."""
+    with fleet_tables.opened(path) as db:
+        meta = fleet_tables.meta_of(db)
+        images = fleet_tables.registered(db, meta["schema"])
+        vehicles = fleet_tables.vehicles_of(db, fleet_tables.ecus_of(db, images, meta["schema"]))
+        by_name = {it["vehicle"]: it for it in vehicles}
+        campaigns = fleet_tables.campaigns_of(db, images, vehicles)
+        for it in campaigns:
+            its = vehicles if it["all"] else [by_name[one] for one in it.pop("reached")]
+            it["moments"] = fleet_tables.taken_up(db, it, images, its) if it["running"] else []
+        made = {"name": name, "meta": dict(meta), "images": images, "vehicles": [it | {"desk": name} for it in vehicles]}
+        made |= {"campaigns": campaigns, "files": list(fleet_tables.files_of(db)), "replaced": list(fleet_tables.replaced_of(db, meta["schema"]))}
+        made |= {"newest": fleet_tables.newest(db), "size": fleet_tables.size_of(path), "day": fleet_tables.kept_since(db, now - DAY)}
+        return made | {"kept": sum(it["version"] for it in vehicles)}
 
 
-def meta_of(db):
-    try:
-        rows = db.execute("SELECT * FROM meta WHERE id = 1").fetchall()
-        if len(rows) == 1 and rows[0]["app"] == "uptane_desk" and rows[0]["schema"] in SCHEMAS:
-            return rows[0]
-    except (sqlite3.Error, IndexError):
-        pass
-    raise Other("it isn't a database of uptane_desk, of schema 1 to 3")
+SUMS = ("vehicles", "ecus", "done", "left", "withheld", "moments")
 
 
-# ---- what the tables tell
-
-
-def registered(db, schema):
-    """The images, by filename. A table of second hashes is there from schema 3 on."""
-    images = {row["file"]: dict(row) | {"hardware": json.loads(row["hardware"]), "sha512": None} for row in db.execute("SELECT * FROM image")}
-    if schema >= 3:
-        for row in db.execute("SELECT file, sha512 FROM image_sha512"):
-            images[row["file"]]["sha512"] = row["sha512"].hex()
-    return images
-
-
-def second_hash(report):
-    """The SHA-512 that a report gives of its image, if it does."""
-    found = json.loads(report)["image"]["hashes"].get("sha512") if report else None
-    return found.lower() if isinstance(found, str) and re.fullmatch("[0-9A-Fa-f]{128}", found) else None
-
-
-def release_of(images, ecu, schema):
-    """The release of the registered image that an ECU reported, for its hardware; 0 where there is none."""
-    image = images.get(ecu["file"])
-    if not image or (image["length"], image["sha256"]) != (ecu["length"], ecu["sha256"]) or ecu["hardware"] not in image["hardware"]:
-        return 0
-    told = second_hash(ecu["report"]) if schema >= 3 and image["sha512"] else None
-    return 0 if told and told != image["sha512"] else image["release_count"]
-
-
-def ecus_of(db, images, schema):
-    """The ECUs of each vehicle in inventory order: name, hardware, installed file, release, note of an attack."""
+def campaigns_of(desks):
+    """A campaign of several desks is one."""
     made = {}
-    for row in db.execute("SELECT * FROM ecu ORDER BY vehicle, place"):
-        attack = json.loads(row["report"])["attack"] if row["report"] and '"attack":""' not in row["report"] else ""
-        one = {"ecu": row["ecu"], "hardware": row["hardware"], "file": row["file"], "release": release_of(images, row, schema), "attack": attack}
-        made.setdefault(row["vehicle"], []).append(one)
-    return made
+    for desk in desks:
+        for it in desk["campaigns"]:
+            whole = made.setdefault(it["name"], it | {"running": False} | {name: it[name] * 0 for name in SUMS})
+            whole["running"] |= it["running"]
+            for name in SUMS:
+                whole[name] += it[name]
+    return sorted(made.values(), key=lambda it: (not it["running"], it["name"]))
 
 
-def lasts_of(db):
-    """Of each vehicle that has sent one: the moment of its last manifest, the root version, what was assigned, the cause if withheld."""
-    sql = "SELECT vehicle, moment, root, plan_text FROM vehicle JOIN kept USING (vehicle, version)"
-    return {row["vehicle"]: (row["moment"], row["root"], json.loads(row["plan_text"])) for row in db.execute(sql)}
+# ---- parts of the page
 
 
-def cause_of(withheld):
-    if not withheld:
-        return ""
-    if "hardware" in withheld:
-        return "%s needs a newer %s" % (withheld["ecu"], withheld["hardware"])
-    return "%s conflicts with %s" % (withheld["ecu"], withheld["file"])
-
-
-def vehicles_of(db, ecus):
-    lasts, made = lasts_of(db), []
-    for row in db.execute("SELECT * FROM vehicle ORDER BY vehicle"):
-        name = row["vehicle"]
-        seen, root, plan = lasts.get(name, (None, None, {"assigned": [], "withheld": None}))
-        assigned = {it["ecu"]: it["file"] for it in plan["assigned"]}
-        told = [one | {"assigned": assigned.get(one["ecu"], "")} for one in ecus.get(name, [])]
-        made.append({"vehicle": name, "version": row["version"], "seen": seen, "root": root, "withheld": cause_of(plan["withheld"]), "ecus": told})
-    return made
-
-
-def campaigns_of(db, images, vehicles):
-    """How far each campaign is, over its items and the ECUs of their hardware in its vehicles, and what is in its way."""
-    by_name, made = {it["vehicle"]: it for it in vehicles}, []
-    for row in db.execute("SELECT * FROM campaign ORDER BY running DESC, name"):
-        reach, items = json.loads(row["reach"]), json.loads(row["items"])
-        reached = vehicles if reach == "all" else [by_name[name] for name in sorted(set(reach))]
-        due = [(item["hardware"], images[item["file"]]["release_count"]) for item in items]
-        has = [ecu["release"] >= release and bool(ecu["release"] or ecu["file"] in images)
-               for vehicle in reached for ecu in vehicle["ecus"] for kind, release in due if kind == ecu["hardware"]]
-        told = {"name": row["name"], "running": bool(row["running"]), "vehicles": len(reached), "all": reach == "all"}
-        told |= {"files": [item["file"] for item in items], "done": sum(has), "ecus": len(has)}
-        made.append(told | {"withheld": sum(bool(vehicle["withheld"]) for vehicle in reached)})
-    return made
-
-
-def moment_in(text):
-    return int(datetime.strptime(text, "%Y-%m-%dT%H:%M:%SZ").replace(tzinfo=timezone.utc).timestamp())
-
-
-LIFE = {("image", "targets"): 90, ("image", "snapshot"): 30, ("image", "timestamp"): 1}
-ANEW = {"root": "rotate"}
-
-
-def files_of(db):
-    """The files that are served under the names that change, with when they expire."""
-    for row in db.execute("SELECT * FROM repo_file WHERE name NOT GLOB '[0-9]*' ORDER BY repository, name"):
-        signed = json.loads(row["body"])["signed"]
-        days = LIFE.get((row["repository"], signed["type"]), 365)
-        told = {"file": "%s/%s" % (row["repository"], row["name"]), "version": signed["version"], "expires": moment_in(signed["expires"])}
-        yield told | {"life": days * DAY, "by": ANEW.get(signed["type"], "refresh")}
-
-
-# ---- the page
+def moment(seconds):
+    return datetime.fromtimestamp(seconds, timezone.utc).strftime("%Y-%m-%d %H:%M")
 
 
 def date(seconds):
-    return datetime.fromtimestamp(seconds, timezone.utc).strftime("%Y-%m-%d %H:%M")
+    return '<span class="short">%s</span>' % moment(seconds)
 
 
 def span(seconds):
@@ -169,80 +87,161 @@ def span(seconds):
             return "%d %ss" % (abs(seconds) // size, unit)
 
 
+def grouped(number):
+    return format(number, ",")
+
+
 def many(number, word):
-    return "%s %s%s" % (format(number, ","), word, "" if number == 1 else "s")
+    return "%s %s%s" % (grouped(number), word, "" if number == 1 else "s")
 
 
-def table(head, rows, empty):
-    """A table of cells that are HTML already; more than so many rows are opened by hand."""
+def size(number):
+    """Bytes in words."""
+    for unit, by in (("GB", 10**9), ("MB", 10**6)):
+        if number >= by:
+            return "%.1f %s" % (number / by, unit)
+    return "%d kB" % (number // 1000)
+
+
+def code(text):
+    """A name; a short one stays on one line."""
+    return "<code%s>%s</code>" % (' class="short"' if len(text) <= 24 else "", html.escape(text))
+
+
+def table(name, head, rows, empty):
+    """A table of cells that are HTML already; more than so many rows are opened by hand. Its name is that of its CSV."""
     if not rows:
         return '<p class="none">%s</p>' % empty
-    made = "<table><thead><tr>%s</tr></thead><tbody>%%s</tbody></table>" % "".join("<th>%s</th>" % it for it in head)
-    lines = ["<tr>%s</tr>" % "".join("<td>%s</td>" % it for it in row) for row in rows]
+    made = '<div class="wide"><table data-csv="%s"><thead><tr>%s</tr></thead><tbody>%%s</tbody></table></div>'
+    made %= name, "".join("<th>%s</th>" % it for it in head)
+    lines = ["<tr>%s</tr>" % "".join('<td data-head="%s">%s</td>' % it for it in zip(head, row)) for row in rows]
     first, more = made % "".join(lines[:SHOWN]), lines[SHOWN:]
-    return first + ("<details><summary>%s more</summary>%s</details>" % (format(len(more), ","), made % "".join(more)) if more else "")
+    return first + ("<details><summary>%s more</summary>%s</details>" % (grouped(len(more)), made % "".join(more)) if more else "")
 
 
-def bar(done, number):
+def bar(done, number, word="ECU"):
     share = done / number if number else 1
     return ('<div class="bar" role="img" aria-label="%d of %d"><span style="width:%.1f%%"></span></div>' % (done, number, 100 * share)
-            + '<div class="of">%s of %s</div>' % (format(done, ","), many(number, "ECU")))
+            + '<div class="of">%s of %s</div>' % (grouped(done), many(number, word)))
 
 
-def campaign_rows(campaigns):
+def over_time(moments, number, newest):
+    """A line of how many ECUs had begun to report it, from the first to the newest moment of the copies."""
+    if not moments or not number:
+        return ""
+    begun, length = moments[0], max(newest - moments[0], 1)
+    points, at = ["0,40"], 0
+    for place in range(POINTS + 1):
+        while at < len(moments) and moments[at] <= begun + length * place / POINTS:
+            at += 1
+        points.append("%.1f,%.1f" % (220 * place / POINTS, 40 - 38 * at / number))
+    half = moments[(number + 1) // 2 - 1] if len(moments) >= (number + 1) // 2 else None
+    words = "since %s" % moment(begun) + (", half after %s" % span(half - begun) if half else "")
+    return '<svg class="line" viewBox="0 0 220 40" preserveAspectRatio="none" role="img" aria-label="%s"><polygon points="%s 220,40"/></svg><div class="of">%s</div>' % (
+        words, " ".join(points), words)
+
+
+def link(filter, words):
+    return '<a class="short" href="#vehicles" data-filter="%s">%s</a>' % (html.escape(filter), words)
+
+
+def campaign_rows(campaigns, newest):
     for it in campaigns:
-        whom = "all vehicles (%s)" % format(it["vehicles"], ",") if it["all"] else many(it["vehicles"], "vehicle")
-        way = '<a href="#vehicles" data-filter="withheld">%s withheld</a>' % many(it["withheld"], "vehicle") if it["running"] and it["withheld"] else ""
-        files = "<br>".join("<code>%s</code>" % html.escape(file) for file in it["files"])
-        state = "" if it["running"] else ' <span class="tag">closed</span>'
-        yield html.escape(it["name"]) + state, files, whom, bar(it["done"], it["ecus"]), way
+        whom = "all vehicles (%s)" % grouped(it["vehicles"]) if it["all"] else many(it["vehicles"], "vehicle")
+        way = []
+        if it["running"] and it["left"]:
+            way.append(link("left " + it["name"], many(len(it["left"]), "vehicle") + " left"))
+        if it["running"] and it["withheld"]:
+            way.append(link("stuck " + it["name"], "%s withheld" % grouped(len(it["withheld"]))))
+        files = "<br>".join(code(item["file"]) for item in it["items"])
+        yield code(it["name"]), files, whom, bar(it["done"], it["ecus"]), over_time(it["moments"], it["ecus"], newest), "<br>".join(way)
 
 
-def file_rows(files, now):
-    for it in files:
-        left = it["expires"] - now
-        state = ("bad", "expired %s ago" % span(left)) if left <= 0 else ("soon" if 4 * left < it["life"] else "well", span(left))
-        mark = '<span class="tag %s">%s</span>' % state
-        yield "<code>%s</code>" % it["file"], it["version"], date(it["expires"]), mark, ("<code>%s</code>" % it["by"] if state[0] != "well" else "")
+def state_of(it, now):
+    left = it["expires"] - now
+    return ("bad", "expired %s ago" % span(left)) if left <= 0 else ("soon" if 4 * left < it["life"] else "well", span(left))
+
+
+def file_rows(desks, now):
+    """One row a file: of several desks the one that expires first."""
+    every = {}
+    for desk in desks:
+        for it in desk["files"]:
+            every.setdefault(it["file"], []).append(it | {"desk": desk["name"]})
+    for name, its in sorted(every.items(), key=lambda pair: min(it["expires"] for it in pair[1])):
+        first, versions = min(its, key=lambda it: it["expires"]), sorted({it["version"] for it in its})
+        state = state_of(first, now)
+        where = " at %s" % html.escape(first["desk"]) if len(its) > 1 else ""
+        told = "%d" % versions[0] if len(versions) == 1 else "%d to %d" % (versions[0], versions[-1])
+        yield code(name), told, date(first["expires"]) + where, '<span class="tag %s">%s</span>' % state, code(first["by"]) if state[0] != "well" else ""
 
 
 def withheld_rows(vehicles):
     for it in vehicles:
         if it["withheld"]:
-            yield html.escape(it["vehicle"]), html.escape(it["withheld"]), date(it["seen"])
+            yield code(it["vehicle"]), code(it["withheld"]), date(it["seen"])
 
 
 def attack_rows(vehicles):
     for it in vehicles:
         for ecu in it["ecus"]:
             if ecu["attack"]:
-                yield html.escape(it["vehicle"]), html.escape(ecu["ecu"]), html.escape(ecu["attack"]), date(it["seen"])
+                yield code(it["vehicle"]), code(ecu["ecu"]), html.escape(ecu["attack"]), date(it["seen"])
 
 
-def tiles(vehicles, now):
-    """The numbers at the top, each with the filter that it sets."""
+def release_rows(vehicles, images):
+    """By hardware, what its ECUs report, the greatest release first."""
+    counts = {}
+    for it in vehicles:
+        for ecu in it["ecus"]:
+            own = counts.setdefault(ecu["hardware"], {})
+            key = ecu["release"], ecu["file"] or ""
+            own[key] = own.get(key, 0) + 1
+    for hardware, own in sorted(counts.items()):
+        for (release, file), number in sorted(own.items(), key=lambda pair: (-pair[0][0], pair[0][1])):
+            known = file in images and (release or not images[file]["release_count"])
+            yield code(hardware), code(file) if file else "nothing reported", release if known else ("not registered" if file else ""), bar(number, sum(own.values()))
+
+
+def replaced_rows(desks):
+    for desk in desks:
+        for it in desk["replaced"]:
+            yield code(it["vehicle"]), code(it["ecu"]), "" if it["version"] is None else it["version"], date(it["seen"]) if it["seen"] else "never"
+
+
+def tile(filter, words, number, grave):
+    return '<a class="tile%s" href="#vehicles" data-filter="%s"><b>%s</b>%s</a>' % (" grave" if grave and number else "", filter, grouped(number), words)
+
+
+def tiles(vehicles, desks, now):
+    """The numbers at the top, each with the filter that it sets; and the file that expires first."""
     silent = lambda it: it["seen"] is not None and it["seen"] < now - WEEK
-    numbers = [
-        ("all", "vehicle" if len(vehicles) == 1 else "vehicles", len(vehicles)),
-        ("open", "with an open assignment", sum(any(e["assigned"] for e in it["ecus"]) for it in vehicles)),
-        ("withheld", "withheld", sum(bool(it["withheld"]) for it in vehicles)),
-        ("attack", "report an attack", sum(any(e["attack"] for e in it["ecus"]) for it in vehicles)),
-        ("silent", "silent for a week", sum(map(silent, vehicles))),
-        ("never", "never seen", sum(it["seen"] is None for it in vehicles)),
+    made = [
+        tile("all", "vehicle" if len(vehicles) == 1 else "vehicles", len(vehicles), False),
+        tile("open", "with an open assignment", sum(any(e["assigned"] for e in it["ecus"]) for it in vehicles), False),
+        tile("withheld", "withheld", sum(bool(it["withheld"]) for it in vehicles), True),
+        tile("attack", "report an attack", sum(any(e["attack"] for e in it["ecus"]) for it in vehicles), True),
+        tile("silent", "silent for a week", sum(map(silent, vehicles)), True),
+        tile("never", "never seen", sum(it["seen"] is None for it in vehicles), False),
     ]
-    grave = {"withheld", "attack", "silent"}
-    made = ['<a class="tile%s" href="#vehicles" data-filter="%s"><b>%s</b>%s</a>' % (" grave" if name in grave and number else "", name, format(number, ","), words)
-            for name, words, number in numbers]
+    files = [it for desk in desks for it in desk["files"]]
+    gone = sum(it["expires"] <= now for it in files)
+    if gone:
+        made.append('<a class="tile grave" href="#files"><b>%s</b>expired</a>' % many(gone, "file"))
+    elif files:
+        made.append('<a class="tile" href="#files"><b>%s</b>until a file expires</a>' % span(min(it["expires"] for it in files) - now))
     return '<nav class="tiles">%s</nav>' % "".join(made)
 
 
-def packed(vehicles):
+def packed(vehicles, campaigns):
     """What the page's script shows: lists without names, and each name of a file or hardware once."""
-    words = {}
+    words, at = {}, {it["vehicle"]: number for number, it in enumerate(vehicles)}
     place = lambda text: words.setdefault(text, len(words))
     rows = [[it["vehicle"], it["version"], it["seen"], it["withheld"], [
-        [e["ecu"], place(e["hardware"]), place(e["file"] or ""), place(e["assigned"]), e["attack"]] for e in it["ecus"]]] for it in vehicles]
-    made = json.dumps({"words": list(words), "vehicles": rows}, separators=(",", ":"))
+        [e["ecu"], place(e["hardware"]), place(e["file"] or ""), place(e["assigned"]), e["attack"]] for e in it["ecus"]], it["desk"]] for it in vehicles]
+    sets = {"%s %s" % (word, it["name"]): [at[name] for name in it[kind]] for it in campaigns if it["running"]
+            for word, kind in (("left", "left"), ("stuck", "withheld")) if it[kind]}
+    made = json.dumps({"words": list(words), "vehicles": rows, "sets": sets}, separators=(",", ":"))
     return made.replace("<", "\\u003c").replace(">", "\\u003e").replace("&", "\\u0026")
 
 
@@ -251,47 +250,64 @@ VEHICLES = """<p class="controls"><input id="search" type="search" placeholder="
 <option value="withheld">withheld</option><option value="attack">report an attack</option><option value="silent">silent for a week</option>
 <option value="never">never seen</option></select>
 <select id="order" aria-label="order"><option value="name">by name</option><option value="oldest">longest silent first</option>
-<option value="newest">last seen first</option></select>
+<option value="newest">last seen first</option></select><button id="csv">CSV</button>
 <span id="count"></span><span class="pages"><button id="back">&larr; back</button> <span id="page"></span> <button id="next">next &rarr;</button></span></p>
 <div id="list"><noscript><p class="none">The list of vehicles needs JavaScript.</p></noscript></div>"""
 
 
-def page(db, now):
-    meta = meta_of(db)
-    images = registered(db, meta["schema"])
-    vehicles = vehicles_of(db, ecus_of(db, images, meta["schema"]))
-    campaigns, files = campaigns_of(db, images, vehicles), list(files_of(db))
-    running = [it for it in campaigns if it["running"]]
-    closed = [it for it in campaigns if not it["running"]]
-    counts = "root version %d of %d, %s of %s images, schema %d" % (meta["root"], ROOTS, format(len(images), ","), format(IMAGES, ","), meta["schema"])
-    heads = ["Campaign", "Images", "For", "How far", "In its way"]
-    parts = [
-        "<header><h1>Fleet</h1><p>as of %s UTC &middot; %s</p></header>" % (date(now), counts),
-        tiles(vehicles, now),
-        "<h2>Campaigns</h2>" + table(heads, list(campaign_rows(running)), "No campaign runs."),
-        "<details><summary>%s closed</summary>%s</details>" % (many(len(closed), "campaign"), table(heads, list(campaign_rows(closed)), "")) if closed else "",
-        "<h2>Files</h2>" + table(["File", "Version", "Expires (UTC)", "Left", "Made anew by"], list(file_rows(files, now)), "The repositories aren't founded."),
-        "<h2>Withheld plans</h2>" + table(["Vehicle", "Cause", "Seen (UTC)"], list(withheld_rows(vehicles)), "None."),
-        "<h2>Attacks reported</h2>" + table(["Vehicle", "ECU", "Its note", "Seen (UTC)"], list(attack_rows(vehicles)), "None."),
-        '<h2 id="vehicles">Vehicles</h2>' + VEHICLES,
-    ]
+def heading(desks, images, now):
+    newest = max(it["newest"] for it in desks)
+    old = ", %s before now" % span(now - newest) if now - newest >= 120 else ""
+    roots = sorted({it["meta"]["root"] for it in desks})
+    grown = sum(it["day"] * it["size"] // it["kept"] for it in desks if it["kept"])
+    told = ["as of %s UTC%s" % (moment(newest), old), many(len(desks), "desk") if len(desks) > 1 else "",
+            "root version %s of %d" % (" to ".join(map(str, {roots[0]: 0, roots[-1]: 0})), ROOTS), "%s of %s images" % (grouped(len(images)), grouped(IMAGES)),
+            "%s in %s, %s a day" % (many(sum(it["kept"] for it in desks), "kept reply").replace("replys", "replies"), size(sum(it["size"] for it in desks)), size(grown)),
+            "schema %s" % " and ".join(map(str, sorted({it["meta"]["schema"] for it in desks})))]
+    return "<header><h1>Fleet</h1><p>%s</p></header>" % " &middot; ".join(filter(None, told))
+
+
+def parts(desks, now):
+    images = {file: it for desk in desks for file, it in desk["images"].items()}
+    vehicles = sorted((it for desk in desks for it in desk["vehicles"]), key=lambda it: it["vehicle"])
+    campaigns, newest = campaigns_of(desks), max(it["newest"] for it in desks)
+    running, closed = ([it for it in campaigns if it["running"] == whether] for whether in (True, False))
+    heads = ["Campaign", "Images", "For", "How far", "Over time", "Vehicles"]
+    yield heading(desks, images, now)
+    yield tiles(vehicles, desks, now)
+    yield '<h2 id="campaigns">Campaigns</h2>' + table("campaigns", heads, list(campaign_rows(running, newest)), "No campaign runs.")
+    if closed:
+        yield "<details><summary>%s closed</summary>%s</details>" % (many(len(closed), "campaign"), table("closed", heads, list(campaign_rows(closed, newest)), ""))
+    yield '<h2 id="files">Files</h2>' + table("files", ["File", "Version", "Expires (UTC)", "Left", "Made anew by"], list(file_rows(desks, now)), "The repositories aren't founded.")
+    yield "<h2>Releases</h2>" + table("releases", ["Hardware", "Reported", "Release", "ECUs"], list(release_rows(vehicles, images)), "There are no vehicles.")
+    yield "<h2>Withheld plans</h2>" + table("withheld", ["Vehicle", "Cause", "Seen (UTC)"], list(withheld_rows(vehicles)), "None.")
+    yield "<h2>Attacks reported</h2>" + table("attacks", ["Vehicle", "ECU", "Its note", "Seen (UTC)"], list(attack_rows(vehicles)), "None.")
+    replaced = list(replaced_rows(desks))
+    yield "<h2>Replaced ECUs</h2>" + table("replaced", ["Vehicle", "ECU", "Last version", "Last reported (UTC)"], replaced, "None.")
+    yield '<h2 id="vehicles">Vehicles</h2>' + VEHICLES
+    yield '<script type="application/json" id="data" data-now="%d">%s</script>' % (now, packed(vehicles, campaigns))
+
+
+def page(copies, now):
+    made = "\n".join(parts([desk_of(name, path, now) for name, path in copies.items()], now))
     top = ('<!doctype html><html lang="en"><head><meta charset="utf-8"><title>Fleet</title>'
            '<meta http-equiv="Content-Security-Policy" content="default-src \'none\'; style-src \'unsafe-inline\'; script-src \'unsafe-inline\'; base-uri \'none\'">'
            '<meta name="viewport" content="width=device-width, initial-scale=1"><style>%s</style></head><body><main>' % STYLE.read_text(encoding="ascii"))
-    data = '<script type="application/json" id="data" data-now="%d">%s</script>' % (now, packed(vehicles))
-    return "%s%s</main>%s<script>%s</script></body></html>\n" % (top, "\n".join(parts), data, SCRIPT.read_text(encoding="ascii"))
+    return "%s%s</main><script>%s</script></body></html>\n" % (top, made, SCRIPT.read_text(encoding="ascii"))
 
 
 def main():
     parser = argparse.ArgumentParser(description=__doc__, formatter_class=argparse.RawDescriptionHelpFormatter)
-    parser.add_argument("copy", type=Path)
+    parser.add_argument("copies", nargs="+", type=fleet_tables.named, metavar="[DESK=]COPY")
     parser.add_argument("--now", type=int, default=None)
     given = parser.parse_args()
+    copies = dict(given.copies)
+    if len(copies) < len(given.copies):
+        parser.error("each copy needs a name of its own")
     try:
-        with opened(given.copy) as db:
-            made = page(db, int(time.time()) if given.now is None else given.now)
-    except (Other, OSError, sqlite3.Error) as wrong:
-        print("fleet_page: %s: %s" % (given.copy, wrong), file=sys.stderr)
+        made = page(copies, int(time.time()) if given.now is None else given.now)
+    except (fleet_tables.Other, OSError, sqlite3.Error) as wrong:
+        print("fleet_page: %s: %s" % (", ".join(map(str, copies.values())), wrong), file=sys.stderr)
         return 1
     sys.stdout.write(made)
     return 0

@@ -21,6 +21,12 @@ class Other(Exception):
     """The file isn't a database of this product."""
 
 
+def named(word):
+    """A desk's name and its copy, of a word DESK=COPY; `desk` where no name is given."""
+    desk, _, path = word.rpartition("=")
+    return desk or "desk", Path(path)
+
+
 def log_of(path):
     return Path(str(path) + "-wal")
 
@@ -182,6 +188,7 @@ def campaigns_of(db, images, vehicles):
         moves = list(moves_of(one, images, reached))
         left = {vehicle["vehicle"] for vehicle, _, has in moves if not has}
         withheld = {vehicle["vehicle"] for vehicle, ecu, has in moves if not has and vehicle["withheld_ecu"] == ecu["ecu"]}
+        one |= {"reached": [it["vehicle"] for it in reached]} if reach != "all" else {}
         one |= {"ecus": len(moves), "done": sum(has for _, _, has in moves), "left": sorted(left), "withheld": sorted(withheld)}
         made.append(one)
     return made
@@ -205,3 +212,56 @@ def files_of(db):
         life = LIFE.get((row["repository"], signed["type"]), 365 * DAY)
         one = {"repository": row["repository"], "name": row["name"], "file": "%s/%s" % (row["repository"], row["name"])}
         yield one | {"version": signed["version"], "expires": moment_in(signed["expires"]), "life": life, "by": ANEW.get(signed["type"], "refresh")}
+
+
+# ---- over time
+
+
+def reports(signed, ecu, file):
+    """Whether a manifest's signed text has a report of the ECU with that file. As canonical text has the members in order, the two
+    stand side by side, but for members that this product doesn't know."""
+    if '"ecu":"%s","image":{"file":"%s"' % (ecu, file) in signed:
+        return True
+    if '"file":"%s"' % file not in signed or '"ecu":"%s","image":' % ecu in signed:
+        return False
+    every = [it["signed"] for it in json.loads(signed)["reports"]]
+    return any(it["ecu"] == ecu and it["image"]["file"] == file for it in every)
+
+
+def since_when(db, vehicle, version, ecu, file):
+    """The moment of a manifest by which an ECU that reports the file now began to. Found by halves, so a few manifests are read: where
+    it went back and forth, it is one of the times at which it began."""
+    sql = "SELECT moment, signed FROM kept WHERE vehicle = ? AND version = ?"
+    at = lambda number: db.execute(sql, (vehicle, number)).fetchone()
+    row = at(version)
+    if not row or not reports(row["signed"], ecu, file):
+        return None
+    low, high, moment = 0, version, row["moment"]
+    while high - low > 1:
+        middle = (low + high) // 2
+        row = at(middle)
+        if row and reports(row["signed"], ecu, file):
+            high, moment = middle, row["moment"]
+        else:
+            low = middle
+    return moment
+
+
+def taken_up(db, campaign, images, vehicles):
+    """The moments at which ECUs began to report what a running campaign offers, in order."""
+    made = []
+    files = {item["hardware"]: item["file"] for item in campaign["items"]}
+    for vehicle, ecu, has in moves_of(campaign, images, vehicles):
+        if has and ecu["file"] == files[ecu["hardware"]]:
+            made.append(since_when(db, vehicle["vehicle"], vehicle["version"], ecu["ecu"], ecu["file"]))
+    return sorted(it for it in made if it is not None)
+
+
+def replaced_of(db, schema):
+    """The ECUs that were replaced, in order, with the last version and moment of their vehicle's manifests that they reported in."""
+    if schema < 2:
+        return
+    sql = "SELECT version, moment, signed FROM kept WHERE vehicle = ? ORDER BY version DESC"
+    for row in db.execute("SELECT ecu, vehicle FROM retired ORDER BY rowid").fetchall():
+        found = next(((it[0], it[1]) for it in db.execute(sql, (row["vehicle"],)) if '"ecu":"%s"' % row["ecu"] in it[2]), (None, None))
+        yield {"vehicle": row["vehicle"], "ecu": row["ecu"], "version": found[0], "seen": found[1]}

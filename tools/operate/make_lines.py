@@ -12,18 +12,20 @@
 Lines go to standard output, so that they can be looked at, checked with `check_script.py` and piped into the program. The
 moment is now, by this machine's clock; `--at SECONDS` names another.
 
-KEYS is a folder with a file for each key, `director-root-1.key`, `director-root-2.key` up to `image-timestamp-4.key`: 64
-hexadecimal digits, as `openssl rand -hex 32` prints them. Each of the eight roles has 1 to 4. A role's threshold is the number
-of its keys; `--threshold director-root=1` names another. What this prints for `found` and `rotate` holds the secrets: pipe it.
+KEYS is a folder with a file for each secret, `director-root-1.key`, `director-root-2.key` up to `image-timestamp-4.key`: 64
+hexadecimal digits, as `openssl rand -hex 32` prints them, or an Ed25519 key as `openssl genpkey -algorithm ed25519` writes it.
+Each of the eight roles has 1 to 4. A role's threshold is the number of its keys; `--threshold director-root=1` names another.
+What this prints for `found` and `rotate` holds the secrets: pipe it.
 
 IMAGE is the image itself: its length, SHA-256 and SHA-512 are computed. Its filename in the repository is the file's own name, or
 NAME. `--no-sha512` leaves the SHA-512 out; an image doesn't get one later.
 
 TABLE is a CSV whose first line is `vehicle,ecu,hardware,primary,key`, with a row for each ECU: `primary` is `yes` for the
 Primary and empty for the others, `key` has 64 hexadecimal digits, or the column is called `keyfile` and names a file that has
-them, beside the table. The rows of a vehicle stand together, in inventory order.
+them, beside the table. The rows of a vehicle stand together, in inventory order. Under Ed25519 that is the ECU's public key, and
+the file may be one that `openssl pkey -pubout` writes; a private key is refused. Under HMAC it is the secret.
 
-OLD is the ECU that was taken out of the vehicle and ECU the one that was put in, whose key FILE holds.
+OLD is the ECU that was taken out of the vehicle and ECU the one that was put in, whose key FILE holds, as above.
 
 FROM is the address of the service, http://127.0.0.1:8080, or a file with the text of the Image repository's `timestamp.json`
 (`-` is standard input); the version is the next one.
@@ -31,6 +33,7 @@ FROM is the address of the service, http://127.0.0.1:8080, or a file with the te
 What isn't within the limits is told and nothing is printed: the status is then 1.
 """
 import argparse
+import base64
 import csv
 import hashlib
 import json
@@ -63,18 +66,36 @@ def need(holds, words, *given):
 # ---- keys
 
 
-def key_in(text, where):
-    text = text.strip()
-    need(re.fullmatch(r"[0-9A-Fa-f]{64}", text), "%s: a key is 64 hexadecimal digits", where)
-    return text.lower()
+PEM = re.compile(r"-----BEGIN (PRIVATE|PUBLIC) KEY-----\n([A-Za-z0-9+/=\n]+)-----END \1 KEY-----")
+# what stands before the 32 bytes of an Ed25519 key (RFC 8410): PKCS #8's private key, and a SubjectPublicKeyInfo
+BEFORE = {"PRIVATE": "302e020100300506032b657004220420", "PUBLIC": "302a300506032b6570032100"}
 
 
-def key_of(path):
-    """The key that a file holds. Others that may read the file are told of."""
+def hex_key(text, where):
+    need(re.fullmatch(r"[0-9A-Fa-f]{64}", text.strip()), "%s: a key is 64 hexadecimal digits", where)
+    return text.strip().lower()
+
+
+def pem_key(text, where, wanted):
+    """The key in a text that OpenSSL wrote, private or public as it is wanted."""
+    found = PEM.fullmatch(text.replace("\r\n", "\n").strip())
+    need(found, "%s: that is no key as OpenSSL writes it, without a password", where)
+    need(found[1] == wanted, "%s: a %s key, where a %s one is asked", where, found[1].lower(), wanted.lower())
+    try:
+        told = base64.b64decode(found[2]).hex()
+    except ValueError:
+        told = ""
+    need(told.startswith(BEFORE[wanted]) and len(told) == len(BEFORE[wanted]) + 64, "%s: that is no Ed25519 key", where)
+    return told[-64:]
+
+
+def key_of(path, wanted):
+    """The key that a file holds, `PRIVATE` or `PUBLIC` where it tells. Others that may read what may be a secret are told of."""
     need(path.is_file(), "%s: there is no such file", path)
-    if stat.S_IMODE(path.stat().st_mode) & 0o077:
+    text = path.read_text(encoding="ascii", errors="replace")
+    if "PUBLIC KEY" not in text and stat.S_IMODE(path.stat().st_mode) & 0o077:
         print("make_lines: %s: others may read this key: chmod 600" % path, file=sys.stderr)
-    return key_in(path.read_text(encoding="ascii", errors="replace"), path)
+    return pem_key(text, path, wanted) if "-----BEGIN" in text else hex_key(text, path)
 
 
 def role_keys(folder, name, thresholds):
@@ -83,7 +104,7 @@ def role_keys(folder, name, thresholds):
     wanted = [folder / ("%s-%d.key" % (name, number)) for number in range(1, len(there) + 1)]
     need(there, "%s: no key of %s: %s-1.key is missing", folder, name, name)
     need(there == wanted and len(there) <= 4, "%s: the keys of %s are %s-1.key to at most %s-4.key", folder, name, name, name)
-    keys = [key_of(path) for path in there]
+    keys = [key_of(path, "PRIVATE") for path in there]
     threshold = thresholds.pop(name, len(keys))
     need(1 <= threshold <= len(keys), "%s: a threshold is 1 to the number of keys, %d", name, len(keys))
     return {"keys": keys, "threshold": threshold}
@@ -146,7 +167,7 @@ def rows_of(path):
             for name in ("vehicle", "ecu", "hardware"):
                 need(IDENT(row[name]), "%s: %s: 1 to 64 bytes of A-Z a-z 0-9 . _ -", where, name)
             need(row["primary"] in ("yes", ""), "%s: primary is yes or empty", where)
-            row["key"] = key_in(row["key"], where) if ends == ["key"] else key_of(path.parent / row["keyfile"])
+            row["key"] = hex_key(row["key"], where) if ends == ["key"] else key_of(path.parent / row["keyfile"], "PUBLIC")
             yield where, row
 
 
@@ -173,7 +194,7 @@ def new_ecu(given):
     for member, name in made.items():
         need(IDENT(name), "%s: %s has 1 to 64 bytes of A-Z a-z 0-9 . _ -", name, member)
     need(given.old != given.ecu, "%s: the new ECU needs an identifier of its own", given.ecu)
-    return made | {"key": key_of(given.key)}
+    return made | {"key": key_of(given.key, "PUBLIC")}
 
 
 def text_from(place):

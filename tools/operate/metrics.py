@@ -125,14 +125,9 @@ def written(path, text):
     os.replace(new, path)
 
 
-def named(word):
-    desk, _, path = word.rpartition("=")
-    return desk or "desk", Path(path)
-
-
 def main():
     parser = argparse.ArgumentParser(description=__doc__, formatter_class=argparse.RawDescriptionHelpFormatter)
-    parser.add_argument("copies", nargs="+", type=named, metavar="[DESK=]COPY")
+    parser.add_argument("copies", nargs="+", type=fleet_tables.named, metavar="[DESK=]COPY")
     parser.add_argument("--to", type=Path)
     parser.add_argument("--now", type=int, default=None)
     parser.add_argument("--manifests", type=int, default=3)

@@ -11,6 +11,7 @@ a file that the program refuses without a copy having been made by sqlite3: then
 The status is 0, or 1 with a message where SQLite finds the file damaged, or where it isn't a database of this product: an
 empty file is none. That file stays as it was.
 """
+import argparse
 import sqlite3
 import struct
 import sys
@@ -31,10 +32,27 @@ def sum_of(page):
     return struct.pack("<II", first, second)
 
 
-def pages(data):
+def page_size(data):
     size = int.from_bytes(data[16:18], "big")
-    size = 65536 if size == 1 else size
+    return 65536 if size == 1 else size
+
+
+def pages(data):
+    size = page_size(data)
     return [data[at : at + size] for at in range(0, len(data), size)]
+
+
+def written(file, size):
+    """Writes each sum that is wrong, a page after the other."""
+    at = 0
+    file.seek(0)
+    while page := file.read(size):
+        made = sum_of(page)
+        if made != page[-RESERVED:]:
+            file.seek(at + size - RESERVED)
+            file.write(made)
+        at += size
+        file.seek(at)
 
 
 def has_sums(data):
@@ -65,16 +83,13 @@ def main(path):
         print("page_sums: %s: %s" % (path, "; ".join(found)), file=sys.stderr)
         return 1
     with open(path, "r+b") as file:
-        data = file.read()
-        if has_sums(data):
-            file.seek(0)
-            file.write(b"".join(page[:-RESERVED] + sum_of(page) for page in pages(data)))
+        head = file.read(100)
+        if has_sums(head):
+            written(file, page_size(head))
     return 0
 
 
 if __name__ == "__main__":
-    if {"-h", "--help"} & {*sys.argv[1:]}:
-        sys.exit(print(__doc__))
-    if len(sys.argv) != 2:
-        sys.exit(__doc__)
-    sys.exit(main(sys.argv[1]))
+    parser = argparse.ArgumentParser(description=__doc__, formatter_class=argparse.RawDescriptionHelpFormatter)
+    parser.add_argument("file", metavar="FILE")
+    sys.exit(main(parser.parse_args().file))

@@ -85,6 +85,31 @@ def decode(data):
 
 BASE = decode((4 * pow(5, P - 2, P) % P).to_bytes(32, "little"))
 
+
+def rows_of_multiples():
+    """For each four bits of a count, the fifteen multiples of the base point that they may stand for."""
+    point = BASE
+    for _ in range(64):
+        row = [point]
+        for _ in range(15):
+            row.append(add(row[-1], point))
+        point = row.pop()
+        yield row
+
+
+MULTIPLES = list(rows_of_multiples())
+
+
+def multiple_of_base(count):
+    """[count]B, for a count below 2^256."""
+    total = NEUTRAL
+    for row in MULTIPLES:
+        if count & 15:
+            total = add(total, row[(count & 15) - 1])
+        count >>= 4
+    return total
+
+
 # ---- 5.1.5 to 5.1.7: keys, signatures
 
 
@@ -100,13 +125,13 @@ def expanded(secret):
 
 
 def public_of(secret):
-    return encode(multiple(expanded(secret)[0], BASE))
+    return encode(multiple_of_base(expanded(secret)[0]))
 
 
 def sign(secret, message):
     scalar, prefix = expanded(secret)
     r = number(digest(prefix, message)) % ORDER
-    first = encode(multiple(r, BASE))
+    first = encode(multiple_of_base(r))
     k = number(digest(first, public_of(secret), message)) % ORDER
     return first + ((r + k * scalar) % ORDER).to_bytes(32, "little")
 
@@ -119,7 +144,7 @@ def verify(public, message, signature):
     if first is None or key is None or s >= ORDER:
         return False
     k = number(digest(signature[:32], public, message)) % ORDER
-    return is_same(multiple(s, BASE), add(first, multiple(k, key)))
+    return is_same(multiple_of_base(s), add(first, multiple(k, key)))
 
 
 # ---- 7.1: test vectors

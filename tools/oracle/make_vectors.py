@@ -4,12 +4,14 @@
     make_vectors.py            writes the files
     make_vectors.py --check    says which of them differ from what would be written; status 1 where one does
 
-`vectors/README.md` says what the members mean.
+`vectors/README.md` says what the members mean. A start makes the files of one scheme, and starts itself for the other.
 """
 import copy
 import hashlib
 import json
+import os
 import sqlite3
+import subprocess
 import sys
 from contextlib import closing
 from pathlib import Path
@@ -19,16 +21,22 @@ sys.path += map(str, Path(__file__).resolve().parents[1].iterdir())
 
 import ed25519
 import reference
-from reference import ROLES, canonical, keyid, mac, moment, sealed
+from reference import METHOD, ROLES, SCHEME, canonical, moment, sealed
+from schemes import Ed25519, HmacSha256, key_identifier
 
 FOLDER = Path(__file__).resolve().parent.parent.parent / "vectors"
 NOW, DAY = 1767225600, 86400
-METHOD = reference.METHOD
+SHARED, OF_A_SCHEME = ("canonical_texts.json", "key_identifiers.json"), ("signatures.json", "manifests.json", "replies.json", "chains.json")
 
 
 def key(byte):
     """A key of 32 equal bytes."""
     return "%02x" % byte * 32
+
+
+def public(secret):
+    """The public part of a secret in hex."""
+    return SCHEME.public_of(bytes.fromhex(secret)).hex()
 
 
 def unhex(keys):
@@ -82,7 +90,7 @@ def add_image(name):
 
 FOUND = line("found", **FIRST)
 VEHICLES = [line("add_vehicle", vehicle=name, primary=PRIMARY[name],
-                 ecus=[{"ecu": ecu, "hardware": kind, "key": secret} for ecu, (kind, secret) in ecus.items()]) for name, ecus in ECUS.items()]
+                 ecus=[{"ecu": ecu, "hardware": kind, "key": public(secret)} for ecu, (kind, secret) in ecus.items()]) for name, ecus in ECUS.items()]
 SETUP = [FOUND, *VEHICLES, add_image("gateway-1.bin"), add_image("brake-1.bin")]
 UPDATE = [add_image("gateway-2.bin"), add_image("brake-2.bin"),
           line("open_campaign", campaign="spring", vehicles="all",
@@ -153,79 +161,80 @@ def refusal(call, *given):
     raise AssertionError("this isn't refused: %r" % (given,))
 
 
-# ---- key identifiers and tags
+# ---- key identifiers and signatures
 
 
 def key_identifiers():
     ascending = bytes(range(32)).hex()
-    for name, public in [("zeros", key(0)), ("0x11 repeated", key(0x11)), ("0xff repeated", key(0xFF)), ("0x00 to 0x1f", ascending)]:
-        yield {"name": "32 bytes, " + name, "public": public, "keyid": keyid(bytes.fromhex(public))}
+    for name, it in [("zeros", key(0)), ("0x11 repeated", key(0x11)), ("0xff repeated", key(0xFF)), ("0x00 to 0x1f", ascending)]:
+        yield {"name": "32 bytes, " + name, "public": it, "keyid": key_identifier(bytes.fromhex(it))}
     for size in (1, 64, 65, 256):
-        public = 0x5A.to_bytes(1, "big") * size
-        yield {"name": "%d bytes; no key of this scheme" % size, "public": public.hex(), "keyid": keyid(public)}
+        it = size * bytes([0x5A])
+        yield {"name": "%d bytes; no key of these schemes" % size, "public": it.hex(), "keyid": key_identifier(it)}
 
 
 # RFC 4231, test cases 1 to 3, 6 and 7: key, data, tag
 RFC_4231 = [
-    (1, "0b" * 20, b"Hi There".hex(), "b0344c61d8db38535ca8afceaf0bf12b881dc200c9833da726e9376c2e32cff7"),
-    (2, b"Jefe".hex(), b"what do ya want for nothing?".hex(), "5bdcc146bf60754e6a042426089575c75a003f089d2739839dec58b964ec3843"),
-    (3, "aa" * 20, "dd" * 50, "773ea91e36800e46854db8ebd09181a72959098b3ef8c122d9635514ced565fe"),
-    (6, "aa" * 131, b"Test Using Larger Than Block-Size Key - Hash Key First".hex(), "60e431591ee0b67f0d8a26aacbf5b77f8e0bc6213728c5140546040f0ee37f54"),
-    (7, "aa" * 131, b"This is a test using a larger than block-size key and a larger than block-size data. "
-     b"The key needs to be hashed before being used by the HMAC algorithm.".hex(), "9b09ffa71b942fcb27635fbcd5b0e944bfdc63644f0713938a7f51535c3a35e2"),
+    (1, 20 * b"\x0b", b"Hi There", "b0344c61d8db38535ca8afceaf0bf12b881dc200c9833da726e9376c2e32cff7"),
+    (2, b"Jefe", b"what do ya want for nothing?", "5bdcc146bf60754e6a042426089575c75a003f089d2739839dec58b964ec3843"),
+    (3, 20 * b"\xaa", 50 * b"\xdd", "773ea91e36800e46854db8ebd09181a72959098b3ef8c122d9635514ced565fe"),
+    (6, 131 * b"\xaa", b"Test Using Larger Than Block-Size Key - Hash Key First", "60e431591ee0b67f0d8a26aacbf5b77f8e0bc6213728c5140546040f0ee37f54"),
+    (7, 131 * b"\xaa", b"This is a test using a larger than block-size key and a larger than block-size data. "
+     b"The key needs to be hashed before being used by the HMAC algorithm.", "9b09ffa71b942fcb27635fbcd5b0e944bfdc63644f0713938a7f51535c3a35e2"),
 ]
 
 
-def tags():
-    for number, secret, data, tag in RFC_4231:
-        assert mac(bytes.fromhex(secret), bytes.fromhex(data).decode("latin-1")) == tag or not bytes.fromhex(data).isascii()
-        yield {"name": "RFC 4231, test case %d" % number, "key": secret, "data": data, "tag": tag}
-    data = canonical({"a": 1})
-    yield {"name": "a canonical text", "key": key(0xA1), "data": data.encode().hex(), "tag": mac(bytes.fromhex(key(0xA1)), data)}
+def outside():
+    """The vectors of the RFCs: name, secret, public part, data, signature."""
+    if SCHEME is HmacSha256:
+        return [("RFC 4231, test case %d" % number, secret, secret, data, bytes.fromhex(tag)) for number, secret, data, tag in RFC_4231]
+    names = ("1", "2", "3", "1024", "SHA(abc)")
+    return [("RFC 8032, section 7.1, test %s" % name, *it) for name, it in zip(names, ed25519.vectors(), strict=True)]
 
 
-# ---- Ed25519: secrets with their public keys, and signatures
+def signatures():
+    for name, secret, of, data, sig in outside():
+        assert (SCHEME.public_of(secret), SCHEME.sign(secret, data)) == (of, sig)
+        yield {"name": name, "secret": secret.hex(), "public": of.hex(), "data": data.hex(), "sig": sig.hex()}
+    data, secret = payload_of("VIN-2", 1, reports_of("VIN-2", 1)).encode(), key(0xA4)
+    sig = SCHEME.sign(bytes.fromhex(secret), data)
+    yield {"name": "a canonical text", "secret": secret, "public": public(secret), "data": data.hex(), "sig": sig.hex()}
 
 
-def ed25519_tags():
-    for name, (secret, public, data, sig) in zip(("1", "2", "3", "1024", "SHA(abc)"), ed25519.vectors(), strict=True):
-        yield {"name": "RFC 8032, section 7.1, test %s" % name, "secret": secret.hex(), "public": public.hex(), "data": data.hex(), "sig": sig.hex()}
-    secret, data = bytes.fromhex(key(0xA4)), payload_of("VIN-2", 1, reports_of("VIN-2", 1)).encode()
-    yield {"name": "a canonical text", "secret": secret.hex(), "public": ed25519.public_of(secret).hex(), "data": data.hex(), "sig": ed25519.sign(secret, data).hex()}
-
-
-def ed25519_cases():
+def encodings():
+    """Public keys and signatures of Ed25519 in other encodings than RFC 8032 has."""
     secret, data = bytes.fromhex(key(0xA4)), canonical({"a": 1}).encode()
-    public, sig = ed25519.public_of(secret), ed25519.sign(secret, data)
+    of, sig = ed25519.public_of(secret), ed25519.sign(secret, data)
     first, last = sig[:32], ed25519.number(sig[32:])
     bytes_of = lambda it: it.to_bytes(32, "little")
     # with the neutral point as the key any s and s * B fit: what is tried is how the key is decoded
     free = ed25519.encode(ed25519.multiple(5, ed25519.BASE)) + bytes_of(5)
-    for name, key_bytes, made in [
-        ("the signature", public, sig), ("a bit of R changed", public, bytes([sig[0] ^ 1]) + sig[1:]), ("a bit of s changed", public, sig[:63] + bytes([sig[63] ^ 1])),
-        ("s plus the order of the group", public, first + bytes_of(last + ed25519.ORDER)), ("63 bytes", public, sig[:-1]), ("65 bytes", public, sig + b"\0"),
+    for name, it, made in [
+        ("the signature", of, sig), ("a bit of R changed", of, bytes([sig[0] ^ 1]) + sig[1:]), ("a bit of s changed", of, sig[:63] + bytes([sig[63] ^ 1])),
+        ("s plus the order of the group", of, first + bytes_of(last + ed25519.ORDER)), ("63 bytes", of, sig[:-1]), ("65 bytes", of, sig + b"\0"),
         ("another key", ed25519.public_of(bytes.fromhex(key(0xA1))), sig), ("the secret in place of the public key", secret, sig),
         ("the neutral point as the key: nothing is wrong by section 5.1.7", bytes_of(1), free), ("the same point with y not below p", bytes_of(ed25519.P + 1), free),
         ("the same point with the sign of x set, though x is 0", bytes_of(1 | 1 << 255), free), ("a key that is no point", bytes_of(2), sig),
     ]:
-        yield {"name": name, "public": key_bytes.hex(), "data": data.hex(), "sig": made.hex(), "verified": ed25519.verify(key_bytes, data, made)}
+        yield {"name": name, "public": it.hex(), "data": data.hex(), "sig": made.hex(), "verified": ed25519.verify(it, data, made)}
 
 
-# ---- signatures: an envelope round the first manifest of VIN-2, in several forms
+# ---- envelopes round the first manifest of VIN-2, in several forms
 
 
-def signatures():
+def envelopes():
     payload, secret, other = payload_of("VIN-2", 1, reports_of("VIN-2", 1)), key(0xA4), key(0xA1)
     good = json.loads(signed_by([secret], payload))["signatures"][0]
     wrong = json.loads(signed_by([other], payload))["signatures"][0]
     sig, identifier = good["sig"], good["keyid"]
     changed = sig[:-1] + ("1" if sig[-1] == "0" else "0")
+    other_method = next(it.method for it in (HmacSha256, Ed25519) if it is not SCHEME)
     forms = [
         ("one signature", [good]), ("upper case digits in sig", [good | {"sig": sig.upper()}]), ("another signature before it", [wrong, good]),
         ("a wrong one of the same key before it", [good | {"sig": changed}, good]), ("a member more", [good | {"more": 1}]),
         ("eight signatures", 7 * [wrong] + [good]), ("another signature alone", [wrong]), ("its last digit changed", [good | {"sig": changed}]),
-        ("31 bytes", [good | {"sig": sig[:-2]}]), ("33 bytes", [good | {"sig": sig + "00"}]), ("a key identifier in upper case", [good | {"keyid": identifier.upper()}]),
-        ("another key's identifier", [good | {"keyid": wrong["keyid"]}]), ("another method", [good | {"method": "hmac-sha512"}]),
+        ("a byte less", [good | {"sig": sig[:-2]}]), ("a byte more", [good | {"sig": sig + "00"}]), ("a key identifier in upper case", [good | {"keyid": identifier.upper()}]),
+        ("another key's identifier", [good | {"keyid": wrong["keyid"]}]), ("another method", [good | {"method": other_method}]),
         ("the method in upper case", [good | {"method": METHOD.upper()}]), ("no signatures", []), ("nine signatures", 9 * [good]),
         ("an odd number of digits", [good | {"sig": sig[:-1]}]), ("no digits", [good | {"sig": ""}]), ("another letter", [good | {"sig": "g" + sig[1:]}]),
         ("no key identifier", [{"method": METHOD, "sig": sig}]), ("a key identifier of 129 characters", [good | {"keyid": 129 * "a"}]),
@@ -233,16 +242,16 @@ def signatures():
     ]
     for name, made in forms:
         body = '{"signatures":%s,"signed":%s}' % (canonical(made), payload)
-        yield {"name": name, "envelope": body} | judged(body, secret)
+        yield {"name": name, "envelope": body} | judged(body, public(secret))
 
 
-def judged(body, secret):
+def judged(body, of):
     """Whether this key signed the envelope, or the refusal of an envelope that has another form."""
     try:
         told = reference.read_manifest(body.encode())
     except reference.Refused as refused:
         return {"refused": refused.text.split(" ", 2)[2]}
-    return {"signed_by_the_key": reference.is_signed(told["envelope"], bytes.fromhex(secret))}
+    return {"signed_by_the_key": reference.is_signed(told["envelope"], bytes.fromhex(of))}
 
 
 # ---- manifests: one after another, from where the setup ends
@@ -534,11 +543,25 @@ def of_rotation(it):
     yield "a key twice", "a Root by one of two old keys, twice", no, it.root(nothing, second + 2 * first[:1]), {}
     twice = lambda signed: signed["roles"]["root"].update(keyids=2 * signed["roles"]["root"]["keyids"][:1])
     yield "a key twice", "a Root that lists one of its keys twice, and isn't signed by the other", no, it.root(twice, second[:1] + first), {}
+    yield "a key twice", "a Root that lists one key under two names", no, two_names(it, second, first), {}
     yield "rollback", "a Root of a later version in its place", no, it.root(members(version=3), by_both), {}
     yield "rollback", "a Root of version 1 in its place", no, it.root(members(version=1), by_both), {}
     yield "arbitrary software", "the Image repository's Root in its place", no, it.root(members(repository="image"), by_both), {}
     yield "arbitrary software", "a file of another type in its place", no, it.root(members(type="targets"), by_both), {}
     yield "freeze", "the new Root has expired", no, it.root(members(expires=moment(NOW)), by_both), {}
+
+
+def two_names(it, own, before):
+    """The second Root whose root keys are one key and that key under another name, signed under both names and by the Root before."""
+    other, name = 64 * "0", key_identifier(bytes.fromhex(public(own[0])))
+
+    def change(signed):
+        signed["keys"][other] = signed["keys"][name]
+        signed["roles"]["root"]["keyids"] = [name, other]
+
+    made = json.loads(it.root(change, own[:1] + before)["director/2.root.json"])
+    made["signatures"].insert(1, made["signatures"][0] | {"keyid": other})
+    return {"director/2.root.json": canonical(made)}
 
 
 VEHICLE = {
@@ -593,26 +616,38 @@ def by_name(name, values):
     return ' "%s": {\n%s\n }' % (name, ",\n".join("  %s: %s" % (json.dumps(it), json.dumps(value)) for it, value in values.items()))
 
 
-def files():
-    method = member("method", METHOD)
-    yield "canonical_texts.json", text("texts of JSON values, each with its canonical text or the refusal of a value that has none", listed("cases", canonical_texts()))
-    yield "key_identifiers.json", text("public parts of keys, and the identifiers of these keys", listed("cases", key_identifiers()))
-    yield "signatures_hmac.json", text(
-        "tags, and envelopes round one payload: whether the key signed, or the refusal of one of another form", method,
-        member("key", key(0xA4)), listed("setup", SETUP), listed("tags", tags()), listed("cases", signatures()))
-    yield "signatures_ed25519.json", text(
-        "secrets, public keys and signatures by RFC 8032, and whether a signature of data is this key's", member("method", "ed25519"),
-        listed("tags", ed25519_tags()), listed("cases", ed25519_cases()))
-    yield "manifests.json", text("bodies that are delivered one after another once the lines of setup were carried out, and how each is answered",
-                                 method, member("at", NOW), listed("setup", SETUP), listed("cases", delivered()))
-    yield "replies.json", text("manifests that are accepted one after another, each after its lines, and the replies to them",
-                               method, member("at", NOW), listed("setup", SETUP), listed("cases", replies()))
-    made = bases()
-    known = VEHICLE | {"role_keys": {keyid(bytes.fromhex(it)): it for keys in (FIRST, SECOND) for roles in keys.values() for role in roles.values() for it in role["keys"]}}
-    yield "chains.json", text(
-        "what a vehicle gets, and whether it may install what the reply assigns", method, member("now", NOW), member("vehicle", known), member("installs", INSTALLS),
+def shared():
+    """The files that are the same whatever the scheme."""
+    yield SHARED[0], text("texts of JSON values, each with its canonical text or the refusal of a value that has none", listed("cases", canonical_texts()))
+    yield SHARED[1], text("public parts of keys, and the identifiers of these keys", listed("cases", key_identifiers()))
+
+
+def known_keys():
+    """The repositories' keys by identifier, where the vehicle can't have them from the Root files."""
+    secrets = {it for keys in (FIRST, SECOND) for roles in keys.values() for role in roles.values() for it in role["keys"]}
+    return {key_identifier(bytes.fromhex(it)): it for it in sorted(secrets)} if SCHEME is HmacSha256 else {}
+
+
+def of_the_scheme():
+    method, setup, made = member("method", METHOD), listed("setup", SETUP), bases()
+    contained = [text(
+        "signatures, and envelopes round one payload: whether the key signed, or the refusal of one of another form", method, member("key", public(key(0xA4))),
+        setup, listed("signatures", signatures()), listed("envelopes", envelopes()), *([listed("encodings", encodings())] if SCHEME is Ed25519 else []))]
+    contained.append(text("bodies that are delivered one after another once the lines of setup were run, and how each is answered",
+                          method, member("at", NOW), setup, listed("cases", delivered())))
+    contained.append(text("manifests that are accepted one after another, each after its lines, and the replies to them",
+                          method, member("at", NOW), setup, listed("cases", replies())))
+    contained.append(text(
+        "what a vehicle receives, and whether it may install what the reply assigns", method, member("now", NOW),
+        member("vehicle", VEHICLE | {"role_keys": known_keys()}), member("installs", INSTALLS),
         *(part for name, it in made.items() for part in (listed("lines of " + name, it.lines), by_name("files of " + name, it.files))),
-        listed("cases", chains()), listed("contents", contents()))
+        listed("cases", chains()), listed("contents", contents())))
+    return [("%s/%s" % (METHOD, name), it) for name, it in zip(OF_A_SCHEME, contained, strict=True)]
+
+
+def names():
+    """All files of the folder."""
+    return {*SHARED, *("%s/%s" % (it.method, name) for it in (HmacSha256, Ed25519) for name in OF_A_SCHEME)}
 
 
 def main(words):
@@ -620,13 +655,17 @@ def main(words):
         print(__doc__)
         return 0 if {"-h", "--help"} & {*words} else 2
     differing = 0
-    for name, made in files():
+    for name, made in [*(shared() if SCHEME is HmacSha256 else []), *of_the_scheme()]:
         path = FOLDER / name
         if words and not (path.is_file() and path.read_text(encoding="ascii") == made):
             differing += 1
-            print("%s differs" % path.name)
+            print("%s differs" % name)
         elif not words:
+            path.parent.mkdir(exist_ok=True)
             path.write_text(made, encoding="ascii")
+    if SCHEME is HmacSha256:
+        ran = subprocess.run([sys.executable, __file__, *words], env=os.environ | {"SCHEME": Ed25519.method}, check=False)
+        differing += ran.returncode != 0
     return 1 if differing else 0
 
 

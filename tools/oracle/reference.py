@@ -7,11 +7,12 @@
 FILE is `:memory:`, or is made where it isn't there. What the product prints and keeps is compared with this program, and whoever
 writes a Primary can try it here, without the kit that builds the product. It needs Python's standard library alone.
 
+The scheme is HMAC-SHA-256, or Ed25519 where the environment has SCHEME=ed25519.
+
 Its limits: it is slow; what outlasts a crash is what Python's `sqlite3` keeps by default; a script's lines have no limit, nor has
 their number; refusals 1 and 2 never come. The tables are those of `docs/use/TABLES.md`; those of an older schema are raised.
 """
 import hashlib
-import hmac
 import json
 import os
 import re
@@ -27,12 +28,13 @@ sys.path += map(str, Path(__file__).resolve().parents[1].iterdir())
 from formats import COUNT, FILE, HASH, IDENT, KEY, KEYID, LAST_AT, LAST_MOMENT, LIST, METHODS, MOST, NOTE, OBJECT, REPOSITORIES, ROLES, SECOND_HASH, SIG
 from formats import canonical, is_count, text, value_of
 from statements import LACKS, SCHEMA, schema, table_of
+from schemes import TRIED as SCHEME, key_identifier
 
 DAYS = {
     "director": {"root": 365, "targets": 7, "snapshot": 7, "timestamp": 7},
     "image": {"root": 365, "targets": 90, "snapshot": 30, "timestamp": 1},
 }
-METHOD = "hmac-sha256"
+METHOD = SCHEME.method
 NAMES = dict(enumerate(
     """Memory Store MomentOutOfRange TooLarge NotJson NotCanonical BadShape NotFounded AlreadyFounded
     UnknownVehicle WrongPrimary BadManifestSignature Stale UnknownEcu DuplicateEcu MissingEcu
@@ -119,22 +121,19 @@ def hashes(told):
 # ---- signatures
 
 
-def mac(key, words):
-    return hmac.new(key, words.encode(), hashlib.sha256).hexdigest()
+def signature(secret, signed):
+    """The signature of a canonical text, as an envelope has it."""
+    sig = SCHEME.sign(secret, signed.encode()).hex()
+    return canonical({"keyid": key_identifier(SCHEME.public_of(secret)), "method": METHOD, "sig": sig})
 
 
-def keyid(key):
-    return mac(key, "uptane-key-id")
+def sealed(secrets, signed):
+    return '{"signatures":[%s],"signed":%s}' % (",".join(signature(it, signed) for it in secrets), signed)
 
 
-def sealed(keys, signed):
-    made = ",".join(canonical({"keyid": keyid(k), "method": METHOD, "sig": mac(k, signed)}) for k in keys)
-    return '{"signatures":[%s],"signed":%s}' % (made, signed)
-
-
-def is_signed(envelope, key):
-    wanted, signed = keyid(key), canonical(envelope["signed"])
-    return any(s["keyid"] == wanted and s["method"] == METHOD and s["sig"].lower() == mac(key, signed)
+def is_signed(envelope, public):
+    wanted, signed = key_identifier(public), canonical(envelope["signed"]).encode()
+    return any(s["keyid"] == wanted and s["method"] == METHOD and SCHEME.verify(public, signed, bytes.fromhex(s["sig"]))
                for s in envelope["signatures"])
 
 
@@ -407,10 +406,11 @@ class Desk:
             signers += [k for k in before if k not in signers]
             payload = {"expires": moment(at + 86400 * 365), "repository": repository}
             payload |= {"type": "root", "version": root}
-            every = [k for role in ROLES for k in keys[repository][role][0]]
-            payload["keys"] = {keyid(k): {"method": METHOD, "public": ""} for k in every}
-            payload["roles"] = {role: {"keyids": [keyid(k) for k in keys[repository][role][0]],
-                                       "threshold": keys[repository][role][1]} for role in ROLES}
+            publics = {role: list(map(SCHEME.public_of, keys[repository][role][0])) for role in ROLES}
+            every = [public for role in ROLES for public in publics[role]]
+            payload["keys"] = {key_identifier(it): {"method": METHOD, "public": SCHEME.shown(it)} for it in every}
+            payload["roles"] = {role: {"keyids": list(map(key_identifier, publics[role])), "threshold": keys[repository][role][1]}
+                                for role in ROLES}
             body = sealed(signers, canonical(payload))
             self.put_file(repository, "%d.root.json" % root, body)
             self.put_file(repository, "root.json", body)

@@ -7,6 +7,7 @@ Nothing is missing that there has to be; each script prints what stands beside i
 computed from the formats; the crates that carry rows out have just these; the small Primary builds and checks what its page shows.
 """
 import contextlib
+import os
 import re
 import shlex
 import socket
@@ -22,6 +23,7 @@ import collect_rows
 import expected_files
 import http_cases
 import row_texts
+import translated
 import trials
 
 EXAMPLES, ROWS = trials.TOP / "examples", trials.TOP / "rows"
@@ -50,6 +52,16 @@ def scripts():
             yield "%s, by the rules" % script.parent.relative_to(trials.TOP), trials.expected(":memory:", read(script).split("\n")) == wanted
 
 
+def scripts_under_ed25519():
+    """Each of them under Ed25519, as it stands or translated."""
+    for script in sorted([*EXAMPLES.glob("*/script"), *ROWS.glob("*/script")]):
+        lines, wanted = translated.under(script.parent, "ed25519")
+        words, scheme = [sys.executable, REFERENCE, "run", ":memory:"], os.environ | {"SCHEME": "ed25519"}
+        done = subprocess.run(words, input="\n".join(lines).encode(), capture_output=True, check=False, env=scheme)
+        name = "%s under Ed25519, by the rules" % script.parent.relative_to(trials.TOP)
+        yield name, translated.are_as(wanted, done.stdout.decode("ascii").split("\n")[:-1])
+
+
 def texts():
     """The texts of the rows are those of the formats, and the crate that carries the rows out has them all."""
     yield "the crate's rows are those of rows/", not collect_rows.differing(CARRIES)
@@ -76,7 +88,7 @@ def served(path):
         it.bind(("127.0.0.1", 0))
         port = it.getsockname()[1]
     words = [sys.executable, REFERENCE, "serve", path, str(port)]
-    with subprocess.Popen(words, stderr=subprocess.DEVNULL) as running:
+    with subprocess.Popen(words, stdout=subprocess.DEVNULL, stderr=subprocess.DEVNULL) as running:
         try:
             for _ in range(100):
                 with contextlib.suppress(OSError), socket.create_connection(("127.0.0.1", port), 1):
@@ -104,6 +116,7 @@ def cases():
     yield from ((gap, False) for gap in gaps)
     yield "nothing is missing", not gaps
     yield from scripts()
+    yield from scripts_under_ed25519()
     yield from texts()
     for rows, *words in COMPUTED:
         yield "answers that the rows of %s want" % rows, ran(trials.TOP / "tools" / words[0], *words[1:])[0] == 0

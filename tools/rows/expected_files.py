@@ -11,9 +11,11 @@ import row_texts
 
 TOP = Path(__file__).resolve().parents[2]
 EXAMPLE = {"README.md", "script", "printed"}
-PRIMARY = {"primary.py", "envelopes.py", "verify.py", "director-secrets.json", "manifest-input.json", "manifest.json", "reply.json", "vehicle.json"}
-SERVICE = {"README.md", "nginx.conf", "haproxy.cfg", "uptane-desk.service", "uptane-desk-refresh.service", "uptane-desk-refresh.timer", "refresh.sh", "several"}
-SEVERAL = {"nginx.conf", "haproxy.cfg", "uptane-desk@.service"}
+PRIMARY = {"primary.py", "envelopes.py", "verify.py", "director-secrets.json", "manifest-input.json", "manifest.json", "reply.json", "vehicle.json", "ed25519"}
+ED25519 = {"director-root.json", "manifest-input.json", "manifest.json", "reply.json", "vehicle.json"}
+SERVICE = {"README.md", "nginx.conf", "haproxy.cfg", "settings", "apply.sh", "backup.sh", "listening.sh", "setup.sh", "several", "alerts"}
+SERVICE |= {"uptane-desk%s" % it for it in (".service", "-refresh.service", "-refresh.timer", "-backup.service", "-backup.timer", "-failed@.service")}
+SEVERAL, ALERTS = {"nginx.conf", "haproxy.cfg", "uptane-desk@.service"}, {"uptane.yml", "uptane_test.yml"}
 ROW = {"script", "printed"}
 
 
@@ -69,8 +71,10 @@ def gaps():
     examples, rows = TOP / "examples", TOP / "rows"
     yield from apart("examples", listed(examples / "README.md"), folders(examples))
     for name in sorted(folders(examples)):
-        yield from apart("examples/" + name, {"primary": PRIMARY, "service": SERVICE}.get(name, EXAMPLE), names(examples / name))
+        yield from apart("examples/" + name, {"primary": PRIMARY, "primary_node": {"primary.mjs"}, "service": SERVICE}.get(name, EXAMPLE), names(examples / name) - {"under"})
+    yield from apart("examples/primary/ed25519", ED25519, names(examples / "primary" / "ed25519"))
     yield from apart("examples/service/several", SEVERAL, names(examples / "service" / "several"))
+    yield from apart("examples/service/alerts", ALERTS, names(examples / "service" / "alerts"))
     yield from apart("rows", listed(rows / "README.md") | set(row_texts.REPLIES) | set(row_texts.FILES), folders(rows))
     for name in sorted(folders(rows)):
         yield from row_gaps(rows / name)

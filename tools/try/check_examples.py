@@ -5,6 +5,8 @@ as the page for integrators shows. What needs no program is compared by `tools/r
     check_examples.py PROGRAM [ROWS]    PROGRAM is uptane_desk, ROWS the program of the crate that carries the rows out, which is
                                         given the page's reply, and a changed one, too
 
+With SCHEME=ed25519 the program is uptane_desk_ed25519, and scripts that aren't of that scheme are translated to it.
+
 promise: script-ends
 """
 import subprocess
@@ -14,8 +16,11 @@ from pathlib import Path
 sys.dont_write_bytecode = True
 sys.path += map(str, Path(__file__).resolve().parents[1].iterdir())
 
+import fleet
 import program_cases
+import reference
 import trials
+import translated
 from check_rows import EXAMPLES, PRIMARY, ROWS, ran, read
 
 
@@ -27,15 +32,16 @@ def printed(program, script, path=":memory:"):
 
 
 def scripts(program):
-    """Each script over memory and over a new file, but those under a scheme that the program hasn't."""
+    """Each script over memory and over a new file: under the scheme that is tried as it stands, or translated to it. HMAC stands in
+    for no other."""
     for script in sorted([*EXAMPLES.glob("*/script"), *ROWS.glob("*/script")]):
-        folder = script.parent
-        if not (folder / "under").exists():
-            name, wanted = str(folder.relative_to(trials.TOP)), read(folder / "printed")
-            yield name, printed(program, read(script)) == wanted
-            with trials.folder() as own:
-                over_file = printed(program, read(script), own / "desk") == wanted
-                yield name + " over a file", over_file and trials.faults(own / "desk") == []
+        if reference.METHOD == "hmac-sha256" and (script.parent / "under").exists():
+            continue
+        name, (lines, wanted) = str(script.parent.relative_to(trials.TOP)), translated.under(script.parent, reference.METHOD)
+        yield name, translated.are_as(wanted, trials.printed(program, ":memory:", lines))
+        with trials.folder() as own:
+            over_file = translated.are_as(wanted, trials.printed(program, own / "desk", lines))
+            yield name + " over a file", over_file and trials.faults(own / "desk") == []
 
 
 def limits(program):
@@ -79,6 +85,23 @@ def primaries(program, rows):
         yield "the desk doesn't answer a changed reply", differs == [True, True]
 
 
+def primary_of_ed25519(program):
+    """The Primary's messages under Ed25519 are what the program takes and answers."""
+    folder = PRIMARY / "ed25519"
+    given, body, reply, root = (read(folder / name) for name in ("manifest-input.json", "manifest.json", "reply.json", "director-root.json"))
+    tool, broken = PRIMARY / "primary.py", reply.replace('"version":1}', '"version":2}', 1)
+    yield "the Primary builds the manifest that the page shows", ran(tool, "build", given=given) == (0, body)
+    yield "the Primary checks the reply that the page shows", ran(tool, "check", folder / "director-root.json", given=reply)[0] == 0
+    yield "the Primary refuses a changed reply", broken != reply and ran(tool, "check", folder / "director-root.json", given=broken)[0] == 1
+    first = read(EXAMPLES / "first_path_ed25519" / "script").split("\n")
+    script = [*first[:2], ran(tool, "line", "1767225600", given=given)[1].strip(), first[2], fleet.line("fetch", repository="director", file="root.json")]
+    with trials.folder() as own:
+        wanted = ["done", "done", *2 * ["reply V1 version 1 targets 0"], "file " + root.strip()]
+        yield "the program takes it as the bench line's", trials.printed(program, own / "desk", script) == wanted
+        with trials.read(own / "desk") as db:
+            yield "the program answers the reply that the page shows", db.execute("SELECT reply FROM kept").fetchall() == [(reply.strip(),)]
+
+
 def cases(program, rows):
     missing = [it for it in (program, rows) if it and not Path(it).is_file()]
     yield from (("%s is built" % it, False) for it in missing)
@@ -86,7 +109,7 @@ def cases(program, rows):
         yield from scripts(program)
         yield from program_cases.cases(program)
         yield from limits(program)
-        yield from primaries(program, rows)
+        yield from primaries(program, rows) if reference.METHOD == "hmac-sha256" else primary_of_ed25519(program)
 
 
 if __name__ == "__main__":

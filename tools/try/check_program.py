@@ -4,6 +4,7 @@
     check_program.py PROGRAM [WORD]
     check_program.py PROGRAM quick     runs a part, of some minutes, that needs no proxy and no C compiler
 
+The program is that of the scheme that the environment names (`SCHEME=ed25519`), or of HMAC.
 Random scripts and requests are those of a hundred seeds, random bodies of ten. Each tool has fifteen minutes, many times what it
 takes on a machine with nothing else to do. Where there is a WORD it draws a part of the sweeps of `tools/try/sweeps.py`, some ten
 seconds of each kind; they need a C compiler.
@@ -24,9 +25,9 @@ TRIED = [("try/file_cases.py",), ("try/fuzz.py", "1", "50"), ("try/fuzz.py", "51
          ("try/fuzz.py", "bodies", "1", "10"), ("try/each_line.py",), ("try/damaged_rows.py",), ("try/tables.py",)]
 # what operators and integrators use
 TRIED += [("try/copy_cases.py", "2"), ("try/primary_cases.py",), ("try/operator_cases.py",), ("try/scale_cases.py",),
-          ("try/large_cases.py",), ("try/vector_cases.py",)]
+          ("try/large_cases.py",), ("try/vector_cases.py",), ("try/upkeep_cases.py",)]
 QUICK = [("try/fuzz.py", "1", "5"), ("try/fuzz_http.py", "1", "5"), ("try/fuzz.py", "bodies", "1", "1"), ("try/each_line.py",),
-         ("try/tables.py",), ("try/primary_cases.py",), ("try/operator_cases.py",), ("try/vector_cases.py",)]
+         ("try/tables.py",), ("try/primary_cases.py",), ("try/operator_cases.py",), ("try/vector_cases.py",), ("try/upkeep_cases.py",)]
 # every so manieth call of a kind
 SWEPT = {"memory": "997", "disk": "31", "reading": "211", "http": "199"}
 

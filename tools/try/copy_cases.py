@@ -14,6 +14,7 @@ import contextlib
 import io
 import os
 import re
+import shutil
 import sqlite3
 import subprocess
 import sys
@@ -134,6 +135,41 @@ def taking(program, own):
         yield "a client that takes nothing meanwhile", well and http_cases.ended(running)
 
 
+@contextlib.contextmanager
+def that_clones(own):
+    """A folder on a filesystem that can clone files, made in a file; none where this machine makes or mounts none."""
+    folder, image = own / "clones", own / "clones.img"
+    folder.mkdir()
+    with open(image, "wb") as file:
+        file.truncate(320 << 20)
+    ran = lambda *words: shutil.which(words[0]) and subprocess.run(words, capture_output=True, check=False).returncode == 0
+    made = ran("mkfs.xfs", "-q", str(image)) or ran("mkfs.btrfs", "-q", str(image))
+    if not (made and ran("mount", "-o", "loop", str(image), str(folder))):
+        yield None
+        return
+    try:
+        yield folder
+    finally:
+        subprocess.run(["umount", str(folder)], check=True)
+
+
+def cloned(program, own):
+    """Where the filesystem can, the copy is a clone; the tool says so, and where it can't, how long the program stood still."""
+    with that_clones(own) as folder:
+        for to in filter(None, (own, folder)):
+            path = to / "served"
+            trials.printed(program, path, http_cases.FIRST_PATH)
+            with http_cases.served(program, path, 1) as running:
+                ran = subprocess.run([sys.executable, copy_served.__file__, str(running.pid), str(path), str(to / "copy")], capture_output=True, check=False)
+                running.kill()
+            how = rb"cloned|copied, since the filesystem can't clone it there" if to == own else b"cloned"
+            told = re.fullmatch(rb"(\d+) bytes (%s); the program stood still for (\d\.\d{3}) seconds\n" % how, ran.stdout)
+            well = told and int(told[1]) == path.stat().st_size and float(told[3]) < 5 and trials.rows(to / "copy") == trials.rows(path)
+            yield "a copy" if to == own else "a copy that is a clone", ran.returncode == 0 and bool(well)
+        if not folder:
+            print("no filesystem that clones can be mounted here, so no clone is tried")
+
+
 def refused(program, own):
     """What can't be copied, and what gets no sums, stays as it was."""
     path = own / "refused"
@@ -143,7 +179,7 @@ def refused(program, own):
         tried = [(running.pid, path, own / "there"), (running.pid, own / "there", own / "new"), (os.getpid(), path, own / "new"),
                  (running.pid, path, own / "missing" / "new")]
         with contextlib.redirect_stderr(io.StringIO()):
-            told = [copy_served.main(str(pid), str(file), str(to), False) for pid, file, to in tried]
+            told = [copy_served.main(pid, str(file), str(to), False) for pid, file, to in tried]
         made = (own / "there").read_bytes() != b"there" or (own / "new").exists()
         yield "copies that are refused", told == [1, 1, 1, 1] and not made and http_cases.told(running, b"") == b""
     with closing(sqlite3.connect(own / "another product's meta")) as db, db:
@@ -165,6 +201,7 @@ def cases(program, copies=6, number=2000):
         yield from under_load(program, own, copies, number)
         yield from waiting(program, own)
         yield from taking(program, own)
+        yield from cloned(program, own)
         yield from refused(program, own)
 
 

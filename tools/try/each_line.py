@@ -27,7 +27,9 @@ sys.path += map(str, Path(__file__).resolve().parents[1].iterdir())
 
 import http_cases
 import reference
+import translated
 import trials
+from schemes import HmacSha256
 
 TOP = Path(__file__).resolve().parents[2]
 ROWS = TOP / "rows" / "each_answer"
@@ -156,6 +158,30 @@ class Desk(reference.Desk):
         return "".join(short(self.body(body)) for body in bodies(text)) or "no hex"
 
 
+# ---- another scheme
+
+
+def text_under(translation, text):
+    """What is given, under another scheme."""
+    word, _, rest = text.partition(" ")
+    if word in ("body", "cuts"):
+        return "%s %s" % (word, translation.body(rest))
+    if word == "times":
+        return "times %s %s" % (rest.split(" ")[0], translation.line(rest.partition(" ")[2]))
+    return text if word in ("line", "bytes") else translation.line(text)
+
+
+def rows_under(rows):
+    """The rows under the scheme that is tried, with what the rules want then: but for digests that is the same."""
+    lines = [line for _, text, _ in rows if text for line in script(text) if isinstance(line, str)]
+    translation, desk, made = translated.Translation(lines, HmacSha256, reference.SCHEME), Desk(), []
+    for given, text, wanted in rows:
+        under = text and text_under(translation, text)
+        made.append((given, under, wanted if text is None else desk.told(under)))
+    plain = lambda it: None if it is None or it.startswith("file ") else without_digest(it)
+    return made, [plain(it) for _, _, it in rows] == [plain(it) for _, _, it in made]
+
+
 # ---- the program
 
 
@@ -218,6 +244,9 @@ def cases(program):
         if words == WRONG:
             yield "a row that is wrong on purpose is seen", not by_script(program, rows)
             continue
+        if reference.METHOD != HmacSha256.method:
+            rows, same = rows_under(rows)
+            yield words + ", by the rules as under HMAC", same
         lost = any(re.search(r"refused [12] ", wanted) for _, text, wanted in rows if text)
         yield words + ", by script", by_script(program, rows) and not lost
         with trials.folder() as folder:

@@ -33,6 +33,7 @@ import fleet
 import reference
 import schemas
 import statements
+import translated
 import trials
 
 DAY = list(fleet.script(vehicles=5, ecus=3, rounds=3, images=6, campaigns=2, seed=4))
@@ -172,7 +173,7 @@ def flipped(program, own):
 def operated(program, own):
     """The operator's first days, a start of the program for each part of the script, over one file and its copies."""
     folder, path, told = trials.TOP / "examples" / "operating", own / "operated", []
-    parts = (folder / "script").read_text(encoding="ascii").split("\n\n")
+    parts = "\n".join(translated.under(folder, reference.METHOD)[0]).split("\n\n")
     for part in parts:
         answers = trials.printed(program, path, part.split("\n"))
         told += answers or ["no answer"]
@@ -188,6 +189,46 @@ def operated(program, own):
         asked = [query for query in re.findall(r"^    (SELECT .*?)\n\n", page, re.S | re.M) if "AS attack" in query]
         found = [(ecu, attack) for query in asked for _, ecu, attack in db.execute(query)]
     yield "and a query that tells the attacks", sorted(found) == attacks != []
+
+
+def other_scheme(program, own):
+    """A file whose keys are of the other program's scheme is refused: it stays as it is, and so do the commits in its log, also where
+    that alone has the keys, and where the schema is an older one. One in which nothing is founded has no keys."""
+    method = {"hmac-sha256": "ed25519", "ed25519": "hmac-sha256"}[reference.METHOD]
+    asked = [sys.executable, trials.TOP / "tools" / "oracle" / "reference.py", "run"]
+
+    def made(path, lines):
+        given, told = "\n".join(lines).encode(), os.environ | {"SCHEME": method}
+        subprocess.run([*asked, path], input=given, capture_output=True, check=True, env=told)
+        return path
+
+    def in_log(path, founded):
+        """A file in which nothing is founded, and a log that has the rows of another."""
+        copy = own / "in a log"
+        with closing(sqlite3.connect(path)) as db:
+            db.execute("PRAGMA journal_mode = WAL")
+            db.execute("ATTACH ? AS other", (str(founded),))
+            for table in trials.TABLES:
+                db.execute("DELETE FROM main." + table)
+                db.execute("INSERT INTO main.%s SELECT * FROM other.%s" % (table, table))
+            db.commit()
+            return trials.copied(path, copy)
+
+    def stays(path):
+        """Each open puts the head of a log where there is none, or one of 41 bytes without a commit."""
+        log = lambda: trials.log_of(path).read_bytes() if trials.log_of(path).exists() else b""
+        file, held = path.read_bytes(), log()
+        told = trials.run(program, path, DAY[:1])
+        kept = log().startswith(held) if len(held) > 41 else len(log()) == 41
+        return told == (3, b"", trials.NO_DATABASE) and path.read_bytes() == file and kept
+
+    founded, bare = made(own / "founded", DAY[:1]), made(own / "bare", [])
+    yield "a file of the other scheme is refused", stays(founded)
+    yield "one whose keys are in its log", stays(in_log(made(own / "to log", []), founded))
+    for older in statements.LACKS:
+        if older != statements.SCHEMA:
+            yield "one of schema %d" % older, stays(schemas.written(founded, own / ("schema %d" % older), older))
+    yield "where nothing is founded it is taken", trials.printed(program, bare, DAY[:1]) == ["done"]
 
 
 # ---- kills
@@ -323,7 +364,7 @@ def raises(program, number):
 
 
 def cases(program, number=100):
-    for part in (modes, seconds, rests, operated, flipped):
+    for part in (modes, seconds, rests, operated, other_scheme, flipped):
         with trials.folder() as own:
             yield from part(program, own)
     yield from raises(program, number // 5)

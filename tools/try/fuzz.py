@@ -24,7 +24,7 @@ sys.path += map(str, Path(__file__).resolve().parents[1].iterdir())
 
 import fleet
 import trials
-from reference import METHOD, Refused, canonical, depth, is_plain, keyid, mac, moment, read_json
+from reference import Refused, canonical, depth, is_plain, moment, read_json, signature
 
 START = fleet.START
 MOST = 2**53 - 1
@@ -399,8 +399,7 @@ def sealed(key, signed):
         words = canonical(value) if is_plain(value) and depth(value) <= 16 else signed
     except Refused:
         words = signed
-    key = bytes.fromhex(key)
-    return '{"signatures":[%s],"signed":%s}' % (canonical({"keyid": keyid(key), "method": METHOD, "sig": mac(key, words)}), signed)
+    return '{"signatures":[%s],"signed":%s}' % (signature(bytes.fromhex(key), words), signed)
 
 
 def spelled(rng, text, pattern, spell):

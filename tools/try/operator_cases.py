@@ -4,12 +4,15 @@ and the queries and idioms of `docs/use/OPERATING.md`.
 
     operator_cases.py PROGRAM
 """
+import base64
+import itertools
 import json
 import re
 import sqlite3
 import subprocess
 import sys
 from contextlib import closing
+from datetime import datetime, timezone
 from pathlib import Path
 
 sys.dont_write_bytecode = True
@@ -17,7 +20,7 @@ sys.path += map(str, Path(__file__).resolve().parents[1].iterdir())
 
 import check_script
 import fleet
-import fleet_page
+import fleet_tables
 import http_cases
 import page_sums
 import reference
@@ -85,6 +88,7 @@ def makers(program, own):
     yield "a refresh by either way", by_file == by_url and json.loads(by_file[1][0])["version"] == 5
     yield "the program takes it once", trials.printed(program, path, 2 * by_file[1]) == ["done", "refused 28 VersionNotGreater"]
     yield from refusals(own, first, at)
+    yield from openssl_keys(own, at)
 
 
 def replaced(program, path, own, at):
@@ -101,6 +105,39 @@ def replaced(program, path, own, at):
     yield "the new one stands in its place", [row[0::2] for row in now] == [("P1", "HP"), ("S3", "HS")] and gone == [("S1", "V1")]
     words[3] = "S1"
     yield "not by itself", made(*words)[:2] == (1, [])
+
+
+def pem(kind, data):
+    return "-----BEGIN %s KEY-----\n%s\n-----END %s KEY-----\n" % (kind, base64.b64encode(data).decode(), kind)
+
+
+def openssl_keys(own, at):
+    """Keys as OpenSSL writes those of RFC 8410's example (section 10.3)."""
+    secret = bytes.fromhex("d4ee72dbf913584ad5b6d8f1f769f8ad3afe7c28cbf1d4fbe097a88f44755842")
+    public = bytes.fromhex("19bf44096984cdfe8541bac167dc3b96c85086aa30b6b6cb0c5c38ad703166e1")
+    private_text = pem("PRIVATE", bytes.fromhex("302e020100300506032b657004220420") + secret)
+    public_text = pem("PUBLIC", bytes.fromhex("302a300506032b6570032100") + public)
+    keys = key_files(own / "pem", 150)
+    role, ecu = keys / "image-root-1.key", own / "ecu.key"
+
+    def asked(path, text, *words):
+        path.write_text(text, encoding="ascii")
+        path.chmod(0o644 if path is ecu else 0o600)
+        status, lines, err = made(*words, *at)
+        return status, lines[0].count(secret.hex()) + 2 * lines[0].count(public.hex()) if lines else 0, err
+
+    table = own / "pem.csv"
+    table.write_text("vehicle,ecu,hardware,primary,keyfile\nV9,P9,HP,yes,ecu.key\n", encoding="ascii")
+    found, vehicle = ("found", keys), ("add_vehicle", table)
+    other = ("replace_ecu", "V9", "P9", "Q9", "--hardware", "HP", "--key", ecu)
+    yield "a role's secret that OpenSSL wrote", asked(role, private_text, *found) == (0, 1, "")
+    yield "an ECU's public key that OpenSSL wrote", asked(ecu, public_text, *vehicle) == asked(ecu, public_text, *other) == (0, 2, "")
+    refused = lambda told, words: told[:2] == (1, 0) and told[2].endswith(words + "\n")
+    yield "no private key in the inventory", all(refused(asked(ecu, private_text, *it), "a private key, where a public one is asked") for it in (vehicle, other))
+    yield "no public key for a role", refused(asked(role, public_text, *found), "a public key, where a private one is asked")
+    longer = pem("PRIVATE", bytes.fromhex("302e020100300506032b657004220420") + secret + b"0")
+    yield "no key of another kind", all(refused(asked(role, it, *found), "no Ed25519 key") for it in (longer, private_text.replace("MC4C", "MC4D")))
+    yield "no key under a password", refused(asked(role, private_text.replace("PRIVATE", "ENCRYPTED PRIVATE"), *found), "without a password")
 
 
 def refusals(own, keys, at):
@@ -356,7 +393,7 @@ def data_of(page):
 
 def pages(program, own):
     path = own / "fleet"
-    lines = list(fleet.script(vehicles=10, ecus=4, rounds=3, second_hashes=0.7))
+    lines = list(fleet.script(vehicles=10, ecus=4, rounds=3, second_hashes=0.7, replaced=0.2))
     lines += unlike(lines)
     lines.append(fleet.line("add_vehicle", vehicle="new", primary="n", ecus=[{"ecu": "n", "hardware": "HP", "key": fleet.key(9)}]))
     attack = {"ecu": "n", "key": fleet.key(9), "counter": 1, "time": NOW, "attack": "</script><b>&", **fleet.FACTORY}
@@ -368,22 +405,58 @@ def pages(program, own):
     with trials.read(path) as db:
         left = dict(db.execute(query("use/TABLES.md", "SELECT campaign.name, count(ecu.ecu)")))
         secrets = [row[0].hex() for row in db.execute("SELECT secret FROM role_key UNION SELECT public_key FROM ecu")]
-    with fleet_page.opened(path) as db:
-        schema = fleet_page.meta_of(db)["schema"]
-        images = fleet_page.registered(db, schema)
-        vehicles = fleet_page.vehicles_of(db, fleet_page.ecus_of(db, images, schema))
-        far = {it["name"]: it["ecus"] - it["done"] for it in fleet_page.campaigns_of(db, images, vehicles) if it["running"]}
+    with fleet_tables.opened(path) as db:
+        schema = fleet_tables.meta_of(db)["schema"]
+        images = fleet_tables.registered(db, schema)
+        vehicles = fleet_tables.vehicles_of(db, fleet_tables.ecus_of(db, images, schema))
+        campaigns = fleet_tables.campaigns_of(db, images, vehicles)
+        far = {it["name"]: it["ecus"] - it["done"] for it in campaigns if it["running"]}
+        its = {it["name"]: vehicles if it["all"] else [one for one in vehicles if one["vehicle"] in it["reached"]] for it in campaigns}
+        began = {it["name"]: fleet_tables.taken_up(db, it, images, its[it["name"]]) for it in campaigns}
+        gone = [(it["vehicle"], it["ecu"], it["version"]) for it in fleet_tables.replaced_of(db, schema)]
     yield "campaigns are as far as the query says", far == left and len(far) == 5
+    places = {it[0]: at for at, it in enumerate(packed["vehicles"])}
+    listed = {name.removeprefix("left "): its for name, its in packed["sets"].items() if name.startswith("left ")}
+    yield "each campaign leads to the vehicles that are left", listed == {it["name"]: [places[name] for name in it["left"]] for it in campaigns if it["left"]} and listed
+    told, offers = histories(path), {it["name"]: {one["hardware"]: one["file"] for one in it["items"]} for it in campaigns}
+    first = {it["name"]: sorted(begun(told[ecu["ecu"]], ecu["file"]) for _, ecu, has in fleet_tables.moves_of(it, images, its[it["name"]])
+             if has and ecu["file"] == offers[it["name"]][ecu["hardware"]]) for it in campaigns}
+    yield "ECUs began to report an image when their manifests first had it", began == first and len(set(sum(began.values(), []))) > 1
+    with trials.read(path) as db:
+        wanted = db.execute(query("use/TABLES.md", "SELECT retired.vehicle, retired.ecu, max(version)")).fetchall()
+    yield "replaced ECUs are those of the query", sorted(gone) == sorted(wanted) and len(gone) > 1 and all(it[1] in made for it in gone)
+    yield "each table can be saved", re.findall('data-csv="([a-z]+)"', made)[:3] == ["campaigns", "files", "releases"]
+    yield "the page is as of the newest manifest", "as of %s UTC" % date_of(max(it["seen"] or 0 for it in vehicles)) in made
     yield "no secret is on the page", secrets and not any(secret in made for secret in secrets)
     trials.printed(program, path, [fleet.line("bench", vehicle="new", primary="n", key=fleet.key(9), counter=1, reports=[attack])])
     made = page_of(path)
     yield "an attack's note is text", "<b>&" not in made and data_of(made)["vehicles"][0][4][0][4] == "</script><b>&"
-    yield "expired files are told", "expired 29 days ago" in page_of(path, NOW + 30 * 86400 + 5) and ">301<" not in made
+    late = page_of(path, NOW + 30 * 86400 + 5)
+    yield "expired files are told, at the top too", "expired 29 days ago" in late and "<b>2 files</b>expired" in late and "expired" not in made.split("<h2")[0]
     other = own / "other"
     other.write_bytes(b"")
     ran = subprocess.run([sys.executable, TOOLS / "fleet_page.py", other], capture_output=True, check=False)
     yield "another file is refused", (ran.returncode, ran.stdout) == (1, b"") and ran.stderr.count(b"\n") == 1
     yield from other_schemas(path, own)
+
+
+def date_of(seconds):
+    return datetime.fromtimestamp(seconds, timezone.utc).strftime("%Y-%m-%d %H:%M")
+
+
+def histories(path):
+    """What each ECU reported, the newest first: the manifest's moment and the file."""
+    made = {}
+    with trials.read(path) as db:
+        for moment, signed in db.execute("SELECT moment, signed FROM kept ORDER BY vehicle, version DESC"):
+            for it in json.loads(signed)["reports"]:
+                made.setdefault(it["signed"]["ecu"], []).append((moment, it["signed"]["image"]["file"]))
+    return made
+
+
+def begun(history, file):
+    """The moment of the first manifest from which on the ECU reported the file until now."""
+    return list(itertools.takewhile(lambda it: it[1] == file, history))[-1][0]
 
 
 def unlike(lines):
@@ -401,8 +474,10 @@ def page_of(path, now=NOW + 4 * 3600):
 
 
 def other_schemas(path, own):
-    """A file of schema 1 hasn't the retired identifiers, and one of 1 or 2 no second hashes; where an image has one, the page is the same."""
-    wanted = data_of(page_of(path))
+    """A file of schema 1 hasn't the retired identifiers, and one of 1 or 2 no second hashes: vehicles have what they had, and how far a
+    campaign is may differ."""
+    listed = lambda page: {name: it for name, it in data_of(page).items() if name != "sets"}
+    wanted = listed(page_of(path))
     for schema in sorted(statements.LACKS):
         other = own / ("schema%d" % schema)
         if statements.LACKS[schema]:
@@ -411,7 +486,7 @@ def other_schemas(path, own):
             trials.copied(path, other)
             with closing(sqlite3.connect(other)) as db, db:
                 db.execute("INSERT OR REPLACE INTO image_sha512 SELECT file, zeroblob(64) FROM image")
-        yield "a page of schema %d" % schema, schemas.schema_of(other) == schema and data_of(page_of(other)) == wanted
+        yield "a page of schema %d" % schema, schemas.schema_of(other) == schema and listed(page_of(other)) == wanted
 
 
 # ---- what the page for operators says
@@ -437,8 +512,9 @@ def operating(program, own):
         yield "attacks", len(attacks) == 1 and attacks[0][:2] == ("VIN-0001", "br-0001")
     text = "\n".join(["", lines[0], "", "nope", '{"at":1767225600,"do":"show","vehicle":"V9"}']) + "\n"
     (own / "today.script").write_text(text, encoding="ascii")
+    yield "the page has both idioms", len(idioms()) == 2
     for idiom in idioms():
-        asked = idiom.replace("uptane_desk run", "%s run" % program).replace("/srv/uptane/desk.db", str(path))
+        asked = idiom.replace("uptane_desk run", "%s run" % program).replace("/var/lib/uptane/desk.db", str(path))
         ran = subprocess.run(["bash", "-c", asked], cwd=own, capture_output=True, check=False)
         if "paste" in idiom:
             told = ran.stdout.decode("ascii").splitlines()
@@ -448,9 +524,10 @@ def operating(program, own):
 
 
 def idioms():
-    """The commands of the section on long scripts, in order."""
-    page = (trials.TOP / "docs" / "use" / "OPERATING.md").read_text(encoding="utf-8").split("\n## Long scripts\n")[1].split("\n## ")[0]
-    return [" ".join(line.strip().rstrip("\\") for line in it.splitlines()) for it in re.findall(r"(?:^    .*\n)+", page, re.MULTILINE)]
+    """The commands of the section on giving scripts that are a program's, in order."""
+    page = (trials.TOP / "docs" / "use" / "OPERATING.md").read_text(encoding="utf-8").split("\n## Giving scripts\n")[1].split("\n## ")[0]
+    every = [" ".join(line.strip().rstrip("\\") for line in it.splitlines()) for it in re.findall(r"(?:^    .*\n)+", page, re.MULTILINE)]
+    return [it for it in every if "uptane_desk run" in it or "paste" in it]
 
 
 def cases(program):

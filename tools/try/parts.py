@@ -21,14 +21,15 @@ WIDTH, HEIGHT, ROW, GAP = 128, 40, 74, 12
 # the lanes from left to right, and what a crate is for in three words
 LANES = {
     "the rules": {
-        "up_canon": "canonical text, names", "up_field": "numbers mod 2^255-19", "up_curve": "points of edwards25519", "up_ed25519": "Ed25519", "up_sign": "signatures", "up_roles": "role files",
+        "up_canon": "canonical text, names", "up_curve": "RFC 8032's rules", "up_field": "numbers, points", "up_ed25519": "Ed25519", "up_sign": "signatures", "up_roles": "role files",
         "up_metadata": "keys and files", "up_manifest": "manifests", "up_plan": "plans", "up_machine": "state, decisions",
     },
     "the database": {
         "up_tables": "tables, statements", "up_columns": "lists in columns", "up_rows": "rows of a state", "up_records": "store and cache",
         "up_store": "reads, writes", "up_file": "database files",
     },
-    "the program": {"up_desk": "commands, the headline", "up_service": "scripts, streams", "uptane_desk": "the program"},
+    "the program": {"up_desk": "commands, the headline", "up_service": "scripts, streams", "up_main": "the programs' parts",
+        "uptane_desk": "under HMAC", "uptane_desk_ed25519": "under Ed25519"},
     "bytes and HTTP": {
         "up_pieces": "bytes in pieces", "up_lines": "lines", "up_script": "lines of scripts", "up_heads": "heads, routes", "up_http": "requests",
         "up_program": "statuses, messages",

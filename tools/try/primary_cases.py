@@ -76,13 +76,14 @@ def update(at):
 
 
 def vehicle_of(roots):
-    """What the vehicle knows when it leaves the factory. It has the secrets of the next keys by another way, before the rotation."""
+    """What the vehicle knows when it leaves the factory. Under HMAC it has the secrets of the next keys by another way, before the rotation."""
     ecus = []
     for i, (ecu, kind) in enumerate(ECUS):
         name = "gateway-1.bin" if kind == "GW" else "brake-1.bin"
         has = {"file": name, "length": len(CONTENT[name]), **hashes(name), "release": 1}
         ecus.append({"ecu": ecu, "hardware": kind, "secret": ecu_key(i), "counter": 0, "installed": has})
-    told = {"vehicle": "VIN-1", "primary": "gw", "counter": 0, "ecus": ecus, "role_secrets": secrets(FIRST) + secrets(SECOND)}
+    told = {"vehicle": "VIN-1", "primary": "gw", "counter": 0, "ecus": ecus, "method": reference.METHOD}
+    told |= {} if reference.METHOD == "ed25519" else {"role_secrets": secrets(FIRST) + secrets(SECOND)}
     return told | {repository: {"root": root, "versions": {}} for repository, root in roots.items()}
 
 
@@ -183,6 +184,8 @@ def by_the_page(program, own, primary=None):
     page = (trials.TOP / "docs" / "integrate" / "PRIMARY.md").read_text(encoding="utf-8").split("\n## Rounds of a vehicle\n")[1].split("\n## ")[0]
     (own / "bin").mkdir()
     (own / "bin" / "uptane_desk").symlink_to(program)
+    if reference.METHOD == "ed25519":
+        page = page.replace("first_path/", "first_path_ed25519/").replace("primary/vehicle.json", "primary/ed25519/vehicle.json")
     (own / "empty").mkdir()
     commands = "".join(re.findall(r"^    (.*\n)", page, re.MULTILINE)).replace("8080", str(http_cases.free_port())).replace("sleep 1", "sleep 3")
     commands = commands.replace("python3 $REPO/examples/primary/primary.py", primary) if primary else commands

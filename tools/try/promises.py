@@ -3,6 +3,7 @@
 
     promises.py             lists them
     promises.py NAME ..     lists those of these promises, with the files that they stand in
+    promises.py --restore REVISION      gives each edit that has lost its line, as in a merge, the one that it has at that revision of git
 
 Which promise an edit or a test belongs to is written once, where it stands: in the edit's file as a line `promise: NAME`, with several names parted by
 commas; above a test's function as a comment `// promise: NAME`; in a tool's own first lines; and, where rows have no place for a comment, in the file
@@ -10,6 +11,7 @@ commas; above a test's function as a comment `// promise: NAME`; in a tool's own
 nor a test fails, and so does a name that is no promise's, and a section or row that isn't there.
 """
 import re
+import subprocess
 import sys
 from collections import defaultdict
 
@@ -103,8 +105,22 @@ def listed(names):
             print("%s: %d %s%s%s" % (name, len(part), words, ": " * bool(part), ", ".join(shown)))
 
 
+def restore(revision):
+    for path in sorted((TOP / "crates").glob("*/refused/*.edit")):
+        text = path.read_text(encoding="utf-8")
+        if not re.search("^promise: ", text, re.MULTILINE):
+            words = ["git", "show", "%s:%s" % (revision, path.relative_to(TOP))]
+            shown = subprocess.run(words, capture_output=True, check=False, cwd=TOP).stdout.decode("utf-8")
+            lines = re.findall("^promise: .*$", shown, re.MULTILINE)
+            if lines:
+                path.write_text(text.rstrip("\n") + "\n%s\n" % lines[0], encoding="utf-8")
+                print("%s: %s" % (path.relative_to(TOP), lines[0]))
+
+
 if __name__ == "__main__":
     if {"-h", "--help"} & {*sys.argv[1:]}:
         sys.exit(print(__doc__))
+    if sys.argv[1:2] == ["--restore"] and len(sys.argv) == 3:
+        sys.exit(restore(sys.argv[2]))
     listed(sys.argv[1:])
     sys.exit(trials.judged("promises", cases()))

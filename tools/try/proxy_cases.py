@@ -30,9 +30,8 @@ import http_cases
 import trials
 
 GIVEN = trials.TOP / "examples" / "service"
-KEPT = trials.TOP / "examples" / "primary"
-MANIFEST, REPLY = ((KEPT / name).read_bytes().strip() for name in ("manifest.json", "reply.json"))
-STRANGERS, AT_ONCE, ROUNDS, PATIENCE, SLOWEST = 40, 300, 20, 60, 10
+MANIFEST, REPLY = ((trials.MESSAGES / name).read_bytes().strip() for name in ("manifest.json", "reply.json"))
+STRANGERS, AT_ONCE, ROUNDS, PATIENCE, SLOWEST, HUNDRED = 40, 300, 20, 60, 10, 100
 
 
 class Proxy:
@@ -201,32 +200,68 @@ def proxied(program, own, name, secret):
         proxy = Proxy(own, name, http_cases.free_port(), service.port, secret)
         up.enter_context(proxy.running())
         yield from passes(proxy, root)
-        service.kill()
-        service.wait()
-        (status, _), = asked(proxy, "GET", "/image/root.json")
-        yield name + ": no service is the proxy's own answer", status in (502, 503)
         words = [str(program), "serve", str(path), str(service.port), "100000"]
-        with subprocess.Popen(words, stdout=subprocess.PIPE) as again:
-            again.stdout.readline()
+        with up.enter_context(ThreadPoolExecutor(10)) as pool:
+            service.kill()
+            service.wait()
+            if name == "nginx":
+                (status, _), = asked(proxy, "GET", "/image/root.json")
+                yield name + ": no service is the proxy's own answer", status == 502
+            waits = [pool.submit(asked, proxy, "GET", "/image/root.json") for _ in range(10 if name == "haproxy" else 0)]
+            time.sleep(1)
+            again = begun(up, words)
             yield name + ": a service that is started again", asked(proxy, "GET", "/image/root.json") == [(200, root)]
-            again.kill()
+            yield from over_a_restart(proxy, pool, again, words, up, waits, root) if name == "haproxy" else ()
+
+
+def begun(up, words):
+    """The service, once it listens; it ends with the rest."""
+    running = up.enter_context(subprocess.Popen(words, stdout=subprocess.PIPE))
+    up.callback(running.kill)
+    running.stdout.readline()
+    return running
+
+
+def over_a_restart(proxy, pool, running, words, up, waits, root):
+    """While the service starts anew, requests wait in HAProxy's queue: none is refused."""
+    yield "haproxy: ten that came before it was there", all(it.result() == [(200, root)] for it in waits)
+    sent = [pool.submit(asked, proxy, "POST", "/director/manifest", MANIFEST) for _ in range(HUNDRED)]
+    while not any(it.done() for it in sent):
+        time.sleep(0.001)
+    running.kill()
+    running.wait()
+    time.sleep(1.5)
+    begun(up, words)
+    before = sum(it.done() for it in sent)
+    well = [it.result() for it in sent] == HUNDRED * [[(200, REPLY)]]
+    print("haproxy: %d of %d were answered before the service was there again" % (before, HUNDRED))
+    yield "haproxy: a hundred requests over a restart, none is refused", well and before < HUNDRED
 
 
 # ---- units
 
 
 def units(program, own):
-    """What systemd says of the units, with the program in its place."""
-    for path in GIVEN.glob("uptane-desk*"):
-        text = path.read_text("ascii").replace("/usr/local/bin/uptane_desk", str(Path(program).resolve()))
-        (own / path.name).write_text(text.replace("/usr/local/lib/uptane_desk/refresh.sh", str(GIVEN / "refresh.sh")), "ascii")
-    names = [str(path) for path in sorted(own.glob("uptane-desk*"))]
-    ran = subprocess.run(["systemd-analyze", "verify", "--man=no", *names], capture_output=True, text=True, check=False, timeout=60)
+    """What systemd says of the units, with the program and the scripts in their places."""
+    given = sorted([*GIVEN.glob("uptane-desk*"), *GIVEN.glob("several/uptane-desk*")])
+    names = []
+    for path in given:
+        text = path.read_text("ascii").replace("/usr/bin/uptane_desk", str(Path(program).resolve()))
+        names.append(own / path.name.replace("@.", "@1."))
+        names[-1].write_text(text.replace("/usr/lib/uptane_desk/", str(GIVEN) + "/"), "ascii")
+    ran = subprocess.run(["systemd-analyze", "verify", "--man=no", *map(str, names)], capture_output=True, text=True, check=False, timeout=60)
     own_lines = [line for line in ran.stderr.splitlines() if "uptane-desk" in line]
     print("".join(line + "\n" for line in own_lines), end="")
-    yield "systemd verifies the units", len(names) == 3 and ran.returncode == 0 and not own_lines
-    shell = subprocess.run(["sh", "-n", str(GIVEN / "refresh.sh")], check=False)
-    yield "a shell reads the refreshing script", shell.returncode == 0
+    yield "systemd verifies the units", len(names) == 7 and ran.returncode == 0 and not own_lines
+
+
+def shells():
+    scripts = sorted(GIVEN.glob("*.sh"))
+    yield "a shell reads the scripts", len(scripts) == 4 and all(subprocess.run(["sh", "-n", str(it)], check=False).returncode == 0 for it in scripts)
+    if shutil.which("shellcheck"):
+        ran = subprocess.run(["shellcheck", "-s", "sh", *map(str, scripts)], capture_output=True, check=False)
+        print(ran.stdout.decode("utf-8"), end="")
+        yield "shellcheck finds nothing in them", ran.returncode == 0
 
 
 def cases(program):
@@ -244,6 +279,7 @@ def cases(program):
                 yield from proxied(program, own, name, secret)
             else:
                 print("%s isn't installed, so it is left out" % name)
+        yield from shells()
         if shutil.which("systemd-analyze"):
             yield from units(program, own)
         else:

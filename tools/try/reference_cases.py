@@ -71,6 +71,19 @@ def over_http():
         yield from http_cases.exchanges(program, own / "first")
 
 
+def by_the_page():
+    """The two commands with which the page for integrators begins: the second one answers a request."""
+    page = (trials.TOP / "docs" / "integrate" / "PRIMARY.md").read_text(encoding="ascii").split("\n## ")[0]
+    first, second = re.findall(r"(?m)^    (.+)$", page)
+    with trials.folder() as own:
+        placed = lambda command, port=8080: command.replace("desk.db", str(own / "desk")).replace("8080", str(port))
+        ran = subprocess.run(["bash", "-c", placed(first)], capture_output=True, check=False, cwd=trials.TOP, timeout=http_cases.PATIENCE)
+        yield "the page's first command", (ran.returncode, ran.stdout) == (0, b"done\ndone\nreply V1 version 1 targets 0\n")
+        with http_cases.served([*placed(second).split()[:2]], own / "desk", 1) as running:
+            came = http_cases.told(running, http_cases.GET_ROOT)
+            yield "the page's second command", placed(second, running.port).split()[2:] == ["serve", str(own / "desk"), str(running.port)] and b'"type":"root"' in came
+
+
 # ---- the requests that tests of crates make
 
 
@@ -143,6 +156,7 @@ def cases():
     yield from words()
     yield from scripts()
     yield from over_http()
+    yield from by_the_page()
     yield from requests()
     yield from streams()
 

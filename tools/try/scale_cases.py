@@ -227,20 +227,6 @@ def proxied(own, desks, ports, bodies, told):
             yield name + ": an address without a vehicle", bare == 3 * [(404, b'{"error":0,"text":"not found"}')]
 
 
-def units(program, own):
-    if not shutil.which("systemd-analyze"):
-        print("systemd-analyze isn't installed, so the unit isn't verified")
-        return
-    text = (SEVERAL / "uptane-desk@.service").read_text("ascii").replace("/usr/local/bin/uptane_desk", str(program))
-    (own / "uptane-desk@.service").write_text(text, "ascii")
-    words = ["systemd-analyze", "verify", "--man=no", str(own / "uptane-desk@1.service")]
-    shutil.copy(own / "uptane-desk@.service", own / "uptane-desk@1.service")
-    ran = subprocess.run(words, capture_output=True, text=True, check=False, timeout=60)
-    own_lines = [line for line in ran.stderr.splitlines() if "uptane-desk" in line]
-    print("".join(line + "\n" for line in own_lines), end="")
-    yield "systemd verifies the unit of a desk", ran.returncode == 0 and not own_lines
-
-
 # ---- measures
 
 
@@ -300,7 +286,7 @@ def measure(program):
 
 
 def cases(program):
-    for part in (scripts, requests, lambda program, own: units(program, own)):
+    for part in (scripts, requests):
         with trials.folder() as own:
             own.chmod(0o755)
             yield from part(program, own)

@@ -14,6 +14,9 @@ import statements
 
 TOP = Path(__file__).resolve().parents[2]
 TABLES = [statements.table_of(statement) for statement in statements.schema()]
+# the examples of the scheme that is tried: the first path, and the messages of the small Primary
+FIRST_PATH, MESSAGES = (TOP / "examples" / it for it in {
+    "hmac-sha256": ("first_path", "primary"), "ed25519": ("first_path_ed25519", "primary/ed25519")}[reference.METHOD])
 NO_DATABASE = b"uptane_desk: cannot open the database\n"
 
 

@@ -17,18 +17,20 @@ import signal
 import subprocess
 import sys
 import time
+from concurrent.futures import ThreadPoolExecutor
 from pathlib import Path
 
 sys.dont_write_bytecode = True
 
 import http_cases
+import proxy_cases
 import trials
 
 GIVEN = trials.TOP / "examples" / "service"
-UNIT, REFRESH, TIMER = "uptane-desk.service", "uptane-desk-refresh.service", "uptane-desk-refresh.timer"
+UNIT, REFRESH, TIMER, BACKUP = "uptane-desk.service", "uptane-desk-refresh.service", "uptane-desk-refresh.timer", "uptane-desk-backup.service"
 FOLDER, PORT, PATIENCE = Path("/var/lib/uptane"), 8080, 240
 FILE = FOLDER / "desk.db"
-AS_OWNER, RUN = ["runuser", "-u", "uptane", "--"], ["/usr/local/bin/uptane_desk", "run"]
+AS_OWNER, RUN = ["runuser", "-u", "uptane", "--"], ["/usr/bin/uptane_desk", "run"]
 PATH = "/usr/local/sbin:/usr/local/bin:/usr/sbin:/usr/bin:/sbin:/bin"
 
 
@@ -38,7 +40,7 @@ PATH = "/usr/local/sbin:/usr/local/bin:/usr/sbin:/usr/bin:/sbin:/bin"
 def missing():
     """What the container needs and isn't there."""
     found = [] if os.getuid() == 0 else ["root"]
-    found += [word for word in ("systemd-nspawn", "nsenter", "useradd", "runuser", "ip", "curl") if not shutil.which(word)]
+    found += [word for word in ("systemd-nspawn", "nsenter", "useradd", "runuser", "ip", "curl", "dpkg") if not shutil.which(word)]
     found += [] if Path("/lib/systemd/systemd").exists() else ["systemd"]
     found += [] if "\toverlay\n" in Path("/proc/filesystems").read_text("ascii") else ["overlayfs"]
     return found + ([] if control_groups() else ["control groups of the second version"])
@@ -163,29 +165,44 @@ def version():
 
 
 def page():
-    """The blocks of commands of the page: for one desk, for several, and to refresh these."""
+    """The blocks of commands of the page: to install, to found, and for several desks."""
     return re.findall(r"(?m)((?:^    .*\n)+)", (GIVEN / "README.md").read_text("ascii"))
 
 
 def carried_out(block, folder):
     """What the commands print, and whether they go well, one after another."""
     done = ran("sh", "-eu", limit=4 * PATIENCE, cwd=folder, input=block.encode("ascii"))
+    print(done.stderr.decode("utf-8", "replace") if done.returncode else "", end="")
     return done.stdout.decode("ascii"), done.returncode == 0
 
 
 def set_up(program, own):
-    """The page's commands, given where it says."""
-    shutil.copytree(trials.TOP / "docs", own / "docs")
-    folder = Path(shutil.copytree(GIVEN, own / "examples" / "service"))
-    shutil.copy(program, folder / "uptane_desk")
-    (folder / "founding.script").write_text("\n".join(http_cases.FIRST_PATH) + "\n", "ascii")
-    said = carried_out(page()[0], folder)
-    yield "the page's commands", said == ("done\ndone\nreply V1 version 1 targets 0\n", True)
+    """The page's commands, given where it says: the package is made and installed, and the service starts behind the founding."""
+    for name in ("docs", "examples", "tools"):
+        shutil.copytree(trials.TOP / name, own / name)
+    for name in ("README.md", "LICENSE", "SECURITY.md", "CHANGELOG.md", "VERSION"):
+        shutil.copy(trials.TOP / name, own / name)
+    built = own / "crates" / "uptane_desk_ed25519" / "out" / "uptane_desk_ed25519"
+    built.parent.mkdir(parents=True)
+    shutil.copy(program, built)
+    (own / "founding.script").write_text("\n".join(http_cases.FIRST_PATH) + "\n", "ascii")
+    said = carried_out(page()[0].replace("apt install ./", "dpkg --force-depends --install "), own)
+    yield "the package is made and installed", said[1]
+    states = [ran("systemctl", "start", unit).returncode for unit in (UNIT, REFRESH, BACKUP)] + [shown("ActiveState", unit) for unit in (UNIT, REFRESH, BACKUP)]
+    yield "before the founding nothing starts, and nothing fails", states == [0, 0, 0] + 3 * ["inactive"]
+    said = carried_out(page()[1], own)
+    yield "the founding, and the service starts", said == ("done\ndone\nreply V1 version 1 targets 0\n", True)
     yield "the service serves", delivered(http_cases.MANIFEST) == http_cases.REPLY and shown("ActiveState") == "active"
-    yield "it starts with the machine", [shown("UnitFileState", unit) for unit in (UNIT, TIMER)] == ["enabled", "enabled"]
+    yield "it starts with the machine", [shown("UnitFileState", unit) for unit in (UNIT, TIMER, "uptane-desk-backup.timer")] == 3 * ["enabled"]
     yield "what the units name is there", all(Path(name[7:]).exists() for name in shown("Documentation").split())
+    yield "behind the clock", "time-sync.target" in shown("After").split()
     modes = [path.stat().st_mode & 0o777 for path in (FOLDER, FILE)]
     yield "the file and its folder are their owner's alone", modes == [0o700, 0o600] and {FOLDER.owner(), FILE.owner()} == {"uptane"}
+    maps = Path("/proc/%s/maps" % shown("MainPID")).read_text("utf-8")
+    if Path("/usr/lib/x86_64-linux-gnu/libjemalloc.so.2").exists():
+        yield "with jemalloc, where it is installed", "libjemalloc" in maps
+    else:
+        print("libjemalloc2 isn't installed")
 
 
 # ---- how the program ends
@@ -222,15 +239,19 @@ def ends():
         yield "the program ends by SIG" + name, comes_back(lambda: well("systemctl", "kill", "--signal=" + name, UNIT))
     begun = changed(served_so(3)) and well("systemctl", "restart", UNIT)
     yield "the last of the connections", begun and comes_back(lambda: [asked("/image/root.json"), asked("/image/root.json")])
+    hook = Path("/etc/uptane/failed")
+    hook.write_text('#!/bin/sh\necho "$1" > /run/failed\n', "ascii")
+    hook.chmod(0o755)
     wrong = changed(served_so(0)) and ran("systemctl", "restart", UNIT) and until(lambda: shown("ActiveState") == "failed")
     yield "wrong words aren't tried again", wrong and (shown("ExecMainStatus"), shown("NRestarts")) == ("2", "0")
+    yield "where it failed, that is told", until(lambda: Path("/run/failed").exists()) and Path("/run/failed").read_text("ascii") == UNIT + "\n"
     yield "its own words again", changed("") and well("systemctl", "restart", UNIT) and delivered(kept[-1][0]) == kept[-1][1]
     yield "a stop", well("systemctl", "stop", UNIT) and shown("ActiveState") == "inactive" and trials.faults(FILE) == []
     show = '{"at":1767225600,"do":"show","vehicle":"V1"}'
     yield "a script meanwhile", by_script(FILE, show) == "vehicle V1 version %d P1=factory.bin\n" % len(kept)
     with subprocess.Popen([*AS_OWNER, *RUN, str(FILE)], stdin=subprocess.PIPE, stdout=subprocess.PIPE, text=True, bufsize=1) as other:
         print(show, file=other.stdin)
-        waits = other.stdout.readline() and well("systemctl", "start", UNIT) and until(lambda: int(shown("NRestarts")) > 1)
+        waits = other.stdout.readline() and ran("systemctl", "start", UNIT) and until(lambda: int(shown("NRestarts")) > 1)
         other.stdin.close()
     yield "it waits for a program that has the file", waits and all(delivered(body) == reply for body, reply in kept)
 
@@ -305,10 +326,9 @@ def refreshed():
     before = version()
     yield "a refresh", well("systemctl", "start", REFRESH) and version() == before + 1
     begun = well("systemctl", "stop", UNIT) and well("systemctl", "start", "--no-block", UNIT, REFRESH)
-    yield "a refresh right after a start", begun and until(lambda: shown("ActiveState", REFRESH) != "activating") and version() == before + 2
+    yield "a refresh right after a start", begun and until(lambda: version() == before + 2)
     before = version()
-    words = ["/usr/local/lib/uptane_desk/refresh.sh", RUN[0], str(FILE), str(PORT), UNIT, "nobody"]
-    yield "after one that fails the service runs", not well(*words) and version() == before
+    yield "after one that fails the service runs", not well("env", "OWNER=nobody", "/usr/lib/uptane_desk/apply.sh", "--refresh") and version() == before
     stamp, now = Path("/var/lib/systemd/timers/stamp-" + TIMER), time.time()
     missed = well("systemctl", "stop", TIMER) and stamp.exists() and changed("[Timer]\nRandomizedDelaySec=0\n", TIMER)
     os.utime(stamp, (now - 2 * 86400, now - 2 * 86400))
@@ -318,23 +338,79 @@ def refreshed():
     yield "its own times again", changed("", TIMER) and well("systemctl", "restart", TIMER)
 
 
-# ---- several desks
+# ---- scripts, copies, and requests while the service starts anew
+
+
+def dropped():
+    """An operator drops a script, and the next refresh gives it; who it was stands in the journal."""
+    made = well("useradd", "alice") and well("usermod", "-a", "-G", "uptane-operators", "alice")
+    line = '{"at":%d,"do":"show","vehicle":"V1"}' % time.time()
+    drop = "cd /var/spool/uptane && echo '%s' > show.new && mv show.new show.script && ! ls . 2> /dev/null" % line
+    made = made and well("runuser", "-u", "alice", "--", "sh", "-c", drop) and not well("runuser", "-u", "nobody", "--", "sh", "-c", drop)
+    before = version()
+    yield "a script is given with the refresh", made and well("systemctl", "start", REFRESH) and version() == before + 1
+    told = well("runuser", "-u", "alice", "--", "grep", "-q", "^vehicle V1 ", "/var/spool/uptane/answers/show.answers")
+    yield "its operator finds the answers", told and not well("runuser", "-u", "alice", "--", "cat", "/var/log/uptane/journal")
+    last = [json.loads(it) for it in Path("/var/log/uptane/journal").read_text("ascii").splitlines()][-2]
+    yield "the journal has it", (last["who"], last["script"], last["asked"]["do"]) == ("alice", "show.script", "show")
+
+
+def copied():
+    before = shown("MainPID")
+    copies = lambda: sorted(Path("/var/backups/uptane").glob("desk-*Z.db"))
+    yield "a copy while it serves", well("systemctl", "start", BACKUP) and len(copies()) == 1 and shown("MainPID") == before
+    drilled = ran("python3", "/usr/lib/uptane_desk/tools/operate/restore_drill.py", RUN[0], str(copies()[0]))
+    yield "a restore of it, tried", drilled.returncode == 0 and b"\nserves: " in drilled.stdout
+
+
+def queued(own):
+    """A hundred requests through HAProxy while the unit is started anew: none is refused."""
+    if not shutil.which("haproxy"):
+        print("haproxy isn't installed, so no request waits")
+        return
+    proxy = proxy_cases.Proxy(own, "haproxy", http_cases.free_port(), PORT, False)
+    with proxy.running(), ThreadPoolExecutor(10) as pool:
+        sent = [pool.submit(proxy_cases.asked, proxy, "POST", "/director/manifest", http_cases.MANIFEST) for _ in range(100)]
+        until(lambda: any(it.done() for it in sent))
+        again = well("systemctl", "restart", UNIT)
+        yield "a hundred requests over a restart, none is refused", again and [it.result() for it in sent] == 100 * [[(200, http_cases.REPLY)]]
+
+
+# ---- several desks, and the end
 
 
 def several(own):
     """Four desks by the page's commands, and a refresh of each."""
-    folder, desks = own / "examples" / "service", range(1, 5)
-    paths = [FOLDER / ("desk%d.db" % desk) for desk in desks]
-    yield "four are founded", [by_script(path, *http_cases.FIRST_PATH)[:5] for path in paths] == 4 * ["done\n"]
-    served = carried_out(page()[1], folder)[1]
-    yield "four serve", served and [asked("/director/manifest", http_cases.MANIFEST, 8080 + desk) for desk in desks] == 4 * [http_cases.REPLY]
-    said, done = carried_out(page()[2], folder)
-    yield "four are refreshed", done and said == 4 * "version 2: done\n"
+    operate, folder, desks = own / "tools" / "operate", "/var/lib/uptane-division", range(1, 5)
+    divide = lambda *words: ran(sys.executable, str(operate / "divide_script.py"), folder, *words, input=(own / "founding.script").read_bytes())
+    told = [divide("--desks", "4")]
+    for desk in desks:
+        answers = by_script(FOLDER / ("desk%d.db" % desk), *Path(folder, "desk%d.script" % desk).read_text("ascii").splitlines())
+        Path(folder, "desk%d.answers" % desk).write_text(answers, "ascii")
+    told.append(divide("--join"))
+    yield "four are founded", [it.returncode for it in told] == [0, 0] and told[1].stdout == b"done\ndone\nreply V1 version 1 targets 0\n"
+    served = carried_out(page()[2], own)[1]
+    yield "four serve", served and len({asked("/director/root.json", None, 8080 + desk) for desk in desks}) == 1 and asked("/director/manifest", http_cases.MANIFEST, 8081) == http_cases.REPLY
+    begun = [int(shown("ActiveEnterTimestampMonotonic", "uptane-desk@%d.service" % desk)) for desk in desks]
+    again = well("systemctl", "stop", "uptane-desk@*.service") and well("systemctl", "start", *("uptane-desk@%d.service" % desk for desk in desks))
+    starts = [[int(shown(name, "uptane-desk@%d.service" % desk)) for name in ("ExecMainStartTimestampMonotonic", "ActiveEnterTimestampMonotonic")] for desk in desks]
+    yield "they start one after another", begun and again and all(starts[at][1] <= starts[at + 1][0] for at in range(3))
+    versions = lambda: [json.loads(asked("/image/timestamp.json", None, 8080 + desk))["signed"]["version"] for desk in desks]
+    before = versions()
+    yield "four are refreshed", well("systemctl", "start", REFRESH) and versions() == [it + 1 for it in before]
+
+
+def removed():
+    """The package goes, and leaves the data."""
+    there = sorted(str(it) for it in FOLDER.iterdir() if it.suffix == ".db")
+    gone = well("dpkg", "--remove", "uptane-desk") and not Path(RUN[0]).exists()
+    yield "removed, it leaves the data", gone and shown("ActiveState") == "inactive" and sorted(str(it) for it in FOLDER.iterdir() if it.suffix == ".db") == there and len(there) == 5
 
 
 def cases(program):
     with trials.folder() as own:
-        for tried in (set_up(program, own), ends(), hardened(), refreshed(), several(own)):
+        own.chmod(0o755)
+        for tried in (set_up(program, own), ends(), hardened(), refreshed(), dropped(), copied(), queued(own), several(own), removed()):
             yield from tried
 
 

@@ -3,13 +3,11 @@
 
     vector_cases.py [PROGRAM]
 
-They have to be what `tools/oracle/make_vectors.py` makes. Without a PROGRAM the small Primaries alone are tried; the one in JavaScript
-where Node is installed.
+They have to be what `tools/oracle/make_vectors.py` makes. Without a PROGRAM the small Primaries alone are tried, with those of both
+schemes; the one in JavaScript where Node is installed. With SCHEME=ed25519 the program is uptane_desk_ed25519.
 """
 import contextlib
 import copy
-import hashlib
-import hmac
 import http.client
 import json
 import re
@@ -27,6 +25,7 @@ import fleet
 import http_cases
 import make_vectors
 import reference
+import schemes
 import trials
 
 PRIMARY = trials.TOP / "examples" / "primary"
@@ -37,22 +36,24 @@ import primary
 import verify
 
 FOLDER = trials.TOP / "vectors"
+HMAC, METHOD = schemes.HmacSha256.method, reference.METHOD
 
 
-def vectors(name):
-    return json.loads((FOLDER / (name + ".json")).read_text(encoding="ascii"))
+def vectors(name, method=None):
+    """The vectors of a name, of this scheme or of both."""
+    return json.loads((FOLDER / (method or "") / (name + ".json")).read_text(encoding="ascii"))
 
 
 def made():
     yield "the vectors are those of the rules", make_vectors.main(["--check"]) == 0
     shown = re.findall(r"(?s)```json\n(.*?)\n```", (trials.TOP / "docs" / "integrate" / "PRIMARY.md").read_text(encoding="ascii"))
-    of_primary = [path.read_text(encoding="ascii").strip() for path in PRIMARY.glob("*.json")]
-    texts = of_primary + [it["reply"] for it in vectors("replies")["cases"]] + list(vectors("chains")["files of update"].values())
-    yield "the page shows five messages", len(shown) == 5
+    of_primary = [path.read_text(encoding="ascii").strip() for path in PRIMARY.glob("**/*.json")]
+    texts = of_primary + [it["reply"] for it in vectors("replies", HMAC)["cases"]] + list(vectors("chains", HMAC)["files of update"].values())
+    yield "the page shows eight messages", len(shown) == 8
     for text in shown:
         yield "the page shows %s.." % text[:60], any(text in it for it in texts)
-    known = {name for name, _ in make_vectors.files()} | {"README.md"}
-    yield "there is no other file", {path.name for path in FOLDER.iterdir()} == known
+    found = {str(path.relative_to(FOLDER)) for path in FOLDER.rglob("*") if path.is_file()}
+    yield "there is no other file", found == make_vectors.names() | {"README.md"}
 
 
 # ---- the small Primary
@@ -64,20 +65,31 @@ def by_primary():
             yield "canonical text: %(name)s" % case, envelopes.canonical(json.loads(case["text"])) == case["canonical"]
     for case in vectors("key_identifiers")["cases"]:
         yield "key identifier: %(name)s" % case, envelopes.key_identifier(bytes.fromhex(case["public"])) == case["keyid"]
-    told = vectors("signatures_hmac")
-    for case in told["tags"]:
-        tag = hmac.new(bytes.fromhex(case["key"]), bytes.fromhex(case["data"]), hashlib.sha256).hexdigest()
-        yield "tag: %(name)s" % case, tag == case["tag"]
-    for case in told["cases"]:
+    for method in envelopes.SCHEMES:
+        yield from (("%s: %s" % (method, name), well) for name, well in under(method))
+
+
+def under(method):
+    """The vectors of a scheme."""
+    envelopes.use({"method": method})
+    scheme, told = envelopes.SCHEMES[method], vectors("signatures", method)
+    for case in told["signatures"]:
+        secret, public, data, sig = (bytes.fromhex(case[it]) for it in ("secret", "public", "data", "sig"))
+        well = (scheme.public_of(secret), scheme.sign(secret, data)) == (public, sig) and scheme.verify(public, data, sig)
+        yield "signature: %(name)s" % case, well
+    for case in told.get("encodings", []):
+        yield "encoding: %(name)s" % case, scheme.verify(*(bytes.fromhex(case[it]) for it in ("public", "data", "sig"))) == case["verified"]
+    for case in told["envelopes"]:
         if "refused" not in case:
             signed = envelopes.is_signed_by(json.loads(case["envelope"]), bytes.fromhex(told["key"]))
-            yield "signature: %(name)s" % case, signed == case["signed_by_the_key"]
-    yield from verified(verify)
-    told = vectors("chains")
-    first = {name: key for name, key in told["vehicle"]["role_keys"].items() if name in told["files of update"]["director/1.root.json"]}
-    lacks = told | {"vehicle": told["vehicle"] | {"role_keys": first}}
+            yield "envelope: %(name)s" % case, signed == case["signed_by_the_key"]
+    yield from verified(verify, method)
+    told = vectors("chains", method)
     yield "a change of the repository between two requests", begins_again(told)
-    yield "a Root whose keys the vehicle hasn't", verdict(verify, lacks, {"base": "rotation"})[0] == "refused"
+    if told["vehicle"]["role_keys"]:
+        first = {name: key for name, key in told["vehicle"]["role_keys"].items() if name in told["files of update"]["director/1.root.json"]}
+        lacks = told | {"vehicle": told["vehicle"] | {"role_keys": first}}
+        yield "a Root whose keys the vehicle hasn't", verdict(verify, lacks, {"base": "rotation"})[0] == "refused"
 
 
 def begins_again(told):
@@ -104,9 +116,9 @@ def by_node():
         yield "the small Primary in JavaScript", ran.returncode == 0 and not ran.stderr and bool(counts) and int(counts[1]) > 100
 
 
-def verified(verify):
+def verified(verify, method):
     """Whether this module gives each chain and each image its verdict, and installs what it has to."""
-    told = vectors("chains")
+    told = vectors("chains", method)
     for case in told["cases"]:
         yield "%(attack)s: %(name)s" % case, verdict(verify, told, case) == (case["verdict"], told["installs"] if case["verdict"] == "accepted" else None)
     for case in told["contents"]:
@@ -115,6 +127,7 @@ def verified(verify):
 
 def each_check():
     """Without any one of the small Primary's checks some chain or image has another verdict."""
+    envelopes.use({"method": HMAC})
     source = (PRIMARY / "verify.py").read_text(encoding="ascii")
     checks = list(re.finditer(r"(?m)^ +(expect\(.*\)|check_signed\(.*\))$", source))
     yield "the small Primary's checks are found", len(checks) > 20
@@ -126,7 +139,7 @@ def each_check():
 
 def differs(module):
     try:
-        return not all(well for _, well in verified(module))
+        return not all(well for _, well in verified(module, HMAC))
     except (KeyError, TypeError):
         return True
 
@@ -171,7 +184,7 @@ def verdict(verify, told, case):
 
 
 def delivered(body, at=None):
-    return fleet.line("deliver", at or vectors("manifests")["at"], body=body)
+    return fleet.line("deliver", at or vectors("manifests", METHOD)["at"], body=body)
 
 
 def of_text(secret, counter, case):
@@ -187,8 +200,8 @@ def of_text(secret, counter, case):
 
 
 def texts(program):
-    told, setup = vectors("canonical_texts")["cases"], vectors("manifests")["setup"]
-    secret, version, lines, wanted = bytes.fromhex(vectors("signatures_hmac")["key"]), 0, [], []
+    told, setup = vectors("canonical_texts")["cases"], vectors("manifests", METHOD)["setup"]
+    secret, version, lines, wanted = bytes.fromhex(make_vectors.key(0xA4)), 0, [], []
     for counter, case in enumerate(told, 1):
         lines.append(delivered(of_text(secret, counter, case)))
         version += "canonical" in case
@@ -211,11 +224,11 @@ def identifiers(program):
 
 
 def signatures(program):
-    told = vectors("signatures_hmac")
-    printed = trials.printed(program, ":memory:", [*told["setup"], *(delivered(case["envelope"]) for case in told["cases"])]) or []
-    for case, line in zip(told["cases"], printed[len(told["setup"]):] or len(told["cases"]) * [None], strict=True):
+    told = vectors("signatures", METHOD)
+    printed = trials.printed(program, ":memory:", [*told["setup"], *(delivered(case["envelope"]) for case in told["envelopes"])]) or []
+    for case, line in zip(told["envelopes"], printed[len(told["setup"]):] or len(told["envelopes"]) * [None], strict=True):
         wanted = "reply VIN-2 version 1 targets 0" if case.get("signed_by_the_key") else "refused 12 BadManifestSignature"
-        yield "the program: signature: %(name)s" % case, line == ("refused 7 " + case["refused"] if "refused" in case else wanted)
+        yield "the program: envelope: %(name)s" % case, line == ("refused 7 " + case["refused"] if "refused" in case else wanted)
 
 
 def body_of(case):
@@ -223,7 +236,7 @@ def body_of(case):
 
 
 def manifests(program, own):
-    told = vectors("manifests")
+    told = vectors("manifests", METHOD)
     printed = trials.printed(program, ":memory:", [*told["setup"], *(delivered(body_of(case)) for case in told["cases"])]) or []
     for case, line in zip(told["cases"], printed[len(told["setup"]):] or len(told["cases"]) * [None], strict=True):
         yield "the program: manifest: %(name)s" % case, line == case["printed"]
@@ -251,7 +264,7 @@ def answered(case):
 
 
 def replies(program, own):
-    told, version = vectors("replies"), {}
+    told, version = vectors("replies", METHOD), {}
     path = own / "replies"
     trials.printed(program, path, told["setup"])
     for case in told["cases"]:
@@ -264,7 +277,7 @@ def replies(program, own):
 
 def bases(program, own):
     """The files and the reply of each base are those that the program makes."""
-    told = vectors("chains")
+    told = vectors("chains", METHOD)
     for base in ("update", "rotation"):
         path, files = own / base, dict(told["files of " + base])
         printed = trials.printed(program, path, told["lines of " + base])
@@ -279,7 +292,8 @@ def bases(program, own):
 def by_program(program):
     with trials.folder() as own:
         yield from texts(program)
-        yield from identifiers(program)
+        # (under Ed25519 no key is given whose public part is chosen)
+        yield from identifiers(program) if METHOD == HMAC else ()
         yield from signatures(program)
         yield from manifests(program, own)
         yield from replies(program, own)

@@ -1,2 +1,3 @@
 pub mod Adopted
 pub mod Closed
+pub mod TakenFor

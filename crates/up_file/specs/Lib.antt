@@ -2,3 +2,4 @@ pub mod Adopting
 pub mod Closing
 pub mod NewFiles
 pub mod Opening
+pub mod Schemes

@@ -4,3 +4,4 @@
 pub mod adopting;
 pub mod closing;
 pub mod opening;
+pub mod schemes;

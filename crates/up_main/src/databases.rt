@@ -8,13 +8,13 @@ use crate::scripts::answer_lines;
 use sqlite::{Alter, Connection, FileFrom, FileStore, Unknown};
 use std::fs;
 use up_desk::desk::Desk;
-use up_file::adopting::adopt_or_create;
+use up_file::adopting::{adopt_or_create, take_for};
 use up_file::closing::close_file;
 use up_file::opening::{connect_files, open_files};
 use up_program::closing::closing;
 use up_program::failure::{Failure, told};
 use up_program::files::{is_memory, journal_of, may_open};
-use up_sign::hmac_sha256::HmacSha256;
+use up_sign::scheme::Scheme;
 
 /// What is done over a database.
 #[derive(Clone, Copy)]
@@ -27,38 +27,48 @@ pub(crate) enum Work {
 
 /// Works over the database of this name: `:memory:` is one in memory, any other name a file's. Its tables are made where they
 /// aren't there.
-pub(crate) fn work_over(rt: &HostRuntime, name: &str, work: Work) -> Result<(), Failure> {
+pub(crate) fn work_over<K: Scheme>(
+    rt: &HostRuntime,
+    scheme: K,
+    name: &str,
+    work: Work,
+) -> Result<(), Failure> {
     if is_memory(name) {
-        return over_memory(rt, work);
+        return over_memory(rt, scheme, work);
     }
-    over_file(rt, name, work)
+    over_file(rt, scheme, name, work)
 }
 
-fn over_memory(rt: &HostRuntime, work: Work) -> Result<(), Failure> {
+fn over_memory<K: Scheme>(rt: &HostRuntime, scheme: K, work: Work) -> Result<(), Failure> {
     let Ok(conn) = Connection::open_in_memory(rt.alloc()) else {
         return told(&mut rt.stderr(), Err(Failure::Unopened));
     };
     match adopt_or_create(conn) {
         Ok(store) => {
-            let mut desk = Desk::new(HmacSha256, store);
+            let mut desk = Desk::new(scheme, store);
             work_at(rt, &mut desk, work)
         }
         Err(_) => told(&mut rt.stderr(), Err(Failure::Unopened)),
     }
 }
 
-/// At the end the database's log is copied into its file; where it can't be, the next run finds all that was committed in the
-/// log.
-fn over_file(rt: &HostRuntime, path: &str, work: Work) -> Result<(), Failure> {
+/// A file whose keys are another scheme's stays as it is. At the end the database's log is copied into its file; where it can't
+/// be, the next run finds all that was committed in the log.
+fn over_file<K: Scheme>(
+    rt: &HostRuntime,
+    scheme: K,
+    path: &str,
+    work: Work,
+) -> Result<(), Failure> {
     if !is_usable(rt, path) {
         return told(&mut rt.stderr(), Err(Failure::Unopened));
     }
     let Some(conn) = connected(rt, path) else {
         return told(&mut rt.stderr(), Err(Failure::Unopened));
     };
-    match adopt_or_create(conn) {
+    match take_for(rt.alloc(), scheme.method(), conn) {
         Ok(store) => closing(
-            Desk::new(HmacSha256, store),
+            Desk::new(scheme, store),
             |desk| work_at(rt, desk, work),
             |desk| {
                 close_file(desk.release().release()).ok();
@@ -93,9 +103,9 @@ fn is_usable(rt: &HostRuntime, path: &str) -> bool {
     may_open(length, &mut || fs::read(rt, path).ok())
 }
 
-fn work_at<D: Alter>(
+fn work_at<K: Scheme, D: Alter>(
     rt: &HostRuntime,
-    desk: &mut Desk<HmacSha256, D>,
+    desk: &mut Desk<K, D>,
     work: Work,
 ) -> Result<(), Failure> {
     match work {

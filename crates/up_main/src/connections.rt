@@ -22,7 +22,7 @@ use up_program::messages::{connection_fault, listening};
 use up_program::times::{seconds, waits};
 use up_service::Fault;
 use up_service::stream::serve_stream;
-use up_sign::hmac_sha256::HmacSha256;
+use up_sign::scheme::Scheme;
 
 /// How long a client is waited for that neither sends nor takes anything, in seconds: all others wait too. A request that has
 /// begun stands still no longer where a network works, and a proxy sends it at once.
@@ -35,9 +35,9 @@ const LAST_SILENCE: u64 = 2;
 const MOST_READS: u32 = 1_000_000;
 
 /// Answers HTTP at a port of this host, on so many connections.
-pub(crate) fn serve<D: Alter>(
+pub(crate) fn serve<K: Scheme, D: Alter>(
     rt: &HostRuntime,
-    desk: &mut Desk<HmacSha256, D>,
+    desk: &mut Desk<K, D>,
     port: u16,
     count: u32,
 ) -> Result<(), Failure>
@@ -52,9 +52,9 @@ pub(crate) fn serve<D: Alter>(
 }
 
 /// Accepts the next connection, serves it, and closes it. A fault of it is told on standard error.
-fn serve_next<D: Alter>(
+fn serve_next<K: Scheme, D: Alter>(
     rt: &HostRuntime,
-    desk: &mut Desk<HmacSha256, D>,
+    desk: &mut Desk<K, D>,
     listener: &TcpListener,
     number: u64,
 ) -> io::Result<()> {
@@ -67,9 +67,9 @@ fn serve_next<D: Alter>(
 }
 
 /// Answers the requests of a connection, all at the moment at which it was accepted.
-fn serve_one<D: Alter>(
+fn serve_one<K: Scheme, D: Alter>(
     rt: &HostRuntime,
-    desk: &mut Desk<HmacSha256, D>,
+    desk: &mut Desk<K, D>,
     stream: &TcpStream,
 ) -> Result<(), ScriptCause> {
     let at = seconds(SystemTime::now(rt));
@@ -85,9 +85,9 @@ fn serve_one<D: Alter>(
 }
 
 /// Answers requests, all at one moment. Where that fails, it is told what ended it.
-fn answer_requests<D: Alter, R: Source, W: Sink>(
+fn answer_requests<K: Scheme, D: Alter, R: Source, W: Sink>(
     alloc: Global,
-    desk: &mut Desk<HmacSha256, D>,
+    desk: &mut Desk<K, D>,
     at: u64,
     requests: &mut R,
     answers: &mut W,

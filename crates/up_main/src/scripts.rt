@@ -1,6 +1,6 @@
 //! Scripts on standard input.
 ghost use Rattle.std.specs.Prelude.{◌≡◌, ◌⊎◌, IfErr, OnOk};
-ghost use Rattle.uptane_desk.specs.Ends.{IsStopped};
+ghost use Rattle.up_main.specs.Ends.{IsStopped};
 ghost use Rattle.up_lines.specs.Runs.{Blames};
 
 use sqlite::Alter;
@@ -10,12 +10,12 @@ use up_pieces::sink::Sink;
 use up_pieces::source::Source;
 use up_program::failure::{Failure, ended, told};
 use up_service::script::run_script;
-use up_sign::hmac_sha256::HmacSha256;
+use up_sign::scheme::Scheme;
 
 /// Carries out the script on standard input, and prints its answers.
-pub(crate) fn answer_lines<D: Alter>(
+pub(crate) fn answer_lines<K: Scheme, D: Alter>(
     rt: &HostRuntime,
-    desk: &mut Desk<HmacSha256, D>,
+    desk: &mut Desk<K, D>,
 ) -> Result<(), Failure> {
     told(
         &mut rt.stderr(),
@@ -25,9 +25,9 @@ pub(crate) fn answer_lines<D: Alter>(
 
 /// Carries out a script, and writes its answers. It ends well only where the script was read to its end and each answer was
 /// written; else what stopped it is told of the part that failed.
-fn answer_script<D: Alter, R: Source, W: Sink>(
+fn answer_script<K: Scheme, D: Alter, R: Source, W: Sink>(
     alloc: Global,
-    desk: &mut Desk<HmacSha256, D>,
+    desk: &mut Desk<K, D>,
     script: &mut R,
     answers: &mut W,
 ) -> Result<(), Failure>

@@ -1,0 +1,37 @@
+//! What a program does, by its words.
+ghost use Rattle.std.specs.Prelude.{◌≡◌, Err, IsNone};
+
+use crate::databases::{Work, work_over};
+use crate::files::digest;
+use std::env;
+use std::process::ExitCode;
+use up_program::failure::{Failure, exit_code, told};
+use up_program::words::behind_name;
+use up_service::job::Job;
+use up_service::words::job;
+use up_sign::scheme::Scheme;
+
+/// Does what the words behind the program's name ask for, with repositories under this scheme, and answers the program's status.
+pub fn run<K: Scheme>(rt: &HostRuntime, scheme: K) -> ExitCode {
+    exit_code(carried_out(rt, scheme, asked(rt)))
+}
+
+/// The job of the words behind the program's name; none where a word isn't UTF-8.
+fn asked(rt: &HostRuntime) -> Option<Job> {
+    let words = env::args(rt).ok()?;
+    job(behind_name(rt.alloc(), words).ok()?)
+}
+
+/// Carries out a job. Where there is none, the usage is told.
+fn carried_out<K: Scheme>(rt: &HostRuntime, scheme: K, job: Option<Job>) -> Result<(), Failure>
+    ensures usage { IsNone job → result ≡ Err Failure.Usage }
+{
+    match job {
+        Some(Job::Run(file)) => work_over(rt, scheme, file.as_str(), Work::Script),
+        Some(Job::Serve(file, port, count)) => {
+            work_over(rt, scheme, file.as_str(), Work::Serve { port, count })
+        }
+        Some(Job::Digest(file)) => digest(rt, file.as_str()),
+        None => told(&mut rt.stderr(), Err(Failure::Usage)),
+    }
+}

@@ -1,0 +1,48 @@
+#!/bin/sh
+# Copies each desk's file while it is served, looks at the copy, and makes metrics and the page of the fleet of the newest copies. To
+# be run by root.
+#
+#     backup.sh
+#
+# A service stands still while its file is copied: some milliseconds where COPIES is on the same filesystem and that can clone (XFS,
+# Btrfs). The newest KEEP copies of each desk stay, and as many of those that apply.sh made. Then AFTER is run with the names of the new copies, where it is there: to bring
+# them to another machine, say. Settings are read from /etc/uptane/settings. The status is 1 where anything failed.
+set -eu
+umask 077
+: "${SETTINGS:=/etc/uptane/settings}"
+# shellcheck source=/dev/null
+if [ -r "$SETTINGS" ]; then . "$SETTINGS"; fi
+: "${TOOLS:=/usr/lib/uptane_desk/tools/operate}" "${FOLDER:=/var/lib/uptane}" "${COPIES:=/var/backups/uptane}" "${KEEP:=48}" "${DESKS:=}"
+: "${METRICS:=}" "${PAGE:=}" "${AFTER:=/etc/uptane/after-backup}"
+
+tool() { name=$1; shift; python3 "$TOOLS/$name.py" "$@"; }
+unit_of() { if [ "$1" ]; then echo "uptane-desk@$1.service"; else echo uptane-desk.service; fi; }
+failed='' made='' named=''
+
+# removes the copies of such names but for so many, the newest
+older() { find "$COPIES" -maxdepth 1 -name "$1" | sort -r | tail -n "+$(($2 + 1))" | while read -r old; do rm -f "$old" "$old-wal"; done; }
+
+backup() {
+    copy="$COPIES/desk$1-$(date -u +%Y%m%dT%H%M%SZ).db" process=$(systemctl show -p MainPID --value "$(unit_of "$1")")
+    if tool copy_served "$process" "$FOLDER/desk$1.db" "$copy"; then
+        made="$made $copy" named="$named desk$1=$copy"
+    else
+        echo "backup.sh: desk $1: no copy" >&2
+        failed=yes
+    fi
+}
+
+each() { for desk in $(if [ "$DESKS" ]; then seq "$DESKS"; else echo alone; fi); do "$@" "${desk#alone}"; done; }
+each backup
+# shellcheck disable=SC2086
+tool check_file $made || failed=yes
+# copies that are amiss take no older one's place
+dropped() { older "desk$1-*Z.db" "$KEEP"; older "desk$1-*Z-before.db" "$KEEP"; }
+if [ ! "$failed" ]; then each dropped; fi
+# shellcheck disable=SC2086
+if [ "$METRICS" ] && [ ! "$failed" ]; then tool metrics --to "$METRICS" $named || failed=yes; fi
+# shellcheck disable=SC2086
+if [ "$PAGE" ] && [ ! "$failed" ]; then { tool fleet_page $named > "$PAGE.new" && mv "$PAGE.new" "$PAGE"; } || failed=yes; fi
+# shellcheck disable=SC2086
+if [ -x "$AFTER" ]; then "$AFTER" $made || failed=yes; fi
+[ ! "$failed" ]
