@@ -1,5 +1,5 @@
 #!/usr/bin/env node
-// A small Primary ECU in JavaScript, for Node 18 or later and nothing else. docs/integrate/PRIMARY.md and vectors/ say all that it does.
+// A small Primary ECU in JavaScript, tried with Node 20; it needs nothing else. docs/integrate/PRIMARY.md and vectors/ say all that it does.
 //
 //     node primary.mjs vectors FOLDER                 answers the vectors, and names those that it answers otherwise
 //     node primary.mjs trust URL VEHICLE              puts the first Root of each repository into VEHICLE, as in the factory

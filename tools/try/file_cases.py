@@ -178,7 +178,7 @@ def operated(program, own):
         answers = trials.printed(program, path, part.split("\n"))
         told += answers or ["no answer"]
         path = trials.copied(path, own / ("after%d" % len(told)))
-    yield "an operator's first days", told == (folder / "printed").read_text(encoding="ascii").split("\n")[:-1]
+    yield "an operator's first days", translated.are_as(translated.under(folder, reference.METHOD)[1], told)
     yield "the last copy is whole", trials.faults(path) == []
     page = (trials.TOP / "docs" / "use" / "OPERATING.md").read_text(encoding="ascii")
     shown = re.findall(r"^    ((?:reply|vehicle) .*)$", page, re.M)

@@ -25,7 +25,8 @@ PAGE = trials.TOP / "tools" / "operate" / "fleet_page.py"
 FLEET = {"vehicles": 40, "ecus": 3, "rounds": 6, "images": 12, "campaigns": 5, "seed": 7, "from_round": 0, "repeats": 0.1, "replaced": 0.1,
          "second_hashes": 0.5, "deliver": False}
 SIZE = "1180,900"
-NOW = fleet.START + 8 * 86400
+# half an hour after the last round
+NOW = fleet.START + 6 * 3600 + 1800
 
 
 def with_attacks(lines):

@@ -31,6 +31,7 @@ import page_sums
 import reference
 import schemas
 import statements
+import translated
 import trials
 
 FLEET = {"vehicles": 9, "ecus": 4, "rounds": 3, "images": 14, "campaigns": 4, "seed": 13}
@@ -134,8 +135,7 @@ FILES = [("director", "root.json"), ("director", "1.root.json"), ("image", "root
 def worked():
     """Scripts after which a database is taken back to an older schema: worked rows, and half a day."""
     for name in WORKED:
-        text = (trials.TOP / "rows" / name / "script").read_text(encoding="ascii")
-        yield name, [line for line in text.split("\n") if line]
+        yield name, list(filter(None, translated.under(trials.TOP / "rows" / name, reference.METHOD)[0]))
     yield "half a day", OLD_DAY[:HALF]
     yield "reports with second hashes", list(second_hashes_reported())
 

@@ -27,6 +27,7 @@ import make_vectors
 import reference
 import schemes
 import trials
+import vector_fleet
 
 PRIMARY = trials.TOP / "examples" / "primary"
 sys.path.insert(0, str(PRIMARY))
@@ -190,7 +191,7 @@ def delivered(body, at=None):
 def of_text(secret, counter, case):
     """A manifest of VIN-2 that has the text as a member more. One level of a text that is as deep as may be is left to what is
     signed, which has it round the member."""
-    payload = make_vectors.payload_of("VIN-2", counter, make_vectors.reports_of("VIN-2", counter))
+    payload = vector_fleet.payload_of("VIN-2", counter, vector_fleet.reports_of("VIN-2", counter))
     texts = [case["text"], case.get("canonical", "[0]")]
     if texts[0].startswith((14 * "[", 14 * '{"a":')):
         texts = [it[1:-1] if it.startswith("[") else it[5:-1] for it in texts]
@@ -201,7 +202,7 @@ def of_text(secret, counter, case):
 
 def texts(program):
     told, setup = vectors("canonical_texts")["cases"], vectors("manifests", METHOD)["setup"]
-    secret, version, lines, wanted = bytes.fromhex(make_vectors.key(0xA4)), 0, [], []
+    secret, version, lines, wanted = bytes.fromhex(vector_fleet.key(0xA4)), 0, [], []
     for counter, case in enumerate(told, 1):
         lines.append(delivered(of_text(secret, counter, case)))
         version += "canonical" in case
@@ -215,7 +216,7 @@ def texts(program):
 def identifiers(program):
     keys = [case for case in vectors("key_identifiers")["cases"] if len(case["public"]) == 64]
     role = lambda *given: {"keys": list(given), "threshold": 1}
-    roles = {it: role(make_vectors.key(0x70 + at)) for at, it in enumerate(reference.ROLES)}
+    roles = {it: role(vector_fleet.key(0x70 + at)) for at, it in enumerate(reference.ROLES)}
     lines = [fleet.line("found", director=roles | {"root": role(*(case["public"] for case in keys))}, image=roles),
              fleet.line("fetch", repository="director", file="root.json")]
     printed = trials.printed(program, ":memory:", lines) or ["", "file null"]

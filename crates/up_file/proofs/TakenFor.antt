@@ -75,7 +75,7 @@ made_ok of_conn shown method old mid (Ok x) read empty made durable crash before
   taken = λ clean. inr (record { empty = empty clean; made = made clean; durable = durable clean });
   crash = made_taken (of_conn mid) (shown x) crash;
   keys = λ clean rows listed.
-      let between = omega (arith, clean, crash.clean) in
+      let between : HasCleanDisk (of_conn mid) = omega (arith, clean, crash.clean) in
       absurd (never_none old (of_conn mid) rows (read.kept between) (empty clean) (listed (before between)));
 }
 made_ok of_conn shown method old mid (Err e) read empty made durable crash before = tt
