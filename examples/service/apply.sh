@@ -79,7 +79,12 @@ fi
 
 copied() {
     process=$(systemctl show -p MainPID --value "$(unit_of "$1")")
-    tool copy_served "$process" "$(file_of "$1")" "$COPIES/desk$1-$(date -u +%Y%m%dT%H%M%SZ)-before.db"
+    copy=$COPIES/desk$1-$(date -u +%Y%m%dT%H%M%SZ)-before.db
+    while [ -e "$copy" ]; do
+        sleep 1
+        copy=$COPIES/desk$1-$(date -u +%Y%m%dT%H%M%SZ)-before.db
+    done
+    tool copy_served "$process" "$(file_of "$1")" "$copy"
 }
 
 # given as the owner of the file: what another user makes can't be opened by the service

@@ -49,7 +49,9 @@ def ran(program, words):
 
 
 def tried(word):
-    """The words of each tool. Without a C compiler no call can be made to fail."""
+    """The words of each tool. Without a C compiler no call can be made to fail. Sweeps and operators' cases are those of HMAC alone."""
+    if os.environ.get("SCHEME") == "ed25519":
+        return [it for it in (QUICK if word == "quick" else TRIED) if it[0] != "try/operator_cases.py"]
     if word in ("", "quick"):
         return QUICK if word else TRIED
     if not shutil.which("cc"):
