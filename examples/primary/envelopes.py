@@ -7,6 +7,7 @@ in their Root files.
 import hashlib
 import hmac
 import json
+import re
 import sys
 from datetime import datetime, timedelta, timezone
 from pathlib import Path
@@ -55,10 +56,38 @@ def key_identifier(public):
     return hmac.new(public, b"uptane-key-id", hashlib.sha256).hexdigest()
 
 
+class File(dict):
+    """An envelope, and its text as it was served: a Timestamp names the SHA-256 of the Snapshot's text."""
+
+    def __init__(self, text):
+        super().__init__(json.loads(text))
+        self.text = text
+
+
+def reply_of(text):
+    """A Director's reply. Its files have their own texts: what stands between two members of the reply belongs to neither."""
+    reply, decoder, at = json.loads(text), json.JSONDecoder(), text.index("{") + 1
+    spaces = re.compile(r"[ \t\n\r,:]*")
+    while text[at := spaces.match(text, at).end()] != "}":
+        name, at = decoder.raw_decode(text, at)
+        at = spaces.match(text, at).end()
+        value, end = decoder.raw_decode(text, at)
+        reply[name] = File(text[at:end]) if isinstance(value, dict) else value
+        at = end
+    return reply
+
+
+def has_form(key, name):
+    """Whether a Root shows a key as it has to: of this scheme, and under its identifier, in the one encoding of a point."""
+    if scheme is HmacSha256:
+        return key == key | {"method": scheme.method, "public": ""}
+    public = bytes.fromhex(key["public"]) if re.fullmatch("[0-9a-f]{64}", key["public"]) else b""
+    return key["method"] == scheme.method and len(public) == 32 and key_identifier(public) == name and ed25519.decode(public) is not None
+
+
 def shown_keys(root):
     """The keys that a Root shows, by identifier. Under HMAC it shows none."""
-    told = {name: bytes.fromhex(key["public"]) for name, key in root.get("keys", {}).items() if key["method"] == scheme.method}
-    return {name: public for name, public in told.items() if key_identifier(public) == name}
+    return {} if scheme is HmacSha256 else {name: bytes.fromhex(key["public"]) for name, key in root.get("keys", {}).items()}
 
 
 def moment(seconds):

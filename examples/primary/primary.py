@@ -40,7 +40,7 @@ from pathlib import Path
 sys.dont_write_bytecode = True
 
 import verify
-from envelopes import canonical, hashes, key_identifier, manifest, use
+from envelopes import File, canonical, hashes, key_identifier, manifest, reply_of, use
 
 # seconds: what an answer may take, longer than the proxies of `examples/service` wait, and the waits between tries, each half as long again at
 # random so that a fleet doesn't come at once
@@ -87,7 +87,7 @@ def fetcher(url):
         if status == 404 and text.startswith('{"error":29,'):
             return None
         verify.expect(status == 200, "%s: %d %s", name, status, text)
-        return json.loads(text)
+        return File(text)
 
     return fetch
 
@@ -157,7 +157,7 @@ def answered(told, url, save):
             told["pending"] = None if refused and status < 500 else told["pending"]
             raise Failed("%d %s" % (status, text))
         try:
-            return verified(told, json.loads(text), url, now)
+            return verified(told, reply_of(text), url, now)
         except verify.Old as old:
             print("again with a new manifest: %s" % old)
             told["pending"] = None
@@ -251,7 +251,7 @@ def trust(url, path):
 
 def check(text, told):
     """Looks at a reply alone: each file under its role's keys, its versions, and that the Timestamp names this very Snapshot."""
-    reply, secrets = json.loads(text), {}
+    reply, secrets = reply_of(text), {}
     if "signed" in told:
         use(next(iter(told["signed"]["keys"].values())))
     else:

@@ -6,7 +6,7 @@ identifier: under Ed25519 none, since a Root shows the keys of its roles. A chec
 """
 import hashlib
 
-from envelopes import canonical, is_signed_by, seconds, shown_keys
+from envelopes import has_form, is_signed_by, seconds, shown_keys
 
 ROLES = ("timestamp", "snapshot", "targets")
 # more Root versions than the service can make
@@ -33,12 +33,22 @@ def check_signed(envelope, root, role, secrets, what):
     expect(len(signers) >= told["threshold"], "%s isn't signed by %d of the %s keys", what, told["threshold"], role)
 
 
+def check_root(root, what):
+    """That a Root has the form of one: each key as it has to be shown and of some role, and thresholds that its keys can meet."""
+    roles = [root["roles"][role] for role in ("root", *ROLES)]
+    fits = all(1 <= it["threshold"] <= len(it["keyids"]) == len(set(it["keyids"])) <= 4 for it in roles)
+    expect(fits, "%s has a role that its keys can't sign", what)
+    expect({name for it in roles for name in it["keyids"]} == set(root["keys"]), "%s has other keys than its roles", what)
+    expect(all(has_form(key, name) for name, key in root["keys"].items()), "%s shows a key in another form", what)
+
+
 def next_root(trusted, envelope, secrets, repository):
     """The Root after the trusted one: of the next version, signed by enough of the old root keys and of its own."""
     before, root = trusted["signed"], envelope["signed"]
     what = "%s root %d" % (repository, before["version"] + 1)
     expect((root["type"], root["repository"]) == ("root", repository), "%s is another file", what)
     expect(root["version"] == before["version"] + 1, "%s has the version %d", what, root["version"])
+    check_root(root, what)
     check_signed(envelope, before, "root", secrets, what + ", by the Root before,")
     check_signed(envelope, root, "root", secrets, what)
     return envelope
@@ -53,7 +63,8 @@ def latest_root(trust, fetch, secrets, repository, now):
         if newer is None:
             break
         before, root = root, next_root(root, newer, secrets, repository)
-        if any(before["signed"]["roles"][role]["keyids"] != root["signed"]["roles"][role]["keyids"] for role in ("timestamp", "snapshot")):
+        keys = lambda it: [set(it["signed"]["roles"][role]["keyids"]) for role in ("timestamp", "snapshot")]
+        if keys(before) != keys(root):
             versions |= {"timestamp": 0, "snapshot": 0}
     expect(seconds(root["signed"]["expires"]) > now, "%s root %d has expired", repository, root["signed"]["version"])
     return {"root": root, "versions": versions}
@@ -69,7 +80,7 @@ def check_files(trust, files, secrets, repository, now, vehicle=None):
         expect(told["version"] >= versions.get(role, 0), "%s goes back to version %d", what, told["version"])
         expect(seconds(told["expires"]) > now, "%s has expired", what, kind=Old if repository == "director" else Refused)
     named = files["timestamp"]["signed"]["meta"]["snapshot.json"]
-    digest = hashlib.sha256(canonical(files["snapshot"]).encode("ascii")).hexdigest()
+    digest = hashlib.sha256(files["snapshot"].text.encode("ascii")).hexdigest()
     expect(named["hashes"]["sha256"] == digest, "the %s Timestamp names another Snapshot", repository)
     expect(named["version"] == files["snapshot"]["signed"]["version"], "the %s Timestamp names another version of the Snapshot", repository)
     listed = files["snapshot"]["signed"]["meta"]["targets.json"]["version"]

@@ -42,6 +42,26 @@ function read(text) {
   return value;
 }
 
+// An envelope that has its own text: a Timestamp names the SHA-256 of the Snapshot's text as it was served.
+const withText = (value, text) => Object.defineProperty(value, 'text', { value: text });
+const fileOf = (text) => withText(read(text), text);
+
+// A Director's reply, whose files have their own texts.
+function replyOf(text) {
+  const reply = read(text);
+  let depth = 0, name, from;
+  for (const { 0: it, index } of text.matchAll(/"(?:[^"\\]|\\.)*"|[{}[\],:]/gs)) {
+    if (it === '}' || it === ']') depth -= 1;
+    if (depth === 1 && it === ':') from = index + 1;
+    else if (from && (depth === 0 || (depth === 1 && it === ','))) {
+      if (reply[name]?.signed) withText(reply[name], text.slice(from, index).trim());
+      from = undefined;
+    } else if (depth === 1 && !from && it[0] === '"') name = JSON.parse(it);
+    if (it === '{' || it === '[') depth += 1;
+  }
+  return reply;
+}
+
 const bytes = (hex) => Buffer.from(hex, 'hex');
 const mac = (secret, data) => createHmac('sha256', secret).update(data).digest();
 const keyid = (publicPart) => mac(publicPart, 'uptane-key-id').toString('hex');
@@ -81,9 +101,12 @@ function isSignedBy(envelope, key) {
 }
 
 // The keys that a Root shows, by identifier: none under HMAC.
-function shownKeys(root) {
-  const shown = Object.entries(root.signed.keys).filter(([id, it]) => it.method === method && keyid(bytes(it.public)) === id);
-  return Object.fromEntries(shown.map(([id, it]) => [id, bytes(it.public)]));
+const shownKeys = (root) => (method === 'ed25519' ? Object.fromEntries(Object.entries(root.signed.keys).map(([id, it]) => [id, bytes(it.public)])) : {});
+
+// Whether a Root shows a key as it has to: of this scheme, and under its identifier.
+function hasForm(id, key) {
+  if (key.method !== method || method !== 'ed25519') return key.method === method && key.public === '';
+  return /^[0-9a-f]{64}$/.test(key.public) && keyid(bytes(key.public)) === id && isOneEncoding(bytes(key.public));
 }
 
 // ---- what is sent
@@ -114,14 +137,26 @@ function checkSigned(file, role, root, secrets, what) {
   expect(signers.size >= threshold, `${what} isn't signed by enough of its keys`);
 }
 
+// That a Root has the form of one: thresholds that its keys can meet, and the keys of its roles alone.
+function checkRoot(root, what) {
+  const roles = ['root', ...ROLES].map((role) => root.signed.roles[role]), listed = new Set(roles.flatMap((it) => it.keyids));
+  for (const { keyids, threshold } of roles) {
+    const count = new Set(keyids).size;
+    expect(threshold >= 1 && threshold <= count && count === keyids.length && count <= 4, `${what} has a role that its keys can't sign`);
+  }
+  const keys = Object.entries(root.signed.keys);
+  expect(keys.length === listed.size && keys.every(([id, it]) => listed.has(id) && hasForm(id, it)), `${what} has other keys than its roles`);
+}
+
 // The trusted Root and versions once each newer Root is verified in its turn.
 async function latestRoot(trust, fetched, secrets, repository, now) {
   let { root, versions } = trust;
   for (let file; (file = await fetched(`${repository}/${root.signed.version + 1}.root.json`)); root = file) {
     const { type, repository: of, version } = file.signed;
     expect(type === 'root' && of === repository && version === root.signed.version + 1, `${repository} root is another file`);
+    checkRoot(file, `${repository} root ${version}`);
     for (const by of [root, file]) checkSigned(file, 'root', by, secrets, `${repository} root ${version}`);
-    const same = (role) => canonical(root.signed.roles[role].keyids) === canonical(file.signed.roles[role].keyids);
+    const same = (role) => canonical([...root.signed.roles[role].keyids].sort()) === canonical([...file.signed.roles[role].keyids].sort());
     if (!same('timestamp') || !same('snapshot')) versions = { ...versions, timestamp: 0, snapshot: 0 };
   }
   expect(!expired(root, now), `${repository} root has expired`);
@@ -137,7 +172,7 @@ function checkFiles(trust, files, secrets, repository, now, vehicle) {
     expect(!expired(file, now), `${what} has expired`, repository === 'director' ? Old : Refused);
   }
   const named = files.timestamp.signed.meta['snapshot.json'];
-  expect(named.hashes.sha256 === digest('sha256', canonical(files.snapshot)), `the ${repository} Timestamp names another Snapshot`);
+  expect(named.hashes.sha256 === digest('sha256', files.snapshot.text), `the ${repository} Timestamp names another Snapshot`);
   expect(named.version === files.snapshot.signed.version, `the ${repository} Timestamp names another version`);
   expect(files.snapshot.signed.meta['targets.json'].version === files.targets.signed.version, `the ${repository} Snapshot names other Targets`);
   return { root: trust.root, versions: Object.fromEntries(ROLES.map((role) => [role, files[role].signed.version])) };
@@ -152,6 +187,8 @@ async function verified(vehicle, trust, reply, fetched, secrets, now) {
   expect(reply.root === version, "the reply is of an older Root", Old);
   director = checkFiles(director, reply, secrets, 'director', now, vehicle.vehicle);
   expect(ROLES.every((role) => director.versions[role] === reply.version), 'the files are of several versions');
+  // (where nothing is assigned the Standard ends here: 5.4.4.2)
+  if (!reply.targets.signed.targets.length) return { due: {}, trust: { director } };
   const { targets, image } = await imageRepository(trust.image, fetched, secrets, now);
   return { due: checkTargets(reply.targets, targets, vehicle.ecus), trust: { director, image } };
 }
@@ -205,7 +242,7 @@ async function asked(url, body) {
 const fetcher = (url) => async (name) => {
   const { status, text, error } = await asked(`${url}/${name}`);
   expect(status === 200 || error.error === 29, `${name}: ${text}`);
-  return status === 200 ? read(text) : null;
+  return status === 200 ? fileOf(text) : null;
 };
 
 async function answered(vehicle, url, save) {
@@ -216,7 +253,7 @@ async function answered(vehicle, url, save) {
     save();
     const { status, text, error } = await asked(`${url}/director/manifest`, vehicle.pending);
     try {
-      if (status === 200) return await verified(vehicle, vehicle, read(text), fetcher(url), secrets, now);
+      if (status === 200) return await verified(vehicle, vehicle, replyOf(text), fetcher(url), secrets, now);
     } catch (wrong) {
       if (!(wrong instanceof Old)) throw wrong;
       console.log(`again with a new manifest: ${wrong.message}`);
@@ -310,20 +347,20 @@ async function chains(vector, compare, got) {
   const secrets = Object.fromEntries(Object.entries(vector.vehicle.role_keys).map(([id, key]) => [id, bytes(key)]));
   for (const it of vector.cases) {
     const texts = { ...vector[`files of ${it.base}`], ...it.replace };
-    const fetched = async (name) => (texts[name] ? read(texts[name]) : null);
-    const known = (repository) => ({ root: read(vector['files of update'][`${repository}/1.root.json`]), versions: it.trusted?.[repository] ?? {} });
+    const fetched = async (name) => (texts[name] ? fileOf(texts[name]) : null);
+    const known = (repository) => ({ root: read(texts[`${repository}/1.root.json`]), versions: it.trusted?.[repository] ?? {} });
     const ecus = vector.vehicle.ecus.map((ecu) => (
       { ...ecu, hardware: it.hardware?.[ecu.ecu] ?? ecu.hardware, installed: { ...ecu.installed, ...it.installed?.[ecu.ecu] } }));
     const vehicle = { ...vector.vehicle, ecus }, trusted = { director: known('director'), image: known('image') };
     let verdict;
     try {
-      const { due } = await verified(vehicle, trusted, read(texts.reply), fetched, secrets, it.now ?? vector.now);
+      const { due } = await verified(vehicle, trusted, replyOf(texts.reply), fetched, secrets, it.now ?? vector.now);
       verdict = ['accepted', Object.fromEntries(Object.entries(due).map(([ecu, target]) => [ecu, target.file]))];
     } catch (wrong) {
       if (!(wrong instanceof Refused)) throw wrong;
       verdict = [wrong instanceof Old ? 'old' : 'refused'];
     }
-    compare(`${it.attack}: ${it.name}`, verdict, it.verdict === 'accepted' ? ['accepted', vector.installs] : [it.verdict]);
+    compare(`${it.attack}: ${it.name}`, verdict, it.verdict === 'accepted' ? ['accepted', it.installs ?? vector.installs] : [it.verdict]);
   }
   for (const it of vector.contents) compare(it.name, got(() => checkImage(it.target, Buffer.from(it.content))) !== null, it.verdict === 'accepted');
 }

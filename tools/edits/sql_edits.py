@@ -28,19 +28,13 @@ FOLDER, ROWS = trials.TOP / "crates" / CRATE, trials.TOP / "crates" / "up_test_t
 # the tables in the order in which they are made, and those that an older schema lacks
 TABLES = ["meta", "role_key", "repo_file", "image", "campaign", "vehicle", "ecu", "kept", "retired", "image_sha512"]
 LATER = {1: ["retired", "image_sha512"], 2: ["image_sha512"], 3: []}
-# what the columns of an answer hold: a number, a text, bytes, yes or no, or an image's three columns; a ? stands for what may be null
-COLUMNS = {
-    "meta": "nnn", "role_keys": "nttnbn", "role_keys_of": "nttnbn", "file": "ttt", "image": "tnbtntt", "images": "tnbtntt",
-    "image_sha512": "tb", "image_sha512s": "tb", "campaign": "tttf", "running_campaigns": "tttf", "vehicle": "ttnn", "ecus": "ttbin?",
-    "ecu_owner": "t", "retired_owner": "t", "kept": "tnnnnttt",
-}
 # the words of the rows that read, each with its function
 READS = {
-    "meta": "meta", "keys": "role_keys", "keys_of": "role_keys_of", "file": "file", "image": "image", "images": "images", "campaign": "campaign",
+    "meta": "meta", "keys_of": "role_keys_of", "file": "file", "image": "image", "images": "images", "campaign": "campaign",
     "running": "running_campaigns", "sha512": "image_sha512", "sha512s": "image_sha512s", "vehicle": "vehicle", "ecus": "ecus", "owner": "ecu_owner",
     "retired": "retired_owner", "kept": "kept",
 }
-MANY = {"role_keys", "role_keys_of", "images", "running_campaigns", "image_sha512s", "ecus"}
+MANY = {"role_keys_of", "images", "running_campaigns", "image_sha512s", "ecus"}
 
 
 class Refused(Exception):
@@ -88,7 +82,7 @@ class Database:
                 self.db.execute(rest)
                 return "done"
             if word == "ask":
-                return " ; ".join(" ".join(map(shown, row)) for row in self.db.execute(rest))
+                return told(self.db.execute(rest))
             if word in READS:
                 return self.read(READS[word], rest)
             return self.written({"make": self.make, "put": self.put, "set": self.set, "close": self.end}[word], rest)
@@ -143,8 +137,9 @@ class Database:
         rows = self.run(name, *taken)
         if name not in MANY and len(rows) > 1:
             raise Refused
-        told = [decoded(row, COLUMNS[name]) for row in rows]
-        return " ; ".join(told) if told or name in MANY else "none"
+        if "owner" in name and any(not isinstance(row[0], str) for row in rows):
+            raise Refused
+        return told(rows) if rows or name in MANY else "none"
 
     # ---- writes
 
@@ -170,7 +165,7 @@ class Database:
 
     def put_campaign(self, rest):
         *words, runs = split(rest, 4)
-        self.run("insert_campaign", *words, int(runs == "runs"))
+        self.run("insert_campaign", *words, int(runs == "1"))
 
     def set_numbers(self, text):
         self.run("update_meta", *map(number, split(text, 3)))
@@ -214,30 +209,13 @@ class Database:
 
 
 def shown(value):
-    """A column of a query of one's own."""
-    return str(value) if isinstance(value, str) or isinstance(value, int) and value >= 0 else "-"
+    """A column: a number, a text, or bytes in hex, and a - for anything else."""
+    return value.hex() if isinstance(value, bytes) else str(value) if isinstance(value, (str, int)) else "-"
 
 
-def decoded(row, kinds):
-    """A row as it is told, by the kinds of its columns; refused where one holds something else."""
-    row, told = list(row), []
-    for kind in kinds:
-        values = [row.pop(0) for _ in range(3 if kind == "i" else 1)] if row else [None]
-        if kind == "i" and [isinstance(it, (str, int, bytes)[at]) for at, it in enumerate(values)] == [True] * 3:
-            told.append("%s:%d:%s" % (values[0], values[1], values[2].hex()))
-        elif kind in "i?" and values == [None] * len(values):
-            told.append("-")
-        elif kind == "n" and isinstance(values[0], int) and values[0] >= 0:
-            told.append(str(values[0]))
-        elif kind in "t?" and isinstance(values[0], str):
-            told.append(values[0])
-        elif kind == "b" and isinstance(values[0], bytes):
-            told.append(values[0].hex())
-        elif kind == "f" and values[0] in (0, 1):
-            told.append("runs" if values[0] else "closed")
-        else:
-            raise Refused
-    return " ".join(told)
+def told(rows):
+    """Rows as they are told, whatever their columns hold."""
+    return " ; ".join(" ".join(map(shown, row)) for row in rows)
 
 
 def sections():
@@ -250,16 +228,23 @@ def sections():
 
 
 def statements():
-    """The texts of SQL by the names of their functions."""
+    """The texts of SQL by the names of their functions, those that make tables by `make_` and the table."""
     found = {}
     for path, functions in functions_below(str(FOLDER)).items():
         text = (FOLDER / path).read_bytes()
         for it in functions:
             body = text[it.opens : it.closes]
             texts = texts_in(body)[0] if IN_A_BODY.search(body) else []
-            assert not texts or len(texts) == 1 and it.name not in found, "%s has more than one text, or another function its name" % it.name
-            found |= {it.name: text for text in texts}
+            named = named_by(it.name, texts)
+            assert len(named) == len(texts) and not named.keys() & found.keys(), "%s has more than one text, or another function its name" % it.name
+            found |= named
     return found
+
+
+def named_by(function, texts):
+    """These texts of a function by their names."""
+    makes = [re.match(r"CREATE TABLE (\w+)", text) for text in texts]
+    return {"make_" + it[1] if it else function: text for it, text in zip(makes, texts)}
 
 
 def first_wrong(texts, rows):
@@ -286,7 +271,7 @@ def cases(whole):
         yield "rows: %s%s" % (name, "" if found is None else ": `%s` is answered %s and not %s" % (found[0], found[2], found[1])), found is None
     for edit in of_text_alone():
         file = FOLDER / "refused" / (edit.label.split("/")[1] + ".edit")
-        texts, named = as_it_stands | {edit.function.name: texts_in(edit.body)[0][0]}, rows_named(file)
+        texts, named = as_it_stands | named_by(edit.function.name, texts_in(edit.body)[0]), rows_named(file)
         wrong = {name: first_wrong(texts, all_rows[name]) for name in (all_rows if whole else named) if name in all_rows and "on purpose" not in name}
         if whole:
             yield "%s is seen in: %s" % (edit.label, ", ".join(name for name in wrong if wrong[name]) or "none"), any(wrong.values())

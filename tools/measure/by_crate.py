@@ -4,7 +4,8 @@
     by_crate.py COMMAND WORD ..      as by_crate.py rt ci
 
 Once a second it looks at the programs that the command started, and adds up the processor time of each that names a crate, with its tests
-or without. So what a program takes in its last second is missing, and one that is faster isn't seen. The status is the command's.
+or without, and of those that such a one started, as compilers are. So what a program takes in its last second is missing, and one that is
+faster isn't seen. The status is the command's.
 """
 import os
 import subprocess
@@ -36,13 +37,14 @@ def crate_of(words):
 
 
 def look(top, took):
-    """Writes down what each program below this one took so far."""
+    """Writes down what each program below this one took so far: for the crate that it names, or else the nearest above it."""
     rows = list(running())
-    parents = {number: parent for number, parent, *_ in rows}
-    for number, _, seconds, words in rows:
-        crate, at = crate_of(words), number
+    parents, crates = {number: parent for number, parent, *_ in rows}, {number: crate_of(words) for number, *_, words in rows}
+    for number, _, seconds, _ in rows:
+        crate, at = crates[number], number
         while at in parents and at != top:
             at = parents[at]
+            crate = crate or crates.get(at)
         if crate and at == top:
             took[number, crate] = max(took.get((number, crate), 0), seconds)
 

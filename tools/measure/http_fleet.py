@@ -11,7 +11,7 @@ be the same, byte for byte, and every answer the reply that was kept.
 Then the program is killed (SIGKILL) at KILLS moments (20) while it is sent manifests: each reply that came is the one that
 is kept, and SQLite finds the file whole.
 
-promise: statements-alone
+promise: one-call
 """
 import contextlib
 import itertools

@@ -1,7 +1,7 @@
 #!/usr/bin/env python3
 """Measures the program: instructions a line, lines a second, and what a start takes. `docs/use/SPEED.md` has the figures.
 
-    speed.py PROGRAM fleets         instructions and compressions of SHA-256 a line, of scripts of seven fleets
+    speed.py PROGRAM fleets         instructions a line, over memory and over a file, and compressions of SHA-256, of scripts of seven fleets
     speed.py PROGRAM functions      the five functions that take most of them, in the fleet of `fleets` that is first
     speed.py PROGRAM malloc         calls of malloc, calloc and realloc a line, of the same scripts
     speed.py PROGRAM commands       instructions and compressions of SHA-256 of a line of each kind
@@ -22,7 +22,8 @@
 
 Instructions are those that valgrind's callgrind counts; compressions are the calls of SHA-256's function in its file, and those of
 malloc are counted in it too. Other parts need no valgrind. A number behind `growth_counts`, `start`, `millions` or `sums` is the
-greatest number of kept replies, for a quick trial; `millions` needs 9 GB of disk and as much memory, and a C compiler. Files are made where `TMPDIR` says.
+greatest number of kept replies, for a quick trial; `millions` needs 9 GB of disk and as much memory, `millions 1000000` half of that, and both a C
+compiler. Files are made where `TMPDIR` says.
 """
 import contextlib
 import json
@@ -101,10 +102,12 @@ def hashed(program, script, own):
 
 
 def fleets(program, own):
-    for name, words in FLEETS.items():
+    for at, (name, words) in enumerate(FLEETS.items()):
         script = list(fleet.script(**words))
         taken, blocks = hashed(program, script, own)
-        print("| %s | %d | %d | %d |" % (name, len(script), taken // len(script), blocks // len(script)), flush=True)
+        kept = counted(program, script, own, own / "told", own / ("fleet%d" % at))
+        each = [number // len(script) for number in (taken, kept, blocks)]
+        print("| %s | %d | %d | %d | %d |" % (name, len(script), *each), flush=True)
 
 
 def malloc(program, own):
@@ -433,7 +436,7 @@ def multiplied(path, vehicles, kept):
     """Makes a file with one kept reply for each vehicle one with so many, by SQLite: the same texts with other counters and versions."""
     more = kept // vehicles - 1
     with closing(sqlite3.connect(path, isolation_level=None)) as db:
-        for pragma in ("journal_mode = OFF", "synchronous = OFF", "cache_size = -2000000"):
+        for pragma in ("journal_mode = OFF", "synchronous = OFF", "cache_size = -200000"):
             db.execute("PRAGMA " + pragma).fetchall()
         db.execute("CREATE TEMP TABLE first AS SELECT * FROM kept WHERE version = 1")
         db.execute("BEGIN")
@@ -452,8 +455,8 @@ def multiplied(path, vehicles, kept):
 
 def millions(program, own, most=4_000_000):
     vehicles = 1000
-    for ecus, kept in ((1, 1_000_000), (4, 1_000_000), (1, 4_000_000)):
-        kept, path = min(kept, most), own / ("%d of %d" % (kept, ecus))
+    for ecus, kept in dict.fromkeys((ecus, min(kept, most)) for ecus, kept in ((1, 1_000_000), (4, 1_000_000), (1, 4_000_000))):
+        path = own / ("%d of %d" % (kept, ecus))
         trials.printed(program, path, [*prepared(vehicles, 10, 10, ecus), *manifests(vehicles, vehicles, 1, ecus)])
         multiplied(path, vehicles, kept)
         for at, (name, variables) in enumerate(allocators_here().items()):

@@ -2,11 +2,12 @@
 import copy
 import json
 
-from reference import canonical, moment
-from schemes import key_identifier
+import ed25519
+from reference import METHOD, SCHEME, canonical, moment
+from schemes import Ed25519, HmacSha256, key_identifier
 from vector_fleet import (
     CONTENT, DAY, ECUS, FIRST, NOW, ROTATE, SECOND, SETUP, UPDATE, desk,
-    digest, image_of, line, manifest, public, reports_of, signed_by,
+    digest, image_of, key, line, manifest, public, reports_of, signed_by,
 )
 
 
@@ -31,28 +32,46 @@ class Chain:
         """The reply with other members."""
         return {"reply": canonical(json.loads(self.files["reply"]) | members)}
 
-    def director(self, role, change, keys=None, rehash=True):
+    def director(self, role, change, keys=None, rehash=True, **more):
         """The reply after a change of what one of its files has signed, which these keys sign, or the role's. The Timestamp names the
-        Snapshot anew, unless that is what is to be wrong."""
-        told = json.loads(self.files["reply"])
+        Snapshot anew, unless that is what is to be wrong. The reply may have other members."""
+        told = json.loads(self.files["reply"]) | more
         told[role] = resigned(told[role], change, keys or self.keys["director"][role]["keys"])
         if role == "snapshot" and rehash:
             name = lambda signed: signed["meta"].update({"snapshot.json": named(told["snapshot"])})
             told["timestamp"] = resigned(told["timestamp"], name, self.keys["director"]["timestamp"]["keys"])
         return {"reply": canonical(told)}
 
-    def image(self, role, change, rehash=True):
+    def image(self, role, change, keys=None, rehash=True):
         """The same of a file of the Image repository."""
-        made = resigned(json.loads(self.files["image/%s.json" % role]), change, self.keys["image"][role]["keys"])
+        made = resigned(json.loads(self.files["image/%s.json" % role]), change, keys or self.keys["image"][role]["keys"])
         found = {"image/%s.json" % role: canonical(made)}
         if role == "snapshot" and rehash:
             name = lambda signed: signed["meta"].update({"snapshot.json": named(made)})
             found |= self.image("timestamp", name)
         return found
 
-    def root(self, change, keys):
-        """The Director's second Root after a change, signed by these keys."""
-        return {"director/2.root.json": canonical(resigned(json.loads(self.files["director/2.root.json"]), change, keys))}
+    def spaced(self, renamed):
+        """The reply whose Snapshot has white space, and the same of the Image repository. Their Timestamps name that text, or the canonical one."""
+        told = json.loads(self.files["reply"])
+        texts = canonical(told["snapshot"]), self.files["image/snapshot.json"]
+        others = [it.replace(",", " , ", 1) for it in texts]
+        name = lambda text: lambda signed: signed["meta"]["snapshot.json"].update(hashes={"sha256": digest(text)})
+        if renamed:
+            told["timestamp"] = resigned(told["timestamp"], name(others[0]), self.keys["director"]["timestamp"]["keys"])
+        found = self.image("timestamp", name(others[1])) if renamed else {}
+        return {"reply": canonical(told).replace(texts[0], others[0])}, {"image/snapshot.json": others[1]} | found
+
+    def root(self, change, keys, repository="director", number=2):
+        """The Root of this number after a change, signed by these keys. One that isn't there is made of the one before it."""
+        name = "%s/%d.root.json"
+        found = self.files.get(name % (repository, number)) or self.files[name % (repository, number - 1)]
+
+        def changed(signed):
+            signed["version"] = number
+            change(signed)
+
+        return {name % (repository, number): canonical(resigned(json.loads(found), changed, keys))}
 
 
 def resigned(envelope, change, keys):
@@ -73,8 +92,32 @@ def target(**more):
     return lambda signed: signed["targets"][0].update(more)
 
 
+def of_role(role, secrets, threshold=1):
+    """A Root's change: the role has these keys, and a key that no role has any more is gone."""
+    def change(signed):
+        own = {key_identifier(bytes.fromhex(public(it))): {"method": METHOD, "public": SCHEME.shown(bytes.fromhex(public(it)))} for it in secrets}
+        signed["roles"][role] = {"keyids": [*own], "threshold": threshold}
+        listed = {it for one in signed["roles"].values() for it in one["keyids"]}
+        signed["keys"] = {name: it for name, it in (signed["keys"] | own).items() if name in listed}
+
+    return change
+
+
+def of_key(secret, change):
+    """A Root's change of the key of this secret: of its name, or of what stands there."""
+    def changed(signed):
+        name = key_identifier(bytes.fromhex(public(secret)))
+        other, told = change(name, signed["keys"].pop(name))
+        signed["keys"][other] = told
+        for role in signed["roles"].values():
+            role["keyids"] = [other if it == name else it for it in role["keyids"]]
+
+    return changed
+
+
 nothing = members()
 trusted = lambda repository, **versions: {"trusted": {repository: versions}}
+ROOTS = {it: (FIRST[it]["root"]["keys"], SECOND[it]["root"]["keys"]) for it in FIRST}
 BOTH_ROOTS = FIRST["director"]["root"]["keys"], SECOND["director"]["root"]["keys"]
 one_key = lambda role: FIRST["director"][role]["keys"][:1]
 
@@ -149,6 +192,115 @@ def of_update(it):
     yield "a key twice", "one key signs twice, and another once", yes, with_signatures(it, lambda own: [own[0], own[0], own[1]]), {}
 
 
+def signed_otherwise(it):
+    """Each file of the two repositories but the Director's Targets, which has other cases: under another role's key."""
+    no = "refused"
+    for repository, roles in (("director", ("timestamp", "snapshot")), ("image", ("timestamp", "snapshot", "targets"))):
+        of, whose = getattr(it, repository), {"director": "the Director's", "image": "the Image repository's"}[repository]
+        for role in roles:
+            other = it.keys[repository]["targets" if role == "snapshot" else "snapshot"]["keys"]
+            yield "arbitrary software", "%s %s signed by the key of another role" % (whose, role.capitalize()), no, of(role, nothing, other[:1]), {}
+
+
+def of_forms(it):
+    """Cases of one repository's members and texts."""
+    yes, no = "accepted", "refused"
+    yield "mix and match", "the Image repository's Timestamp names another version of the Snapshot", no, it.image("timestamp", lambda signed: signed["meta"]["snapshot.json"].update(version=9)), {}
+    for place, whose in enumerate(("the Director's", "the Image repository's")):
+        yield "none", "%s Snapshot has white space, and the Timestamp the SHA-256 of that text" % whose, yes, it.spaced(True)[place], {}
+        yield "mix and match", "%s Snapshot has white space, and the Timestamp the SHA-256 of the canonical text" % whose, no, it.spaced(False)[place], {}
+    yield "none", "white space between the members of the reply", yes, {"reply": it.files["reply"].replace(',"snapshot":', ' , "snapshot" : ').replace(',"targets":{"sig', '\n, "targets":{"sig')}, {}
+    yield "mix and match", "the reply names a later Root than is served", no, it.reply(root=2), {}
+    empty = it.director("targets", members(targets=[]))
+    yield "none", "nothing is assigned", yes, empty, {"installs": {}}
+    yield "none", "nothing is assigned, and the Image repository's Timestamp has expired: none of its files is needed", yes, empty, {"installs": {}, "now": NOW + 2 * DAY}
+
+
+def of_new_roots(it):
+    """A second Root after a change of the first, of a vehicle that has verified greater versions."""
+    yes, no = "accepted", "refused"
+    for repository, whose in (("director", "the Director's"), ("image", "the Image repository's")):
+        own, first, second = getattr(it, repository), FIRST[repository], SECOND[repository]
+        root = lambda change: it.root(change, first["root"]["keys"], repository)
+        more = {"root": 2} if repository == "director" else {}
+        told = {"reply": it.reply(**more)["reply"]} if more else {}
+        greater = lambda **versions: trusted(repository, **versions)
+        yield "none", "%s new Root has the same keys" % whose, yes, root(nothing) | told, {}
+        for role in ("timestamp", "snapshot"):
+            yield "rollback", "%s new Root has the same keys: the version of the %s isn't forgotten" % (whose, role.capitalize()), no, root(nothing) | told, greater(**{role: 99})
+            for other in ("timestamp", "snapshot"):
+                found = own(role, nothing, second[role]["keys"], **more) if more else own(role, nothing, second[role]["keys"])
+                name = "%s new Root has another key of the %s alone: the version of the %s is forgotten" % (whose, role.capitalize(), other.capitalize())
+                yield "none", name, yes, root(of_role(role, second[role]["keys"])) | found, greater(**{other: 99})
+        both = first["timestamp"]["keys"] + second["timestamp"]["keys"]
+        before = it.root(of_role("timestamp", both), first["root"]["keys"], repository, 1)
+        signed = own("timestamp", nothing, both, **more) if more else own("timestamp", nothing, both)
+        for name, change in (("in another order", of_role("timestamp", both[::-1])), ("with another threshold", of_role("timestamp", both, 2))):
+            replaced = before | root(change) | signed
+            yield "none", "%s new Root has the keys of the Timestamp %s" % (whose, name), yes, replaced, {}
+            yield "rollback", "the same: the version of the Timestamp isn't forgotten" + (" (%s, %s)" % (repository, name)), no, replaced, greater(timestamp=99)
+
+
+def of_root_keys(it):
+    """A second Root that isn't of the form of a Root, though enough other keys sign all files."""
+    no, roots = "refused", FIRST["director"]["root"]["keys"]
+    spare = FIRST["director"]["targets"]["keys"][2]
+    told, signed = it.reply(root=2), it.director("targets", nothing, FIRST["director"]["targets"]["keys"][:2], root=2)
+    other_method = next(one.method for one in (HmacSha256, Ed25519) if one is not SCHEME)
+    cases = [("a key of another method", of_key(spare, lambda name, it: (name, it | {"method": other_method})))]
+    if SCHEME is Ed25519:
+        point = (1).to_bytes(32, "little"), (ed25519.P + 1).to_bytes(32, "little")
+        cases += [
+            ("a key under another name", of_key(spare, lambda name, it: (64 * "0", it))),
+            ("a key in upper case", of_key(spare, lambda name, it: (name, it | {"public": it["public"].upper()}))),
+            ("a key of 31 bytes", of_key(spare, lambda name, it: (key_identifier(bytes.fromhex(it["public"][:62])), it | {"public": it["public"][:62]}))),
+            ("a key with y not below p", of_key(spare, lambda name, it: (key_identifier(point[1]), it | {"public": point[1].hex()}))),
+        ]
+    for name, change in cases:
+        yield "arbitrary software", "a Root with %s, though enough others sign" % name, no, it.root(change, roots) | signed, {}
+    stranger = of_role("targets", [key(0x99)])
+
+    def of_no_role(signed):
+        known = copy.deepcopy(signed)
+        stranger(known)
+        signed["keys"] |= known["keys"]
+
+    listed = lambda **more: lambda signed: signed["roles"]["targets"].update(more)
+    yield "arbitrary software", "a Root with a key of no role", no, it.root(of_no_role, roots) | told, {}
+    yield "arbitrary software", "a Root that lists a key which it hasn't", no, it.root(lambda signed: signed["roles"]["targets"]["keyids"].append(64 * "0"), roots) | told, {}
+    yield "arbitrary software", "a Root that lists a key of a role twice, though enough sign", no, it.root(lambda signed: signed["roles"]["targets"]["keyids"].append(signed["roles"]["targets"]["keyids"][0]), roots) | told, {}
+    yield "too few signatures", "a Root with a threshold of 0, and Targets under another role's key", no, it.root(listed(threshold=0), roots) | it.director("targets", nothing, one_key("snapshot"), root=2), {}
+    above = lambda signed: signed["roles"]["timestamp"].update(threshold=2)
+    last = it.root(nothing, roots, number=2)["director/2.root.json"]
+    third = canonical(resigned(json.loads(last), members(version=3), roots))
+    yield "none", "two new Roots", "accepted", {"director/2.root.json": last, "director/3.root.json": third} | it.reply(root=3), {}
+    yield "too few signatures", "the first of two new Roots has a threshold above the number of the role's keys", no, it.root(above, roots) | {"director/3.root.json": third} | it.reply(root=3), {}
+    passed = it.root(members(expires=moment(NOW)), roots)
+    yield "none", "the first of two new Roots has expired, and the latest hasn't", "accepted", passed | {"director/3.root.json": third} | it.reply(root=3), {}
+    yield "none", "the trusted Root has expired, and the latest hasn't", "accepted", it.root(members(expires=moment(NOW)), roots, number=1) | {"director/2.root.json": last} | told, {}
+    own = FIRST["image"]["root"]["keys"]
+    again = it.root(nothing, own, "image")
+    yield "none", "the Image repository's trusted Root has expired, and the latest hasn't", "accepted", it.root(members(expires=moment(NOW)), own, "image", 1) | again, {}
+    later = canonical(resigned(json.loads(again["image/2.root.json"]), members(version=3), own))
+    yield "none", "the first of two new Roots of the Image repository has expired, and the latest hasn't", "accepted", it.root(members(expires=moment(NOW)), own, "image") | {"image/3.root.json": later}, {}
+
+
+def of_image_rotation(it):
+    """The cases of the Image repository's second Root."""
+    yes, no = "accepted", "refused"
+    first, second = ROOTS["image"]
+    root = lambda change, keys: it.root(change, keys, "image")
+    yield "none", "versions of the Image repository's files whose keys were replaced are forgotten", yes, {}, trusted("image", timestamp=99, snapshot=99)
+    yield "rollback", "those of its Targets aren't", no, {}, trusted("image", targets=99)
+    yield "freeze", "the Image repository's new Root is kept back", no, {"image/2.root.json": None}, {}
+    for name, keys in (("that the old keys didn't sign", second), ("that its own keys didn't sign", first), ("by one of two old keys", second + first[:1]), ("by one of its own two keys", second[:1] + first)):
+        yield "too few signatures", "the Image repository's Root " + name, no, root(nothing, keys), {}
+    for attack, name, more in [("rollback", "of a later version", {"version": 3}), ("rollback", "of version 1", {"version": 1}), ("arbitrary software", "of the Director", {"repository": "director"}),
+                               ("arbitrary software", "of another type", {"type": "targets"})]:
+        yield attack, "a Root %s in place of the Image repository's" % name, no, root(members(**more), second + first), {}
+    yield "freeze", "the Image repository's new Root has expired", no, root(members(expires=moment(NOW)), second + first), {}
+
+
 def of_rotation(it):
     """The cases after a rotation, of a vehicle that trusts root version 1 of both repositories."""
     yes, no, old = "accepted", "refused", "old"
@@ -195,13 +347,16 @@ VEHICLE = {
 INSTALLS = {"gw": "gateway-2.bin", "left": "brake-2.bin", "right": "brake-2.bin"}
 
 
+CASES = {"update": (of_update, signed_otherwise, of_forms, of_new_roots, of_root_keys), "rotation": (of_rotation, of_image_rotation)}
+
+
 def bases():
     return {"update": Chain(False), "rotation": Chain(True)}
 
 
 def chains():
     for base, it in bases().items():
-        for attack, name, verdict, replaced, more in {"update": of_update, "rotation": of_rotation}[base](it):
+        for attack, name, verdict, replaced, more in (one for cases in CASES[base] for one in cases(it)):
             assert not replaced or any(it.files.get(file) != text for file, text in replaced.items()), name
             yield {"base": base, "attack": attack, "name": name, "verdict": verdict} | ({"replace": replaced} if replaced else {}) | more
 

@@ -2,7 +2,7 @@
 """Tries the program from outside, over files and over HTTP: runs the tools that do, as many at once as there are processors.
 
     check_program.py PROGRAM [WORD]
-    check_program.py PROGRAM quick     runs a part, of some minutes, that needs no proxy and no C compiler
+    check_program.py PROGRAM quick     runs a part, of some minutes, that needs no proxy and no C compiler, and the examples beside it
 
 The program is that of the scheme that the environment names (`SCHEME=ed25519`), or of HMAC.
 Random scripts and requests are those of a hundred seeds, random bodies of ten. Each tool has fifteen minutes, many times what it
@@ -26,8 +26,8 @@ TRIED = [("try/file_cases.py",), ("try/fuzz.py", "1", "50"), ("try/fuzz.py", "51
 # what operators and integrators use
 TRIED += [("try/copy_cases.py", "2"), ("try/primary_cases.py",), ("try/operator_cases.py",), ("try/scale_cases.py",),
           ("try/large_cases.py",), ("try/vector_cases.py",), ("try/upkeep_cases.py",)]
-QUICK = [("try/fuzz.py", "1", "5"), ("try/fuzz_http.py", "1", "5"), ("try/fuzz.py", "bodies", "1", "1"), ("try/each_line.py",),
-         ("try/tables.py",), ("try/primary_cases.py",), ("try/operator_cases.py",), ("try/vector_cases.py",), ("try/upkeep_cases.py",)]
+QUICK = [("try/check_examples.py",), ("try/fuzz.py", "1", "5"), ("try/fuzz_http.py", "1", "5"), ("try/fuzz.py", "bodies", "1", "1"),
+         ("try/each_line.py",), ("try/tables.py",), ("try/primary_cases.py",), ("try/operator_cases.py",), ("try/vector_cases.py",), ("try/upkeep_cases.py",)]
 # every so manieth call of a kind
 SWEPT = {"memory": "997", "disk": "31", "reading": "211", "http": "199"}
 
@@ -49,9 +49,7 @@ def ran(program, words):
 
 
 def tried(word):
-    """The words of each tool. Without a C compiler no call can be made to fail. Sweeps and operators' cases are those of HMAC alone."""
-    if os.environ.get("SCHEME") == "ed25519":
-        return [it for it in (QUICK if word == "quick" else TRIED) if it[0] != "try/operator_cases.py"]
+    """The words of each tool. Without a C compiler no call can be made to fail."""
     if word in ("", "quick"):
         return QUICK if word else TRIED
     if not shutil.which("cc"):

@@ -12,7 +12,7 @@ copy of the file as it was, and over memory after the script that filled it. Bot
 the same rows, byte for byte. Five more connections send requests whose
 heads are damaged anywhere: they are answered as `tools/oracle/reference_http.py` answers them, and the file stays as it was.
 
-promise: statements-alone
+promise: one-call
 """
 import contextlib
 import json

@@ -1,7 +1,8 @@
 #!/usr/bin/env python3
 """Asks each tool what it does, by `--help`, and sees whether what it says is so. It runs nothing else.
 
-    helps.py
+    helps.py         tries each
+    helps.py list    lists the tools by folder, each with the first sentence of what it says
 
 A tool has to end well, to print its own first lines, and to name itself in each line that says how it is called. Each option that it names
 has to be one that its code reads, and each that its code reads has to be named. Files without a line of their own to start them are parts of tools.
@@ -53,7 +54,15 @@ def cases():
         yield name + " names its options", added <= named <= words
 
 
+def listed():
+    for path, text in tools():
+        said = " ".join(ast.get_docstring(ast.parse(text)).split("\n\n")[0].split())
+        print(f"{path.relative_to(trials.TOP)}: {re.split('(?<=[.]) ', said)[0]}")
+
+
 if __name__ == "__main__":
     if {"-h", "--help"} & {*sys.argv[1:]}:
         sys.exit(print(__doc__))
+    if sys.argv[1:] == ["list"]:
+        sys.exit(listed())
     sys.exit(trials.judged("help", cases()))

@@ -26,6 +26,7 @@ import page_sums
 import reference
 import schemas
 import statements
+import translated
 import trials
 
 TOOLS = trials.TOP / "tools" / "operate"
@@ -501,8 +502,8 @@ def query(page, begins):
 
 def operating(program, own):
     path = own / "first"
-    lines = (trials.TOP / "examples" / "operating" / "script").read_text(encoding="ascii").split("\n")[:-1]
-    yield "an operator's first days", trials.printed(program, own / "days", lines) is not None
+    lines, wanted = translated.under(trials.TOP / "examples" / "operating", reference.METHOD)
+    yield "an operator's first days", translated.are_as(wanted, trials.printed(program, own / "days", lines))
     with trials.read(own / "days") as db:
         silent = [row[0] for row in db.execute(query("use/OPERATING.md", "SELECT vehicle.vehicle, datetime(max(moment)"))]
         yield "vehicles that are silent", silent == ["VIN-0001", "VIN-0002"]

@@ -22,10 +22,10 @@ WIDTH, HEIGHT, ROW, GAP = 128, 40, 74, 12
 LANES = {
     "the rules": {
         "up_canon": "canonical text, names", "up_curve": "RFC 8032's rules", "up_field": "numbers, points", "up_ed25519": "Ed25519", "up_sign": "signatures", "up_roles": "role files",
-        "up_metadata": "keys and files", "up_manifest": "manifests", "up_plan": "plans", "up_machine": "state, decisions",
+        "up_metadata": "keys and files", "up_manifest": "manifests", "up_plan": "plans", "up_machine": "state, decisions", "up_laws": "laws of replies",
     },
     "the database": {
-        "up_tables": "tables, statements", "up_columns": "lists in columns", "up_rows": "rows of a state", "up_records": "records of tables",
+        "up_tables": "tables, statements", "up_columns": "lists in columns", "up_rows": "rows of a state", "up_records": "store and cache",
         "up_store": "reads, writes", "up_file": "database files",
     },
     "the program": {"up_desk": "commands, the headline", "up_service": "scripts, streams", "up_main": "the programs' parts",

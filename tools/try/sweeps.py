@@ -44,6 +44,7 @@ import http_cases
 import reference
 import schemas
 import statements
+import translated
 import trials
 
 ROWS = ["first_manifest", "equal_and_greater_releases", "kept_reply_after_a_rotation", "images_taken",
@@ -105,14 +106,14 @@ class Row:
     """A row's lines, what they print, and the tables after each of them."""
 
     def __init__(self, name, own):
-        folder = trials.TOP / "rows" / name
-        self.name, self.lines = name, [line for line in (folder / "script").read_text("ascii").split("\n") if line]
-        self.printed = (folder / "printed").read_text("ascii").split("\n")[:-1]
+        lines, wanted = translated.under(trials.TOP / "rows" / name, reference.METHOD)
+        self.name, self.lines, self.printed = name, [line for line in lines if line], []
         path, self.states = own / ("rules " + name), []
         Row.begin(self, path)
         for count in range(len(self.lines) + 1):
-            assert trials.expected(path, self.lines[max(count - 1, 0) : count]) == self.printed[max(count - 1, 0) : count]
+            self.printed += trials.expected(path, self.lines[max(count - 1, 0) : count])
             self.states.append(trials.rows(path))
+        assert translated.are_as(wanted, self.printed)
 
     def begin(self, path):
         for part in (path, trials.log_of(path)):

@@ -45,12 +45,13 @@ PARTS = {
     "up_rows": "the rows of a state",
     "up_columns": "lists in columns",
     "up_tables": "the tables, and what their statements make",
-    "up_records": "records of the tables",
+    "up_records": "what tables show to a desk, and its cache",
 }
 
 
 def without_comments(text):
-    return re.sub(r"^[ \t]*--.*\n", "", re.sub(r"[ \t]+--(?: .*)?$", "", text, flags=re.MULTILINE), flags=re.MULTILINE)
+    # (lines of a comment first: without its words such a line would be an empty one, at which a record is cut)
+    return re.sub(r"[ \t]+--(?: .*)?$", "", re.sub(r"^[ \t]*--.*\n", "", text, flags=re.MULTILINE), flags=re.MULTILINE)
 
 
 # ---- quotes

@@ -127,13 +127,16 @@ SYSTEMCTL = """#!/bin/sh
 cd %s
 for unit; do :; done
 read -r pid < "$unit.pid" || pid=0
-alive() { [ "$pid" != 0 ] && [ -e "/proc/$pid" ] && ! grep -q '^State:.Z' "/proc/$pid/status"; }
+# (a number is soon another program's, once its own has ended)
+alive() { [ "$pid" != 0 ] && [ "$(tr '\\0' ' ' < "/proc/$pid/cmdline")" = "$(cat "$unit.words") " ]; }
+gone() { [ ! -e "/proc/$pid" ] || grep -q '^State:.Z' "/proc/$pid/status"; }
 if [ "$1" != show ]; then echo "$1 $unit" >> calls; fi
 case $1 in
 show) if alive; then echo "$pid"; else echo 0; fi;;
-stop) if alive; then kill "$pid"; while alive; do sleep 0.02; done; fi;;
+stop) if alive; then kill "$pid"; until gone; do sleep 0.02; done; fi;;
 start)
     if ! alive; then
+        : > "$unit.said"
         setsid sh -c 'echo $$ > "$0.pid"; exec $(cat "$0.words")' "$unit" > "$unit.said" 2>&1 9>&- &
         until grep -q listening "$unit.said"; do sleep 0.02; done
     fi;;

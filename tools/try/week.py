@@ -52,6 +52,10 @@ START = 1767225600
 # shares of the vehicles: never on the road this week, never install, send each manifest twice
 SILENT, STUBBORN, TWICE = 0.02, 0.05, 0.03
 KILLED, LOST = 3, 6
+# the campaigns, and the hour of the `apply.sh` that opens each
+OPENED = {"spring": 3, "first-two-hundred": 39, "engines": 63}
+# the vehicle of which a workshop replaces an ECU
+BROKEN = 500
 
 
 # ---- vehicles
@@ -227,7 +231,9 @@ class Week(upkeep_cases.Service):
         """Kills a desk among its requests; systemd would start it anew."""
         path = self.own / "run" / (self.unit(name) + ".pid")
         time.sleep(0.5)
-        os.kill(int(path.read_text("ascii")), signal.SIGKILL)
+        number = int(path.read_text("ascii"))
+        assert str(self.file(name)) in Path("/proc/%d/cmdline" % number).read_text("ascii").split("\0")
+        os.kill(number, signal.SIGKILL)
         self.note("desk %s is killed" % name)
         time.sleep(1)
         upkeep_cases.ran(self.own / "bin" / "systemctl", "start", self.unit(name), env=self.env)
@@ -282,15 +288,15 @@ def operators(week, hour):
                                                               items=[{"hardware": kind, "file": image(kind, release)["file"]} for kind in kinds])
     few = [it.name for it in week.vehicles[100:300]]
     if hour == 2:
-        week.drop("images.script", *(line("add_image", **image(kind, 2)) for kind in KINDS))
-        week.drop("campaign.script", offer("spring", ("GATEWAY", "BRAKE"), 2))
+        week.drop("1-images.script", *(line("add_image", **image(kind, 2)) for kind in KINDS))
+        week.drop("2-campaign.script", offer("spring", ("GATEWAY", "BRAKE"), 2))
         week.drop("typo.script", offer("wrong", ("GATEWAY",), 2).replace("vehicles", "vehicle"))
     if hour == 38:
         week.drop("few.script", offer("first-two-hundred", ("DISPLAY",), 2, few))
     if hour == 62:
         needs = image("ENGINE", 3) | {"needs": [{"hardware": "DISPLAY", "release": 3}]}
         week.drop("engine.script", line("add_image", **needs), offer("engines", ("ENGINE",), 3, few[:50]))
-        broken = week.vehicles[500]
+        broken = week.vehicles[BROKEN]
         old, broken.ecus[3][0] = broken.ecus[3][0], broken.name + "-new"
         week.drop("workshop.script", line("replace_ecu", vehicle=broken.name, old=old, ecu=broken.name + "-new", hardware="DISPLAY", key=broken.key))
         broken.installed["DISPLAY"] = image("DISPLAY", 1)["file"]
@@ -398,8 +404,14 @@ def judged(week):
     yield "each desk's file is whole", all(trials.faults(week.file(name)) == [] for name in week.names)
     yield "all backups and refreshes went well", week.counts["backups"] >= week.hours - 1 and week.counts["applies"] == 2 * (week.hours // 24)
     journal = week.journal()
-    who = [it for it in journal if it["asked"]["do"] == "open_campaign"]
-    yield "the journal tells who opened each campaign", sorted(it["asked"]["campaign"] for it in who) == sorted(["spring", "first-two-hundred", "engines"][: len(who)]) and len(who) >= 1 and all(it["who"] for it in who)
+    who = [it for it in journal if it["asked"]["do"] == "open_campaign" and it["answer"] == "done"]
+    opened = [name for name, hour in OPENED.items() if hour < week.hours]
+    yield "the journal tells who opened each campaign", [it["asked"]["campaign"] for it in who] == opened and all(it["who"] for it in who)
+    taken = sum(it.installed["GATEWAY"] == image("GATEWAY", 2)["file"] for it in week.vehicles)
+    week.note("%d of %d vehicles have what the first campaign offers" % (taken, len(week.vehicles)))
+    yield "most vehicles have what the first campaign offers", 2 * taken > len(week.vehicles)
+    withheld = [int(it) for it in re.findall(r"(?m)^uptane_desk_vehicles_withheld\{.*\} (\d+)$", (week.own / "metrics.prom").read_text("ascii"))]
+    yield "plans are withheld where a campaign's needs aren't met", len(withheld) == DESKS and (sum(withheld) > 0) == (OPENED["engines"] + 24 < week.hours)
     yield "the script that the checker refuses was never given", week.answers("typo.refused") is not None and "wrong" not in [it["asked"].get("campaign") for it in journal]
     for name, given in (("fleet.html", "page.html"), ("uptane.prom", "metrics.prom"), ("journal", "journal")):
         shutil.copy(week.own / given, week.to / name)
@@ -454,6 +466,8 @@ def main():
     parser.add_argument("--to", type=Path, default=Path("/tmp/week"))
     parser.add_argument("--within", type=Path, default=None)
     given = parser.parse_args()
+    if given.vehicles <= BROKEN and given.days > 1:
+        parser.error("%d vehicles or fewer live one day at most: what operators do later is for others, too" % BROKEN)
     lacks = [word for word in ("nginx", "curl", "cc") if not shutil.which(word)]
     if lacks:
         print("there is no %s, so no week is lived" % ", no ".join(lacks))

@@ -34,7 +34,7 @@ use Rattle.up_machine.specs.Replies.{reply_text, reply_to}
 use Rattle.up_machine.specs.RepeatLaws.{RepeatsAreStale, CountersFindRepeats, ServedIsThinned, ServedStaysSound}
 use Rattle.up_machine.specs.Repeats.{KeptEntry, Sent, entry_signed, repeat_in, repeat_of, served_as, serve, meet, after, thinned, vehicle_of, delivers_own}
 use Rattle.up_machine.specs.Sound.{IsSound}
-use Rattle.up_machine.proofs.Decided.{IsDelivered, found_ok, rotate_ok, image_ok, refresh_ok, vehicle_ok, replace_ok, open_ok, close_ok, delivery_ok, fetch_ok}
+use Rattle.up_machine.proofs.Decided.{IsDelivered as HasDelivered, found_ok, rotate_ok, image_ok, refresh_ok, vehicle_ok, replace_ok, open_ok, close_ok, delivery_ok, fetch_ok}
 use Rattle.up_machine.proofs.Growing.{by_decision}
 use Rattle.up_machine.proofs.Lists.{none_passes}
 use Rattle.up_machine.proofs.Receiving.{received, manifest_received}
@@ -44,8 +44,8 @@ use Rattle.up_machine.proofs.Places.{nth_last}
 use Rattle.up_machine.proofs.Fetched.{in_time}
 use Rattle.up_rows.specs.StateRows.{rows_of_state}
 use Rattle.up_store.specs.Connections.{KeepsState}
-use Rattle.up_desk.specs.Laws.{ActsOnce, replaced_in, replaces_own, LeaveAlone, ActsOnceFrom, DeliveriesActOnce, FindsState, IsCalled, CrashesActOnce, ReopenedActsOnce, ReopenedOutlast}
-use Rattle.up_desk.specs.Serving.{HoldsState}
+use Rattle.up_desk.specs.Laws.{ActsOnce, replaced_in, replaces_own, LeaveAlone, ActsOnceFrom, DeliveriesActOnce, FindsState, IsDelivered, CrashesActOnce, ReopenedActsOnce, ReopenedOutlast}
+use Rattle.up_records.specs.Standing.{HoldsState}
 
 -- ---- a vehicle that is left alone
 
@@ -62,7 +62,7 @@ unchanged : (s : State) (o : Outcome) (name : Name) (v : Vehicle) → already s 
 unchanged s o name v is there = subst (λ (o : Outcome). Has name v o.next) is there
 
 other_vehicle : (k : Rules) (s : State) (at : ℕ) (body : List ℕ) (o : Outcome) (name : Name) (v : Vehicle) → owns name (Deliver body) ≡ false
-    → IsDelivered k s at body o → Has name v s → Has name v o.next
+    → HasDelivered k s at body o → Has name v s → Has name v o.next
 other_vehicle k s at body o name v other is there =
     let r = is.received in
     let reads : incoming_in body ≡ Ok r.incoming = (received k s at body r is.receives).reads in
@@ -318,7 +318,7 @@ served_as_accepted stale counters k s at body incoming o sound reads decides =
     served_new k s at body is.received is.receives (never_kept stale counters k s at body o sound decides) is.checked ∙ is.is
 
 -- a crash leaves the state before the call or the next one
-either : {S : Type 0} (g : Ghosts S) (k : Rules) (s : State) (at : ℕ) (body : List ℕ) (incoming : Incoming) (old new : Held S) → IsCalled g k s at body incoming old new → HasCleanDisk (state g new)
+either : {S : Type 0} (g : Ghosts S) (k : Rules) (s : State) (at : ℕ) (body : List ℕ) (incoming : Incoming) (old new : Held S) → IsDelivered g k s at body incoming old new → HasCleanDisk (state g new)
     → (left : Trees) → (state g new).may_leave left → HoldsState k s left ⊎ HoldsState k (serve k s at (Deliver body)).next left
 either g k s at body incoming old new it clean left may =
     let before : HasCleanDisk (state g old) = omega (arith, it.survives.clean) in

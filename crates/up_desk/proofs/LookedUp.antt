@@ -1,4 +1,5 @@
 -- Images that are looked up one after another.
+use Rattle.std.specs.Prelude.{Result, Ok, Err, OnOk, IfOk}
 use Rattle.std.proofs.Common.{◌≡◌, List, [], ◌∷◌, ◌++◌, Bool, true, false, cond, Option, Some, None, map, refl, sym, ap, ◌∙◌, subst}
 use Rattle.std.specs.Prelude.{is_some}
 use Rattle.std.specs.List.{AllByRecursion}
@@ -98,3 +99,8 @@ images_known registered images items is =
 pub gathered_more : (registered : Table ImageData) (files others : List Name) (images : Table ImageData) → gathered registered (files ++ others) images ≡ gathered registered others (gathered registered files images)
 gathered_more registered [] others images = refl
 gathered_more registered (file ∷ files) others images = gathered_more registered files others (with_found registered images file)
+
+-- of what went through
+pub if_ok_on : {A E P : Type 0} {Q : A → Type 0} (r : Result A E) → OnOk r P → (P → (x : A) → Q x) → IfOk r Q
+if_ok_on (Ok x) h f = f h x
+if_ok_on (Err e) h f = tt

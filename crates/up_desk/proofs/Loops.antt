@@ -1,17 +1,17 @@
 -- One more item of a loop.
 use Rattle.std.proofs.Common.{◌≡◌, ℕ, ◌+◌, ◌<◌, List, [], ◌∷◌, ◌++◌, length, get_or, take, map, sym, ap, ap₂, subst, ◌∙◌}
-use Rattle.std.specs.Prelude.{flat_map}
-use Rattle.std.proofs.lemmas.List.{flat_map_more, map_more, take_more}
+use Rattle.std.proofs.lemmas.List.{map_more}
 use Rattle.up_canon.specs.Names.{Name, Table}
 use Rattle.up_plan.specs.Images.{ImageData}
 use Rattle.up_desk.specs.Gathered.{IsPart, gathered}
 use Rattle.up_desk.proofs.LookedUp.{gathered_more, part_gathered}
+use Rattle.up_sign.specs.Schemes.{Rules}
+use Rattle.up_machine.specs.State.{State}
+use Rattle.up_records.specs.Reads.{Reads}
+use Rattle.up_records.specs.Standing.{HasCleanDisk, IfClean, ShowsState, Standing}
 
 pub mapped_more : {A B : Type 0} (f : A → B) (xs : List A) (i : ℕ) (x : A) → i < length xs → x ≡ get_or xs i x → map f (take (i + 1) xs) ≡ map f (take i xs) ++ f x ∷ []
 mapped_more f xs i x within is = map_more f xs i x within ∙ ap (λ y. map f (take i xs) ++ f y ∷ []) (sym is)
-
-pub flat_more : {A B : Type 0} (f : A → List B) (xs : List A) (i : ℕ) (x : A) → i < length xs → x ≡ get_or xs i x → flat_map f (take (i + 1) xs) ≡ flat_map f (take i xs) ++ f x
-flat_more f xs i x within is = ap (flat_map f) (take_more xs i x within ∙ ap (λ y. take i xs ++ y ∷ []) (sym is)) ∙ sym (flat_map_more f [] (take i xs) x)
 
 -- one more value is pushed
 pub pushed_more : {A B : Type 0} (f : A → B) (xs : List A) (i : ℕ) (x : A) (held more : List B) (b : B) → i < length xs → x ≡ get_or xs i x → more ≡ held ++ b ∷ [] → b ≡ f x → held ≡ map f (take i xs)
@@ -24,3 +24,8 @@ pub files_more : (registered start : Table ImageData) (before these : List Name)
 files_more registered start before these is so_far part found =
     found (subst (IsPart registered) (sym so_far) (part_gathered registered before start part))
     ∙ ap (gathered registered these) so_far ∙ sym (gathered_more registered before these start) ∙ ap (λ files. gathered registered files start) (sym is)
+
+-- the images of these files were put among those that were there, and nothing was written
+pub record FarGathered (k : Rules) (files : List Name) (start images : Table ImageData) (old now : Standing) : Type 0 where
+  pub found : HasCleanDisk now → (s : State) → IfClean (ShowsState k s) old → IsPart s.images start → images ≡ gathered s.images files start
+  pub reads : Reads k old now

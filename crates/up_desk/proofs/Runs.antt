@@ -4,18 +4,14 @@ use Rattle.std.proofs.lemmas.List.{take_more, take_all}
 use Rattle.std.specs.Prelude.{◌⊎◌, Result, Ok, Err, is_ok, is_some, MatchBool, IsTrue, IfSome, if◌then◌else◌}
 use Rattle.std.specs.List.{AllByRecursion}
 use Rattle.std.specs.FinMap as table
-use Rattle.sqlite_disk.specs.Disk.{MoreFaults}
 use Rattle.sqlite_trees.specs.View.{doubt}
-use Rattle.sqlite.specs.Effect.{Database}
 use Rattle.sqlite.specs.Tree.{Trees}
 use Rattle.sqlite.proofs.StateLemmas.{survives_then}
-use Rattle.up_canon.specs.declared.refusal.Refusal.TheVariants.{Store}
 use Rattle.up_sign.specs.Schemes.{Rules}
 use Rattle.up_machine.specs.declared.command.Command.{Command}
 use Rattle.up_machine.specs.declared.answer.Answer.{Answer}
 use Rattle.up_machine.specs.declared.answer.Answer.TheVariants.{Refused}
 use Rattle.up_machine.specs.Commands.{is_command}
-use Rattle.up_machine.specs.Deciding.{Outcome}
 use Rattle.up_machine.specs.State.{State}
 use Rattle.up_machine.specs.Machine.{run}
 use Rattle.up_machine.specs.Repeats.{Sent, Met, meet, repeat_of, serve, after, thinned, expected}
@@ -24,10 +20,11 @@ use Rattle.up_machine.specs.RepeatLaws.{AreCommands, RepeatsChangeNothing, Serve
 use Rattle.up_machine.specs.ApartLaws.{VehiclesStandApart, DeliveriesCommute, AreExchanged}
 use Rattle.up_machine.specs.Laws.{KeptRepliesOutlastRuns}
 use Rattle.up_machine.specs.Replies.{kept_reply}
-use Rattle.up_desk.specs.Standing.{Standing, HasCleanDisk, IfClean, KeepsState, Survives, LeavesOnly}
-use Rattle.up_desk.specs.Serving.{Becomes, HoldsState, IsCommit, is_failed, IsAnswered, RefusesOutcome, ShowsState, outright}
-use Rattle.up_desk.specs.Calls.{BlamesCall, CommitsCall, IsServed, MakesCall, ServesCall, SparesCall}
-use Rattle.up_desk.specs.Runs.{AreOutright, AreRefused, BlamesCalls, AreNeighbours, timed, sent, unless_failed, IsRun, RunsCalls, outcome_behind, ComesTo, SparesCalls, IsAnsweredCommit, StaysOrComesTo, OutlastsCalls, CommitsCalls}
+use Rattle.up_records.specs.Standing.{Standing, HasCleanDisk, IfClean, ShowsState, Survives, LeavesOnly}
+use Rattle.up_desk.specs.Serving.{IsCommit, is_failed, IsAnswered, outright}
+use Rattle.up_records.specs.Standing.{HoldsState}
+use Rattle.up_desk.specs.Calls.{CommitsCall, IsCalled, IsServed, ServesCall, SparesCall}
+use Rattle.up_desk.specs.Runs.{AreCalled, AreOutright, AreNeighbours, timed, sent, unless_failed, IsRun, outcome_behind, ComesTo, SparesCalls, IsAnsweredCommit, StaysOrComesTo, OutlastsCalls, CommitsCalls}
 
 -- the calls one after another, of which some may be lost
 abbrev pub Ran : Rules → State → List (ℕ × Command) → List Answer → State → Type 0
@@ -153,7 +150,7 @@ after_unchanged k s (m ∷ ms) all = ap (λ t. after k t ms) (met_unchanged k s 
 -- the commands have run, over a clean disk: from each state that the tables showed
 abbrev RunsFrom : Rules → Standing → Standing → List (ℕ × Command) → List Answer → Type 0
 RunsFrom k old new cs answers =
-    HasCleanDisk new → (s : State) → IsSound k s → IfClean (KeepsState k s) old → (next : State) × Ran k s cs answers next × IsSound k next × KeepsState k next new
+    HasCleanDisk new → (s : State) → IsSound k s → IfClean (ShowsState k s) old → (next : State) × Ran k s cs answers next × IsSound k next × ShowsState k next new
 
 runs_next : (k : Rules) (old mid new : Standing) (cs : List (ℕ × Command)) (c : ℕ × Command) (answers : List Answer) (a : Answer)
     → RunsFrom k old mid cs answers → (HasCleanDisk new → HasCleanDisk mid) → ServesCall k c.0 c.1 a mid new → IsTrue (is_command c.1) → RunsFrom k old new (cs ++ c ∷ []) (answers ++ a ∷ [])
@@ -166,10 +163,10 @@ runs_next k old mid new cs c answers a runs clean serves fits = λ now s sound w
 record Between (k : Rules) (s : State) (mid : Standing) (cs : List (ℕ × Command)) (answers : List Answer) : Type 0 where
   at : State
   sound : IsSound k at
-  shown : IfClean (KeepsState k at) mid
+  shown : IfClean (ShowsState k at) mid
   ran : HasCleanDisk mid → Ran k s cs answers at
 
-between : (k : Rules) (old mid : Standing) (cs : List (ℕ × Command)) (answers : List Answer) → RunsFrom k old mid cs answers → (s : State) → IsSound k s → IfClean (KeepsState k s) old
+between : (k : Rules) (old mid : Standing) (cs : List (ℕ × Command)) (answers : List Answer) → RunsFrom k old mid cs answers → (s : State) → IsSound k s → IfClean (ShowsState k s) old
     → Between k s mid cs answers
 between k old mid cs answers runs s sound was = by_disk (doubt mid.connection.is_clean) refl
   where
@@ -210,7 +207,7 @@ behind_answered k s before rest m answered =
 commit_last : (k : Rules) (s at next : State) (c : ℕ × Command) (a : Answer) (ms : List Sent) (mid new : Standing) → at ≡ after k s ms → is_failed a ≡ false
     → IsAnswered a at next (serve k at c.0 c.1)
     → IsCommit (after k s ms) (serve k (after k s ms) c.0 c.1).answer (serve k (after k s ms) c.0 c.1).next
-    → CommitsCall k c.0 c.1 a mid new → IsSound k at → IfClean (KeepsState k at) mid → HasCleanDisk new → LeavesOnly (HoldsState k (serve k (after k s ms) c.0 c.1).next) new
+    → CommitsCall k c.0 c.1 a mid new → IsSound k at → IfClean (ShowsState k at) mid → HasCleanDisk new → LeavesOnly (HoldsState k (serve k (after k s ms) c.0 c.1).next) new
 commit_last k s at next c a ms mid new here told answered commit commits sound shown now =
     let same : a ≡ (serve k at c.0 c.1).answer =
     (let it : MatchBool false (next ≡ at) ((a ≡ (serve k at c.0 c.1).answer) × (next ≡ (serve k at c.0 c.1).next)) =
@@ -245,7 +242,7 @@ outlasts_next k old mid new cs c answers a far runs due clean serves spares comm
     let here : b.at ≡ after k s (sent cs answers) = (ran_served k s cs answers b.at (b.ran (clean now))).state in
     by_rest s sound was before rest m made now b here (sym (sent_next k cs answers c a due) ∙ made.list) (serves now b.at b.sound b.shown) (last_of rest)
   where
-    by_rest : (s : State) → IsSound k s → IfClean (KeepsState k s) old → (before rest : List Sent) (m : Sent) → IsAnsweredCommit k s (sent (cs ++ c ∷ []) (answers ++ a ∷ [])) before rest m → HasCleanDisk new
+    by_rest : (s : State) → IsSound k s → IfClean (ShowsState k s) old → (before rest : List Sent) (m : Sent) → IsAnsweredCommit k s (sent (cs ++ c ∷ []) (answers ++ a ∷ [])) before rest m → HasCleanDisk new
         → (b : Between k s mid cs answers) → b.at ≡ after k s (sent cs answers) → sent cs answers ++ item (is_failed a) c ∷ [] ≡ before ++ m ∷ rest
         → IsServed k b.at c.0 c.1 a new → (rest ≡ []) ⊎ ((ys : List Sent) × (y : Sent) × (rest ≡ ys ++ y ∷ []))
         → LeavesOnly (λ trees. (at : State) × StaysOrComesTo k (outcome_behind k s before m).next rest at × HoldsState k at trees) new
@@ -276,76 +273,13 @@ unmoved k s ms at all (inr it) =
     it.4 ∙ ap (λ (t : State). (serve k t it.2.item.at it.2.item.command).next) (after_unchanged k s it.0 quiet.0) ∙ quiet.1
 
 -- where behind a commit no command changes the state, it is that after the whole list
-last_stays : (k : Rules) (old new : Standing) (cs : List (ℕ × Command)) (answers : List Answer) → OutlastsCalls k cs answers old new → CommitsCalls k cs answers old new
+pub last_stays : (k : Rules) (old new : Standing) (cs : List (ℕ × Command)) (answers : List Answer) → OutlastsCalls k cs answers old new → CommitsCalls k cs answers old new
 last_stays k old new cs answers stays = λ s sound was before rest m last now trees left.
     let o = outcome_behind k s before m in
     let it = stays s sound was before rest m last.made now trees left in
     let end : after k s (sent cs answers) ≡ o.next =
     ap (λ (l : List Sent). after k s l) last.made.list ∙ behind_answered k s before rest m last.made.answered ∙ after_unchanged k o.next rest last.unchanged in
     subst (λ (t : State). HoldsState k t trees) (unmoved k o.next rest it.0 last.unchanged it.1 ∙ sym end) it.2
-
--- ---- faults
-
--- the state behind an answer is the one that was met
-state_behind : (old mid : State) (a : Answer) (o : Outcome) → IsAnswered a old mid o → mid ≡ (if is_failed a then old else o.next)
-state_behind old mid a o h = by_loss (is_failed a) h
-  where
-    by_loss : (b : Bool) → MatchBool b (mid ≡ old) ((a ≡ o.answer) × (mid ≡ o.next)) → mid ≡ (if b then old else o.next)
-    by_loss true h = h
-    by_loss false h = h.1
-
--- one command, which makes of a database the next one
-record IsStep (k : Rules) (s : State) (c : ℕ × Command) (a : Answer) (db after : Database) : Type 0 where
-  refused : a ≡ Refused Store → RefusesOutcome k s None db (serve k s c.0 c.1)
-  made : Becomes k s a (serve k s c.0 c.1).next None db after
-  shown : ShowsState k (if is_failed a then s else (serve k s c.0 c.1).next) after
-
--- one more goes on from the last database
-refused_next : (k : Rules) (s : State) (db : Database) (cs : List (ℕ × Command)) (answers : List Answer) (at : State) (c : ℕ × Command) (a : Answer) (there last : Database)
-    → Ran k s cs answers at → AreRefused k s db cs answers there → IsStep k at c a there last → AreRefused k s db (cs ++ c ∷ []) (answers ++ a ∷ []) last
-refused_next k s db [] [] at c a there last ran path step =
-    let here = subst (λ (d : Database). IsStep k s c a d last) path.1 (subst (λ (t : State). IsStep k t c a there last) ran step) in
-    (path.0, here.refused, (last, here.made, (here.shown, refl)))
-refused_next k s db [] (b ∷ answers) at c a there last ran path step = absurd ran
-refused_next k s db (d ∷ cs) [] at c a there last ran path step = absurd ran
-refused_next k s db (d ∷ cs) (b ∷ answers) at c a there last ran path step =
-    let same : ran.0 ≡ (if is_failed b then s else (serve k s d.0 d.1).next) = state_behind s ran.0 b (serve k s d.0 d.1) ran.1 in
-    let after = path.2.0 in
-    let rest = refused_next k ran.0 after cs answers at c a there last ran.3 (subst (λ (t : State). AreRefused k t after cs answers there) (sym same) path.2.2) step in
-    (path.0, path.1, (after, path.2.1, subst (λ (t : State). AreRefused k t after (cs ++ c ∷ []) (answers ++ a ∷ []) last) same rest))
-
--- no fault, so the connection is open still
-still_open : (was is : Standing) → IsTrue is.connection.is_open ⊎ MoreFaults was.connection.faults is.connection.faults → (MoreFaults was.connection.faults is.connection.faults → ⊥)
-    → IsTrue is.connection.is_open
-still_open was is (inl still) none = still
-still_open was is (inr more) none = absurd (none more)
-
--- nor is the disk to blame
-not_by_disk : (k : Rules) (s : State) (mid new : Standing) (o : Outcome) → (MoreFaults mid.connection.faults new.connection.faults → ⊥)
-    → MoreFaults mid.connection.faults new.connection.faults ⊎ RefusesOutcome k s mid.connection.step_limit mid.connection.now o → mid.connection.step_limit ≡ None
-    → RefusesOutcome k s None mid.connection.now o
-not_by_disk k s mid new o none (inl more) limit = absurd (none more)
-not_by_disk k s mid new o none (inr refuses) limit = subst (λ (l : Option ℕ). RefusesOutcome k s l mid.connection.now o) limit refuses
-
-blames_next : (k : Rules) (old mid new : Standing) (cs : List (ℕ × Command)) (c : ℕ × Command) (answers : List Answer) (a : Answer)
-    → BlamesCalls k cs answers old mid → RunsFrom k old mid cs answers → SparesCalls k cs answers old mid → (HasCleanDisk new → HasCleanDisk mid) → SparesCall k c.0 c.1 mid new
-    → ServesCall k c.0 c.1 a mid new → BlamesCall k c.0 c.1 a mid new → MakesCall k c.0 c.1 a mid new → BlamesCalls k (cs ++ c ∷ []) (answers ++ a ∷ []) old new
-blames_next k old mid new cs c answers a far runs kept clean spares serves blame makes = λ now s sound was is_open unlimited no.
-    let before = runs (clean now) s sound was in
-    let first = kept s sound was in
-    let last = spares before.0 before.2 (λ _. before.3) in
-    let here = serves now before.0 before.2 (λ _. before.3) in
-    let none : MoreFaults old.connection.faults mid.connection.faults → ⊥ = λ more. no (omega (arith, last.counts, more)) in
-    let later : MoreFaults mid.connection.faults new.connection.faults → ⊥ = λ more. no (omega (arith, first.counts, more)) in
-    let opened = still_open old mid (first.closes (clean now) is_open) none in
-    let open_now = still_open mid new (last.closes now opened) later in
-    let limit : mid.connection.step_limit ≡ None = first.limit ∙ unlimited in
-    let o = serve k before.0 c.0 c.1 in
-    refused_next k s old.connection.now cs answers before.0 c a mid.connection.now new.connection.now before.1 (far (clean now) s sound was is_open unlimited none) (record {
-      refused = λ is. not_by_disk k before.0 mid new o later (blame now is before.0 before.2 (λ _. before.3) opened limit) limit;
-      made = subst (λ (l : Option ℕ). Becomes k before.0 a o.next l mid.connection.now new.connection.now) limit (makes now before.0 before.2 (λ _. before.3) open_now);
-      shown = subst (λ (t : State). ShowsState k t new.connection.now) (state_behind before.0 here.0 a o here.1) (here.4.tables.here open_now);
-    })
 
 -- so many commands have run, with as many answers after those that were there
 pub record SoFar (k : Rules) (old new : Standing) (cs : List (ℕ × Command)) (held answers : List Answer) : Type 0 where
@@ -356,17 +290,6 @@ pub record SoFar (k : Rules) (old new : Standing) (cs : List (ℕ × Command)) (
   pub spares : SparesCalls k cs given old new
   pub outlasts : OutlastsCalls k cs given old new
   pub clean : HasCleanDisk new → HasCleanDisk old
-  pub blames : BlamesCalls k cs given old new
-
--- what is told of a call
-pub record CallOf (k : Rules) (c : ℕ × Command) (a : Answer) (mid new : Standing) : Type 0 where
-  pub serves : ServesCall k c.0 c.1 a mid new
-  pub spares : SparesCall k c.0 c.1 mid new
-  pub commits : CommitsCall k c.0 c.1 a mid new
-  pub fits : IsTrue (is_command c.1)
-  pub due : IfSome (outright k c.0 c.1) (λ r. a ≡ Refused r)
-  pub blame : BlamesCall k c.0 c.1 a mid new
-  pub made : MakesCall k c.0 c.1 a mid new
 
 pub none_so_far : (k : Rules) (s : Standing) (cs : List (ℕ × Command)) (held answers : List Answer) → answers ≡ held → SoFar k s s (take 0 cs) held answers
 none_so_far k s cs held answers same = record {
@@ -377,30 +300,28 @@ none_so_far k s cs held answers same = record {
   spares = λ t sound was. record { clean = omega arith; shield = λ h. h; counts = omega arith; limit = refl; closes = λ now h. inl h; crash = λ now trees h. inl h };
   outlasts = λ t sound was before rest m made now. absurd (omega (arith, ap length made.list, length-append before (m ∷ rest)));
   clean = λ now. now;
-  blames = λ now t sound was is_open unlimited no. ((was now).tables.here is_open, refl);
 }
 
 so_far_next : (k : Rules) (old mid new : Standing) (cs : List (ℕ × Command)) (c : ℕ × Command) (held answers more : List Answer) (a : Answer)
-    → SoFar k old mid cs held answers → more ≡ answers ++ a ∷ [] → (HasCleanDisk new → HasCleanDisk mid) → CallOf k c a mid new → SoFar k old new (cs ++ c ∷ []) held more
-so_far_next k old mid new cs c held answers more a far pushed clean call = record {
+    → SoFar k old mid cs held answers → more ≡ answers ++ a ∷ [] → IsTrue (is_command c.1) → IsCalled k c.0 c.1 a mid new → SoFar k old new (cs ++ c ∷ []) held more
+so_far_next k old mid new cs c held answers more a far pushed fits call = record {
   given = far.given ++ a ∷ [];
   items = pushed ∙ ap (λ (items : List Answer). items ++ a ∷ []) far.items ∙ append_assoc held far.given (a ∷ []);
-  due = outright_next k cs far.given c a far.due call.due;
-  runs = runs_next k old mid new cs c far.given a far.runs clean call.serves call.fits;
-  spares = spares_next k old mid new cs c far.given a far.spares far.runs far.due clean call.spares;
-  outlasts = outlasts_next k old mid new cs c far.given a far.outlasts far.runs far.due clean call.serves call.spares call.commits;
-  clean = λ now. far.clean (clean now);
-  blames = blames_next k old mid new cs c far.given a far.blames far.runs far.spares clean call.spares call.serves call.blame call.made;
+  due = outright_next k cs far.given c a far.due call.outright;
+  runs = runs_next k old mid new cs c far.given a far.runs call.clean call.served fits;
+  spares = spares_next k old mid new cs c far.given a far.spares far.runs far.due call.clean call.crash;
+  outlasts = outlasts_next k old mid new cs c far.given a far.outlasts far.runs far.due call.clean call.served call.crash call.durable;
+  clean = λ now. far.clean (call.clean now);
 }
 
 -- one call more, by a scheme that is the same
 pub one_more : (k j : Rules) (old mid new : Standing) (cs : List (ℕ × Command)) (i : ℕ) (c : ℕ × Command) (held answers more : List Answer) (a : Answer)
-    → i < length cs → c ≡ get_or cs i c → j ≡ k → SoFar k old mid (take i cs) held answers → more ≡ answers ++ a ∷ [] → (HasCleanDisk new → HasCleanDisk mid)
-    → CallOf j c a mid new → SoFar k old new (take (i + 1) cs) held more
-one_more k j old mid new cs i c held answers more a within item scheme far pushed clean call =
+    → i < length cs → c ≡ get_or cs i c → j ≡ k → SoFar k old mid (take i cs) held answers → more ≡ answers ++ a ∷ [] → IsTrue (is_command c.1)
+    → IsCalled j c.0 c.1 a mid new → SoFar k old new (take (i + 1) cs) held more
+one_more k j old mid new cs i c held answers more a within item scheme far pushed fits call =
     let taken : take (i + 1) cs ≡ take i cs ++ c ∷ [] = take_more cs i c within ∙ ap (λ x. take i cs ++ x ∷ []) (sym item) in
     subst (λ (xs : List (ℕ × Command)). SoFar k old new xs held more) (sym taken)
-    (so_far_next k old mid new (take i cs) c held answers more a far pushed clean (subst (λ rules. CallOf rules c a mid new) scheme call))
+    (so_far_next k old mid new (take i cs) c held answers more a far pushed fits (subst (λ rules. IsCalled rules c.0 c.1 a mid new) scheme call))
 
 -- what went through
 pub chosen_ok : {T E A : Type 0} (r : Result T E) (x : T) (new there else_there : A) → r ≡ Ok x → new ≡ (if is_ok r then there else else_there) → new ≡ there
@@ -453,18 +374,15 @@ ran_all laws k old cs answers new sound ran =
 
 -- over the store, the answers and the state that the tables show then
 pub run_whole : (laws : ListLaws) (k : Rules) (old new : Standing) (cs : List (ℕ × Command)) (i : ℕ) (held answers : List Answer) → length cs ≤ i → SoFar k old new (take i cs) held answers
-    → (told : List Answer) × (answers ≡ held ++ told) × AreOutright k cs told × RunsCalls k cs told old new × SparesCalls k cs told old new
-    × OutlastsCalls k cs told old new × CommitsCalls k cs told old new × BlamesCalls k cs told old new
+    → AreCalled k cs held answers old new
 run_whole laws k old new cs i held answers all far =
-    let whole : SoFar k old new cs held answers = subst (λ (xs : List (ℕ × Command)). SoFar k old new xs held answers) (take_all i cs all) far in (
-      whole.given,
-      whole.items,
-      whole.due,
-      λ now s sound was.
+    let whole : SoFar k old new cs held answers = subst (λ (xs : List (ℕ × Command)). SoFar k old new xs held answers) (take_all i cs all) far in record {
+      told = whole.given;
+      appended = whole.items;
+      outright = whole.due;
+      ran = λ now s sound was.
           let it = whole.runs now s sound was in
-          (it.0, ran_all laws k s cs whole.given it.0 sound it.1, it.2, it.3),
-      whole.spares,
-      whole.outlasts,
-      last_stays k old new cs whole.given whole.outlasts,
-      whole.blames,
-    )
+          (it.0, ran_all laws k s cs whole.given it.0 sound it.1, it.2, it.3);
+      crash = whole.spares;
+      lasts = whole.outlasts;
+    }

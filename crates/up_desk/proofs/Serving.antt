@@ -1,10 +1,10 @@
 -- What is due is what a command over the rows comes to.
-use Rattle.std.proofs.Common.{◌≡◌, ℕ, ◌<◌, ◌≤◌, List, Bool, true, false, Option, Some, None, Result, Ok, Err, inl, refl, sym, ap, ◌∙◌, subst, arith}
+use Rattle.std.proofs.Common.{◌≡◌, ℕ, ◌<◌, ◌≤◌, List, Bool, true, false, Option, Some, None, Result, Ok, Err, refl, sym, ap, ◌∙◌, subst, arith}
 use Rattle.std.specs.Prelude.{◌||◌, ⊤, nat_lt, if◌then◌else◌, codes, length, IfErr, IfSome, option_and_then, MatchBool, IsTrue}
 use Rattle.std.specs.List.{list_all}
 use Rattle.std.proofs.lemmas.Bool.Decides.{nat_tests}
 use Rattle.up_canon.specs.Moments.{last_command_moment}
-use Rattle.up_canon.specs.Steps.{and_then, error_of, refuse_if, unless, value_of}
+use Rattle.up_canon.specs.Steps.{and_then, refuse_if, unless, value_of}
 use Rattle.up_canon.specs.Refusals.{is_memory}
 use Rattle.up_canon.specs.declared.refusal.Refusal.{Refusal}
 use Rattle.up_canon.specs.declared.refusal.Refusal.TheVariants.{Store, MomentOutOfRange, TooLarge, BadShape}
@@ -33,12 +33,13 @@ use Rattle.up_machine.specs.Repeats.{KeptEntry, repeat_in, repeat_of, served_as,
 use Rattle.up_machine.specs.Sound.{IsSound}
 use Rattle.up_machine.specs.RepeatLaws.{ServedStaysSound}
 use Rattle.up_machine.proofs.Fetched.{in_time}
-use Rattle.sqlite.specs.State.{State as Connected, HasCleanDisk, Survives}
-use Rattle.up_tables.specs.Stands.{IfClean, LeavesOnly}
-use Rattle.up_store.specs.Connections.{KeepsState}
-use Rattle.up_desk.specs.Delivering.{RefusesRead, RefusesUnread}
-use Rattle.up_desk.specs.Serving.{is_store, is_fault, is_failed, Becomes, DiskFailed, IsAnswered, IsBlamed, IsDueOrFails, told, outcome_due, outright_in_time, outright, alone_in_time, refused_alone, HoldsState, Leaves, IsCommit, Reads, Serves}
-use Rattle.up_desk.proofs.NeverStore.{NeverStore}
+use Rattle.up_records.specs.Connected.{is_fault, is_store}
+use Rattle.up_records.specs.Reads.{DiskFailed}
+use Rattle.up_records.specs.Standing.{HasCleanDisk, HoldsState, IfClean, LeavesOnly, ShowsState, Standing, Survives}
+use Rattle.up_records.specs.Senders.{RefusesUnread}
+use Rattle.up_records.specs.Steps.{IsDueOrFails}
+use Rattle.up_desk.specs.Serving.{CarriesOut, IsAnswered, IsBlamed, IsCommit, Leaves, Serves, is_failed, outcome_due, outright, outright_in_time, told}
+use Rattle.up_records.proofs.NeverStore.{NeverStore}
 
 -- ---- the moment
 
@@ -52,9 +53,9 @@ too_late : (at : ℕ) → last_command_moment < at → check_moment at ≡ Err M
 too_late at h = ap (λ t. refuse_if t MomentOutOfRange) (late_test at h)
 
 -- what is refused stays so, unless it is lost
-pub stopped_or_failed : {A B : Type 0} {old new : Connected} → Reads old new → (m : Result A Refusal) (f : A → Result B Refusal) (r : Refusal) → NeverStore m → MatchBool (is_memory r) ⊤ (m ≡ Err r)
+pub stopped_or_failed : {A B : Type 0} (old new : Standing) (m : Result A Refusal) (f : A → Result B Refusal) (r : Refusal) → NeverStore m → MatchBool (is_memory r) ⊤ (m ≡ Err r)
     → MatchBool (is_fault r) (r ≡ Store → DiskFailed old new) (and_then m f ≡ Err r)
-stopped_or_failed {A} {B} {old} {new} reads m f r never h = by_memory (is_memory r) refl h
+stopped_or_failed {A} {B} old new m f r never h = by_memory (is_memory r) refl h
   where
     by_store : (b : Bool) → m ≡ Err r → MatchBool b (r ≡ Store → DiskFailed old new) (and_then m f ≡ Err r)
     by_store true h = λ store. absurd (never (h ∙ ap (λ (q : Refusal). Err q) store))
@@ -82,12 +83,18 @@ pub delivery_served : (k : Rules) (s : State) (at : ℕ) (body : List ℕ) → a
 unfolding and_then
 delivery_served k s at body h = sym (ap (λ (m : Result ⊤ Refusal). and_then m (λ _. and_then (incoming_in body) (decide_incoming k s at))) (in_time at h))
 
-pub of_command : {k : Rules} {s : State} {old new : Connected} {r : Result Answer Refusal} (at : ℕ) (c d : Command) → c ≡ d → Serves k s old new r (outcome_due k s at d) → Serves k s old new r (outcome_due k s at c)
-of_command {k} {s} {old} {new} {r} at c d is h = subst (λ (e : Command). Serves k s old new r (outcome_due k s at e)) (sym is) h
+-- what is carried out at the command's moment is the command's
+pub of_command : {k : Rules} {old new : Standing} {r : Result Answer Refusal} {at moment : ℕ} (c d : Command) → moment ≡ at → c ≡ d → CarriesOut k (λ s. outcome_due k s moment d) old new r
+    → CarriesOut k (λ s. outcome_due k s at c) old new r
+of_command {k} {old} {new} {r} {at} {moment} c d same is h =
+    subst (λ (a : ℕ). CarriesOut k (λ s. outcome_due k s a c) old new r) same (subst (λ (e : Command). CarriesOut k (λ s. outcome_due k s moment e) old new r) (sym is) h)
 
-pub of_delivery : {k : Rules} {s : State} {old new : Connected} {r : Result Answer Refusal} (at : ℕ) (c : Command) (body : List ℕ) → c ≡ Deliver body → at ≤ last_command_moment
-    → Serves k s old new r (and_then (incoming_in body) (decide_incoming k s at)) → Serves k s old new r (outcome_due k s at c)
-of_delivery {k} {s} {old} {new} {r} at c body is moment h = of_command at c (Deliver body) is (subst (λ (o : Result Outcome Refusal). Serves k s old new r o) (delivery_served k s at body moment) h)
+pub of_delivery : {k : Rules} {old new : Standing} {r : Result Answer Refusal} {at moment : ℕ} (c : Command) (body : List ℕ) → at ≤ last_command_moment → moment ≡ at → c ≡ Deliver body
+    → CarriesOut k (λ s. and_then (incoming_in body) (decide_incoming k s moment)) old new r → CarriesOut k (λ s. outcome_due k s at c) old new r
+of_delivery {k} {old} {new} {r} {at} {moment} c body fits same is h = of_command c (Deliver body) same is (record {
+  serves = λ s sound was. subst (λ (o : Result Outcome Refusal). Serves k s old new r o) (delivery_served k s moment body (subst (λ (a : ℕ). a ≤ last_command_moment) (sym same) fits)) (h.serves s sound was);
+  can = h.can;
+})
 
 -- a vehicle with a public part that doesn't fit is refused
 pub unfit_vehicle : (k : Rules) (s : State) (at : ℕ) (new : NewVehicleData) → at ≤ last_command_moment → list_all (λ e. public_fits k e.public) new.ecus ≡ false
@@ -101,8 +108,8 @@ pub unfit_ecu : (k : Rules) (s : State) (at : ℕ) (new : Replacement) → at �
 unfolding decide_replace
 unfit_ecu k s at new h none = bind-ok _ _ tt (in_time at h) ∙ bind-err _ _ _ (ap (λ b. unless b (BadShape (codes "key"))) none)
 
-pub by_key : {old new : Connected} → Reads old new → (r : Refusal) (computed : Result Outcome Refusal) → computed ≡ Err (BadShape (codes "key")) → r ≡ BadShape (codes "key") → IsDueOrFails old new r computed
-by_key {old} {new} reads r computed is same = subst (λ (q : Refusal). IsDueOrFails old new q computed) (sym same) is
+pub by_key : (old new : Standing) (r : Refusal) (computed : Result Outcome Refusal) → computed ≡ Err (BadShape (codes "key")) → r ≡ BadShape (codes "key") → IsDueOrFails old new r computed
+by_key old new r computed is same = subst (λ (q : Refusal). IsDueOrFails old new q computed) (sym same) is
 
 -- ---- repeats
 
@@ -155,11 +162,11 @@ due_is k s at (Fetch repository name) = refl
 -- ---- one call
 
 -- the answer and the state that the tables show then
-pub record IsServed (k : Rules) (s : State) (at : ℕ) (c : Command) (a : Answer) (new : Connected) : Type 0 where
+pub record IsServed (k : Rules) (s : State) (at : ℕ) (c : Command) (a : Answer) (new : Standing) : Type 0 where
   pub next : State
   pub answered : IsAnswered a s next (serve k s at c)
   pub sound : IsSound k next
-  pub keeps : KeepsState k next new
+  pub keeps : ShowsState k next new
 
 by_loss : (k : Rules) (s : State) (at : ℕ) (c : Command) (r : Refusal) (b : Bool) → MatchBool b ⊤ (outcome_due k s at c ≡ Err r)
     → MatchBool b (s ≡ s) ((Refused r ≡ (serve k s at c).answer) × (s ≡ (serve k s at c).next))
@@ -173,7 +180,7 @@ done_as : (k : Rules) (s next : State) (at : ℕ) (c : Command) (a : Answer) →
 done_as k s next at c a is true h = cc
 done_as k s next at c a is false h = (sym (ap (λ (o : Outcome). o.answer) is), sym (ap (λ (o : Outcome). o.next) is))
 
-pub answered : (k : Rules) (s : State) (new : Connected) (at : ℕ) (c : Command) (r : Result Answer Refusal) → ServedStaysSound → IsTrue (is_command c) → IsSound k s
+pub answered : (k : Rules) (s : State) (new : Standing) (at : ℕ) (c : Command) (r : Result Answer Refusal) → ServedStaysSound → IsTrue (is_command c) → IsSound k s
     → Leaves k s new r (outcome_due k s at c) → IsServed k s at c (told r) new
 answered k s new at c (Ok a) stays fits sound h =
     let next : State = h.1.0 in
@@ -189,122 +196,85 @@ answered k s new at c (Err r) stays fits sound h = record { next = s; answered =
 pub next_is : (k : Rules) (s : State) (at : ℕ) (c : Command) → (outcome_of s (outcome_due k s at c)).next ≡ (serve k s at c).next
 next_is k s at c = sym (ap (λ (o : Outcome). o.next) (due_is k s at c))
 
-pub crashed : (k : Rules) (s : State) (old new : Connected) (at : ℕ) (c : Command) (r : Result Answer Refusal) → Serves k s old new r (outcome_due k s at c) → Survives old new (HoldsState k (serve k s at c).next)
+pub crashed : (k : Rules) (s : State) (old new : Standing) (at : ℕ) (c : Command) (r : Result Answer Refusal) → Serves k s old new r (outcome_due k s at c) → Survives old new (HoldsState k (serve k s at c).next)
 crashed k s old new at c r h = subst (λ (n : State). Survives old new (HoldsState k n)) (next_is k s at c) h.crash
 
-pub committed : (k : Rules) (s : State) (old new : Connected) (at : ℕ) (c : Command) (r : Result Answer Refusal) → Serves k s old new r (outcome_due k s at c)
+pub committed : (k : Rules) (s : State) (old new : Standing) (at : ℕ) (c : Command) (r : Result Answer Refusal) → Serves k s old new r (outcome_due k s at c)
     → IsCommit s (told r) (serve k s at c).next → IfClean (LeavesOnly (HoldsState k (serve k s at c).next)) new
 committed k s old new at c r h = subst (λ (n : State). IsCommit s (told r) n → IfClean (LeavesOnly (HoldsState k n)) new) (next_is k s at c) h.durable
 
 -- an answer `Store` is a refusal
-refusal_told_so : (k : Rules) (s : State) (new : Connected) (r : Result Answer Refusal) (computed : Result Outcome Refusal) → Leaves k s new r computed → told r ≡ Refused Store → r ≡ Err Store
+refusal_told_so : (k : Rules) (s : State) (new : Standing) (r : Result Answer Refusal) (computed : Result Outcome Refusal) → Leaves k s new r computed → told r ≡ Refused Store → r ≡ Err Store
 refusal_told_so k s new (Ok a) computed leaves is = absurd (let no : true ≡ false = ap is_failed (sym is) ∙ leaves.0 in cc)
 refusal_told_so k s new (Err r) computed leaves is = let same : r ≡ Store = cc in ap (λ (q : Refusal). Err q) same
 
-pub blamed : (k : Rules) (s : State) (old new : Connected) (at : ℕ) (c : Command) (r : Result Answer Refusal) → ServedStaysSound → IsTrue (is_command c) → IsSound k s
-    → Serves k s old new r (outcome_due k s at c) → HasCleanDisk new → told r ≡ Refused Store → IsBlamed k s old new (serve k s at c)
+pub blamed : (k : Rules) (s : State) (old new : Standing) (at : ℕ) (c : Command) (r : Result Answer Refusal) → ServedStaysSound → IsTrue (is_command c) → IsSound k s
+    → Serves k s old new r (outcome_due k s at c) → HasCleanDisk new → told r ≡ Refused Store → IsBlamed k s old.connection new.connection (serve k s at c)
 blamed k s old new at c r stays fits sound h clean is =
     let same : outcome_of s (outcome_due k s at c) ≡ serve k s at c = sym (due_is k s at c) in
     let next : IsSound k (outcome_of s (outcome_due k s at c)).next = subst (λ (o : Outcome). IsSound k o.next) (sym same) (stays k s at c fits sound) in
     let store = refusal_told_so k s new r (outcome_due k s at c) (h.leaves clean) is in
-    let blame = subst (λ (q : Result Answer Refusal). IfErr q (λ e. e ≡ Store → IsBlamed k s old new (outcome_of s (outcome_due k s at c)))) store (h.blame clean next) in
-    subst (IsBlamed k s old new) same (blame refl)
-
--- what was made of the database
-pub made : (k : Rules) (s : State) (old new : Connected) (at : ℕ) (c : Command) (r : Result Answer Refusal) → Serves k s old new r (outcome_due k s at c) → HasCleanDisk new
-    → IsTrue new.is_open → Becomes k s (told r) (serve k s at c).next old.step_limit old.now new.now
-made k s old new at c r h clean is_open = subst (λ (n : State). Becomes k s (told r) n old.step_limit old.now new.now) (next_is k s at c) (h.made clean is_open).1
+    let blame = subst (λ (q : Result Answer Refusal). IfErr q (λ e. e ≡ Store → IsBlamed k s old.connection new.connection (outcome_of s (outcome_due k s at c)))) store (h.blame clean next) in
+    subst (IsBlamed k s old.connection new.connection) same (blame refl)
 
 -- ---- what is refused whether or not there is memory
 
 above : (n m : ℕ) → nat_lt n m ≡ true → n < m
 above n m h = grind (arith, nat_tests)
 
-pub key_outright : (k : Rules) (new : NewVehicleData) (c : Command) (result : Result Answer Refusal) → c ≡ AddVehicle new
-    → (list_all (λ e. public_fits k e.public) new.ecus ≡ false → result ≡ Err (BadShape (codes "key"))) → IfSome (outright_in_time k c) (λ r. result ≡ Err r)
-key_outright k new c result is refused =
-    subst (λ (d : Command). IfSome (outright_in_time k d) (λ r. result ≡ Err r)) (sym is) (by_test (list_all (λ e. public_fits k e.public) new.ecus) refl)
+-- a moment in range refuses nothing
+in_time_outright : (k : Rules) (at : ℕ) (c : Command) (P : Refusal → Type 0) → at ≤ last_command_moment → IfSome (outright_in_time k c) P → IfSome (outright k at c) P
+in_time_outright k at c P h refused = subst (λ t. IfSome (if t then Some MomentOutOfRange else outright_in_time k c) P) (sym (in_time_test at h)) refused
+
+pub key_outright : (k : Rules) (at : ℕ) (new : NewVehicleData) (c : Command) (P : Refusal → Type 0) → at ≤ last_command_moment → c ≡ AddVehicle new
+    → (list_all (λ e. public_fits k e.public) new.ecus ≡ false → P (BadShape (codes "key"))) → IfSome (outright k at c) P
+key_outright k at new c P fits is refused =
+    in_time_outright k at c P fits (subst (λ (d : Command). IfSome (outright_in_time k d) P) (sym is) (by_test (list_all (λ e. public_fits k e.public) new.ecus) refl))
   where
-    by_test : (t : Bool) → list_all (λ e. public_fits k e.public) new.ecus ≡ t → IfSome (if t then None else Some (BadShape (codes "key"))) (λ r. result ≡ Err r)
+    by_test : (t : Bool) → list_all (λ e. public_fits k e.public) new.ecus ≡ t → IfSome (if t then None else Some (BadShape (codes "key"))) P
     by_test true is = tt
     by_test false is = refused is
 
-pub ecu_outright : (k : Rules) (new : Replacement) (c : Command) (result : Result Answer Refusal) → c ≡ ReplaceEcu new
-    → (public_fits k new.ecu.public ≡ false → result ≡ Err (BadShape (codes "key"))) → IfSome (outright_in_time k c) (λ r. result ≡ Err r)
-ecu_outright k new c result is refused =
-    subst (λ (d : Command). IfSome (outright_in_time k d) (λ r. result ≡ Err r)) (sym is) (by_test (public_fits k new.ecu.public) refl)
+pub ecu_outright : (k : Rules) (at : ℕ) (new : Replacement) (c : Command) (P : Refusal → Type 0) → at ≤ last_command_moment → c ≡ ReplaceEcu new
+    → (public_fits k new.ecu.public ≡ false → P (BadShape (codes "key"))) → IfSome (outright k at c) P
+ecu_outright k at new c P fits is refused =
+    in_time_outright k at c P fits (subst (λ (d : Command). IfSome (outright_in_time k d) P) (sym is) (by_test (public_fits k new.ecu.public) refl))
   where
-    by_test : (t : Bool) → public_fits k new.ecu.public ≡ t → IfSome (if t then None else Some (BadShape (codes "key"))) (λ r. result ≡ Err r)
+    by_test : (t : Bool) → public_fits k new.ecu.public ≡ t → IfSome (if t then None else Some (BadShape (codes "key"))) P
     by_test true is = tt
     by_test false is = refused is
 
-pub large_outright : (k : Rules) (body : List ℕ) (c : Command) (result : Result Answer Refusal) → c ≡ Deliver body
-    → (largest_body < length body → result ≡ Err TooLarge) → IfSome (outright_in_time k c) (λ r. result ≡ Err r)
-large_outright k body c result is refused =
-    subst (λ (d : Command). IfSome (outright_in_time k d) (λ r. result ≡ Err r)) (sym is) (by_test (nat_lt largest_body (length body)) refl)
+pub large_outright : (k : Rules) (at : ℕ) (body : List ℕ) (c : Command) (P : Refusal → Type 0) → at ≤ last_command_moment → c ≡ Deliver body
+    → (largest_body < length body → P TooLarge) → IfSome (outright k at c) P
+large_outright k at body c P fits is refused =
+    in_time_outright k at c P fits (subst (λ (d : Command). IfSome (outright_in_time k d) P) (sym is) (by_test (nat_lt largest_body (length body)) refl))
   where
-    by_test : (t : Bool) → nat_lt largest_body (length body) ≡ t → IfSome (if t then Some TooLarge else None) (λ r. result ≡ Err r)
+    by_test : (t : Bool) → nat_lt largest_body (length body) ≡ t → IfSome (if t then Some TooLarge else None) P
     by_test true is = refused (above largest_body (length body) is)
     by_test false is = tt
 
-pub in_time_outright : (k : Rules) (at : ℕ) (c : Command) (result : Result Answer Refusal) → at ≤ last_command_moment
-    → IfSome (outright_in_time k c) (λ r. result ≡ Err r) → IfSome (outright k at c) (λ r. result ≡ Err r)
-in_time_outright k at c result h refused =
-    subst (λ t. IfSome (if t then Some MomentOutOfRange else outright_in_time k c) (λ r. result ≡ Err r)) (sym (in_time_test at h)) refused
+-- a command that isn't refused so
+pub none_outright : (k : Rules) (at : ℕ) (c d : Command) (P : Refusal → Type 0) → at ≤ last_command_moment → c ≡ d → outright_in_time k d ≡ None → IfSome (outright k at c) P
+none_outright k at c d P fits is none = in_time_outright k at c P fits (subst (λ (e : Command). IfSome (outright_in_time k e) P) (sym is) (subst (λ r. IfSome r P) (sym none) tt))
 
-pub late_outright : (k : Rules) (at : ℕ) (c : Command) (result : Result Answer Refusal) → last_command_moment < at → result ≡ Err MomentOutOfRange
-    → IfSome (outright k at c) (λ r. result ≡ Err r)
-late_outright k at c result h is =
-    subst (λ t. IfSome (if t then Some MomentOutOfRange else outright_in_time k c) (λ r. result ≡ Err r)) (sym (late_test at h)) is
+pub late_outright : (k : Rules) (at : ℕ) (c : Command) (P : Refusal → Type 0) → last_command_moment < at → P MomentOutOfRange → IfSome (outright k at c) P
+late_outright k at c P h is = subst (λ t. IfSome (if t then Some MomentOutOfRange else outright_in_time k c) P) (sym (late_test at h)) is
 
-pub told_outright : (o : Option Refusal) (given : Result Answer Refusal) (answer : Answer) → answer ≡ told given → IfSome o (λ r. given ≡ Err r) → IfSome o (λ r. answer ≡ Refused r)
-told_outright None given answer is h = tt
-told_outright (Some r) given answer is h = is ∙ ap told h
-
--- ---- what is refused with nothing read
-
--- a command that isn't refused for itself
-pub none_alone : (k : Rules) (c d : Command) (P : Refusal → Type 0) → c ≡ d → alone_in_time k d ≡ None → IfSome (alone_in_time k c) P
-none_alone k c d P is none = subst (λ (e : Command). IfSome (alone_in_time k e) P) (sym is) (subst (λ r. IfSome r P) (sym none) tt)
-
-pub key_alone : {S : Type 0} (k : Rules) (new : NewVehicleData) (c : Command) (before after : S) (result : Result Answer Refusal) → c ≡ AddVehicle new
-    → (list_all (λ e. public_fits k e.public) new.ecus ≡ false → RefusesUnread before after result (BadShape (codes "key"))) → IfSome (alone_in_time k c) (RefusesRead before after result)
-key_alone k new c before after result is refused =
-    subst (λ (d : Command). IfSome (alone_in_time k d) (RefusesRead before after result)) (sym is) (by_test (list_all (λ e. public_fits k e.public) new.ecus) refl)
-  where
-    by_test : (t : Bool) → list_all (λ e. public_fits k e.public) new.ecus ≡ t → IfSome (if t then None else Some (BadShape (codes "key"))) (RefusesRead before after result)
-    by_test true is = tt
-    by_test false is = let it = refused is in record { refused = inl it.refused; unread = it.unread }
-
-pub ecu_alone : {S : Type 0} (k : Rules) (new : Replacement) (c : Command) (before after : S) (result : Result Answer Refusal) → c ≡ ReplaceEcu new
-    → (public_fits k new.ecu.public ≡ false → RefusesUnread before after result (BadShape (codes "key"))) → IfSome (alone_in_time k c) (RefusesRead before after result)
-ecu_alone k new c before after result is refused =
-    subst (λ (d : Command). IfSome (alone_in_time k d) (RefusesRead before after result)) (sym is) (by_test (public_fits k new.ecu.public) refl)
-  where
-    by_test : (t : Bool) → public_fits k new.ecu.public ≡ t → IfSome (if t then None else Some (BadShape (codes "key"))) (RefusesRead before after result)
-    by_test true is = tt
-    by_test false is = let it = refused is in record { refused = inl it.refused; unread = it.unread }
-
-pub body_alone : (k : Rules) (body : List ℕ) (c : Command) (P : Refusal → Type 0) → c ≡ Deliver body → IfSome (error_of (incoming_in body)) P → IfSome (alone_in_time k c) P
-body_alone k body c P is h = subst (λ (d : Command). IfSome (alone_in_time k d) P) (sym is) h
-
-pub in_time_alone : (k : Rules) (at : ℕ) (c : Command) (P : Refusal → Type 0) → at ≤ last_command_moment → IfSome (alone_in_time k c) P → IfSome (refused_alone k at c) P
-in_time_alone k at c P h refused = subst (λ t. IfSome (if t then Some MomentOutOfRange else alone_in_time k c) P) (sym (in_time_test at h)) refused
-
-pub late_alone : (k : Rules) (at : ℕ) (c : Command) (P : Refusal → Type 0) → last_command_moment < at → P MomentOutOfRange → IfSome (refused_alone k at c) P
-late_alone k at c P h is = subst (λ t. IfSome (if t then Some MomentOutOfRange else alone_in_time k c) P) (sym (late_test at h)) is
+pub told_outright : {S : Type 0} (o : Option Refusal) (before after : S) (given : Result Answer Refusal) (answer : Answer) → answer ≡ told given → IfSome o (RefusesUnread before after given) → IfSome o (λ r. answer ≡ Refused r)
+told_outright None before after given answer is h = tt
+told_outright (Some r) before after given answer is h = is ∙ ap told h.refused
 
 -- ---- a disk that is clean was clean
 
-pub clean_once : (k : Rules) (old new : Connected) (Left : State → Trees → Type 0) → EmptyIsSound
+pub clean_once : (k : Rules) (old new : Standing) (Left : State → Trees → Type 0) → EmptyIsSound
     → ((s : State) → IsSound k s → (HasCleanDisk old → ⊥) → Survives old new (Left s)) → HasCleanDisk new → HasCleanDisk old
 unfolding doubt
-clean_once k old new Left sound survives now = by_test old.is_clean refl
+clean_once k old new Left sound survives now = by_test old.connection.is_clean refl
   where
-    by_test : (b : Bool) → old.is_clean ≡ b → HasCleanDisk old
+    by_test : (b : Bool) → old.connection.is_clean ≡ b → HasCleanDisk old
     by_test true is = ap doubt is
     by_test false is =
-        let is_not : HasCleanDisk old → ⊥ = λ (clean : doubt old.is_clean ≡ 0). let one : doubt old.is_clean ≡ 1 = ap doubt is in absurd (omega arith) in
+        let is_not : HasCleanDisk old → ⊥ = λ (clean : doubt old.connection.is_clean ≡ 0). let one : doubt old.connection.is_clean ≡ 1 = ap doubt is in absurd (omega arith) in
         let all : Survives old new (Left empty_state) = survives empty_state (sound k) is_not in
-        let before : doubt old.is_clean ≡ 0 = omega (arith, all.clean) in
+        let before : doubt old.connection.is_clean ≡ 0 = omega (arith, all.clean) in
         before

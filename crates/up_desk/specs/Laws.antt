@@ -33,10 +33,11 @@ use Rattle.up_machine.specs.State.{Entry, Vehicle, State, nth}
 use Rattle.up_tables.specs.Stands.{IfClean, LeavesOnly}
 use Rattle.up_store.specs.Connections.{KeepsState}
 use Rattle.up_store.specs.Stopped.{AreFoundAgain}
-use Rattle.up_desk.specs.Runs.{sent, outcome_behind, IsAnsweredCommit, StaysOrComesTo, OutlastsCalls}
-use Rattle.up_desk.specs.Serving.{HoldsState, IsCommit}
-use Rattle.up_desk.specs.Standing.{Stored}
-use Rattle.up_desk.specs.Standing as standing
+use Rattle.up_desk.specs.Runs.{sent, outcome_behind, IsAnsweredCommit, StaysOrComesTo, OutlastsCalls, CommitsCalls}
+use Rattle.up_desk.specs.Serving.{IsCommit}
+use Rattle.up_records.specs.Standing.{HoldsState}
+use Rattle.up_records.specs.Standing.{Stored}
+use Rattle.up_records.specs.Standing as standing
 
 -- ---- commits
 
@@ -89,7 +90,7 @@ pub record FindsState (k : Rules) (body : List ℕ) (incoming : Incoming) (IsSho
 
 -- The call of a delivery that the plain machine accepts: as it began a crash could leave the shown state alone, and when it ended, whatever
 -- it answered, a crash leaves what it could leave before, or the next state.
-pub record IsCalled {S : Type 0} (g : Ghosts S) (k : Rules) (s : State) (at : ℕ) (body : List ℕ) (incoming : Incoming)
+pub record IsDelivered {S : Type 0} (g : Ghosts S) (k : Rules) (s : State) (at : ℕ) (body : List ℕ) (incoming : Incoming)
     (old new : Held S) : Type 0 where
   pub sound : IsSound k s
   pub reads : incoming_in body ≡ Ok incoming
@@ -101,13 +102,13 @@ pub record IsCalled {S : Type 0} (g : Ghosts S) (k : Rules) (s : State) (at : �
 -- whatever a crash may leave behind the call shows a state in which the delivery acts once when it comes again
 abbrev pub CrashesActOnce : {S : Type 0} → Ghosts S → Type 0
 CrashesActOnce {S} g = (k : Rules) (s : State) (at : ℕ) (body : List ℕ) (incoming : Incoming) (old new : Held S)
-    → IsCalled g k s at body incoming old new
+    → IsDelivered g k s at body incoming old new
     → HasCleanDisk (state g new) → (left : Trees) → (state g new).may_leave left → FindsState k body incoming (λ t. HoldsState k t left)
 
 -- and so does what an open finds of the files that the crash left
 abbrev pub ReopenedActsOnce : {D : Type 0} → DiskGhosts D → Type 0
 ReopenedActsOnce {D} g = (k : Rules) (s : State) (at : ℕ) (body : List ℕ) (incoming : Incoming) (old new : Held (FileStore D g))
-    → IsCalled over_files k s at body incoming old new
+    → IsDelivered over_files k s at body incoming old new
     → HasCleanDisk (file_state new) → (stopped : FileStore D g) → AreFoundAgain new stopped → IsTrue (view stopped).is_clean
     → (left : Image) → (files.state stopped).may_leave left
     → (opened : Held (FileStore D g)) → IsOpened opened → FindsIn left (file_state opened)
@@ -115,12 +116,17 @@ ReopenedActsOnce {D} g = (k : Rules) (s : State) (at : ℕ) (body : List ℕ) (i
 
 -- ---- lists
 
+-- where behind a commit that was answered no command changes the state, a crash leaves the state after the whole list alone
+abbrev pub LastCommitsStand : {D : Type 0} → Ghosts D → Type 0
+LastCommitsStand {D} g = (k : Rules) (cs : List (ℕ × Command)) (answers : List Answer) (old new : Stored D)
+    → OutlastsCalls k cs answers (standing.state g old) (standing.state g new) → CommitsCalls k cs answers (standing.state g old) (standing.state g new)
+
 -- Behind each commit of a list that was answered, an open finds of the files that a crash left the state behind it, or the one after some of the
 -- commands that follow.
 abbrev pub ReopenedOutlast : {D : Type 0} → DiskGhosts D → Type 0
 ReopenedOutlast {D} g = (k : Rules) (cs : List (ℕ × Command)) (answers : List Answer) (old new : Stored (FileStore D g))
     → OutlastsCalls k cs answers (standing.state over_files old) (standing.state over_files new)
-    → (s : State) → IsSound k s → standing.IfClean (standing.KeepsState k s) (standing.state over_files old)
+    → (s : State) → IsSound k s → standing.IfClean (standing.ShowsState k s) (standing.state over_files old)
     → (before rest : List Sent) (m : Sent) → IsAnsweredCommit k s (sent cs answers) before rest m
     → HasCleanDisk (file_state new.held) → (stopped : FileStore D g) → AreFoundAgain new.held stopped → IsTrue (view stopped).is_clean
     → (left : Image) → (files.state stopped).may_leave left

@@ -1,8 +1,7 @@
 pub mod Gathered
 pub mod Serving
-pub mod Standing
-pub mod NewMetadata
-pub mod Delivering
+pub mod Deciding
+pub mod Desks
 pub mod Calls
 pub mod Runs
 pub mod Laws

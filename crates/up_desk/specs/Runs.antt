@@ -1,12 +1,8 @@
 -- Lists of commands, answered one after another.
-use Rattle.std.specs.Prelude.{◌≡◌, ◌≢◌, ◌≤◌, ◌⊎◌, ℕ, false, List, [], ◌∷◌, ◌++◌, Option, Some, None, if◌then◌else◌, map, length, ⊤, IfSome, IsTrue}
+use Rattle.std.specs.Prelude.{◌≡◌, ◌≢◌, ◌⊎◌, ℕ, false, List, [], ◌∷◌, ◌++◌, Option, Some, None, if◌then◌else◌, map, length, ⊤, IfSome}
 use Rattle.std.specs.FinMap as table
 use Rattle.std.specs.List.{AllByRecursion}
-use Rattle.sqlite_disk.specs.Disk.{MoreFaults}
-use Rattle.sqlite.specs.Effect.{Database}
-use Rattle.up_canon.specs.Moments.{last_command_moment}
 use Rattle.up_canon.specs.Names.{Name}
-use Rattle.up_canon.specs.declared.refusal.Refusal.TheVariants.{Store}
 use Rattle.up_sign.specs.Schemes.{Rules}
 use Rattle.up_machine.specs.declared.command.Command.{Command}
 use Rattle.up_machine.specs.declared.answer.Answer.{Answer}
@@ -17,9 +13,9 @@ use Rattle.up_machine.specs.Deciding.{Outcome}
 use Rattle.up_machine.specs.Repeats.{Sent, serve, after, thinned, expected, not_lost, vehicle_of, without_others, own_answers}
 use Rattle.up_machine.specs.ApartLaws.{AreExchanged}
 use Rattle.up_machine.specs.Sound.{IsSound}
-use Rattle.up_desk.specs.Standing.{Standing, Stored, HasCleanDisk, IfClean, KeepsState, Survives, LeavesOnly}
-use Rattle.up_desk.specs.Serving.{Becomes, HoldsState, IsCommit, RefusesOutcome, ShowsState, is_failed, outright, refused_alone, RepliesStay}
-use Rattle.up_desk.specs.Delivering.{AnswersRead, LeavesKept, Loads, forged_by}
+use Rattle.up_records.specs.Standing.{Standing, HasCleanDisk, IfClean, ShowsState, Survives, LeavesOnly}
+use Rattle.up_desk.specs.Serving.{IsCommit, is_failed, outright, RepliesStay}
+use Rattle.up_records.specs.Standing.{HoldsState}
 
 -- a command with its moment
 abbrev pub timed : ℕ × Command → Timed
@@ -70,25 +66,8 @@ pub record IsRun (k : Rules) (old : State) (cs : List (ℕ × Command)) (answers
 -- so from each sound state that the tables showed, where the disk is clean then; and the tables show the state
 abbrev pub RunsCalls : Rules → List (ℕ × Command) → List Answer → Standing → Standing → Type 0
 RunsCalls k cs answers old new =
-    HasCleanDisk new → (s : State) → IsSound k s → IfClean (KeepsState k s) old
-    → (next : State) × IsRun k s cs answers next × IsSound k next × KeepsState k next new
-
--- ---- each command of a list
-
--- What holds of a command whatever the tables show: nothing is read of them where it is refused without, or by the kept Primary of its vehicle;
--- a catalog is there behind a delivery, and of what is kept in memory is left what a command leaves.
-pub record IsOneCall {D : Type 0} (k : Rules) (c : ℕ × Command) (a : Answer) (old new : Stored D) : Type 0 where
-  pub unread : IfSome (refused_alone k c.0 c.1) (AnswersRead old.held new.held a)
-  pub forged : c.0 ≤ last_command_moment → IfSome (forged_by k old.catalog c.1) (AnswersRead old.held new.held a)
-  pub loads : c.0 ≤ last_command_moment → Loads c.1 a new.catalog
-  pub left : LeavesKept k c.0 c.1 old.catalog new.catalog
-
--- so it is of each, behind those before it
-abbrev pub AreCalls : {D : Type 0} → Rules → List (ℕ × Command) → List Answer → Stored D → Stored D → Type 0
-AreCalls k [] [] old new = new ≡ old
-AreCalls k [] (a ∷ answers) old new = ⊥
-AreCalls k (c ∷ cs) [] old new = ⊥
-AreCalls {D} k (c ∷ cs) (a ∷ answers) old new = (mid : Stored D) × IsOneCall k c a old mid × AreCalls k cs answers mid new
+    HasCleanDisk new → (s : State) → IsSound k s → IfClean (ShowsState k s) old
+    → (next : State) × IsRun k s cs answers next × IsSound k next × ShowsState k next new
 
 -- ---- what a crash leaves after a list
 
@@ -103,7 +82,7 @@ ComesTo k s ms at = (before rest : List Sent) × (m : Sent) × (ms ≡ before ++
 -- only a fault of the disk shuts the connection, and a crash leaves what it could leave before the list, or the state after some of the first
 -- commands
 abbrev pub SparesCalls : Rules → List (ℕ × Command) → List Answer → Standing → Standing → Type 0
-SparesCalls k cs answers old new = (s : State) → IsSound k s → IfClean (KeepsState k s) old
+SparesCalls k cs answers old new = (s : State) → IsSound k s → IfClean (ShowsState k s) old
     → Survives old new (λ trees. (at : State) × ComesTo k s (sent cs answers) at × HoldsState k at trees)
 
 -- a commit that was answered
@@ -118,7 +97,7 @@ StaysOrComesTo k s ms at = (at ≡ s) ⊎ ComesTo k s ms at
 
 -- what was answered stays: behind each commit that was answered a crash leaves the state behind it, or the one after some of the commands that follow
 abbrev pub OutlastsCalls : Rules → List (ℕ × Command) → List Answer → Standing → Standing → Type 0
-OutlastsCalls k cs answers old new = (s : State) → IsSound k s → IfClean (KeepsState k s) old → (before rest : List Sent) (m : Sent)
+OutlastsCalls k cs answers old new = (s : State) → IsSound k s → IfClean (ShowsState k s) old → (before rest : List Sent) (m : Sent)
     → IsAnsweredCommit k s (sent cs answers) before rest m
     → IfClean (LeavesOnly (λ trees. (at : State) × StaysOrComesTo k (outcome_behind k s before m).next rest at × HoldsState k at trees)) new
 
@@ -130,23 +109,23 @@ pub record IsLastCommit (k : Rules) (s : State) (ms before rest : List Sent) (m 
 
 -- where the last commit was answered, a crash leaves the state after the whole list alone
 abbrev pub CommitsCalls : Rules → List (ℕ × Command) → List Answer → Standing → Standing → Type 0
-CommitsCalls k cs answers old new = (s : State) → IsSound k s → IfClean (KeepsState k s) old → (before rest : List Sent) (m : Sent)
+CommitsCalls k cs answers old new = (s : State) → IsSound k s → IfClean (ShowsState k s) old → (before rest : List Sent) (m : Sent)
     → IsLastCommit k s (sent cs answers) before rest m
     → IfClean (LeavesOnly (HoldsState k (after k s (sent cs answers)))) new
 
--- ---- faults over a list
+-- ---- a whole list
 
--- Each database shows the state that it is met in: from this one each command makes the next, and the last of them is this. Each answer `Store`
--- is to a command whose outcome the database refuses that there is then.
-abbrev pub AreRefused : Rules → State → Database → List (ℕ × Command) → List Answer → Database → Type 0
-AreRefused k s db [] answers last = ShowsState k s db × (last ≡ db)
-AreRefused k s db (c ∷ cs) [] last = ShowsState k s db × (last ≡ db)
-AreRefused k s db (c ∷ cs) (a ∷ answers) last = let o = serve k s c.0 c.1 in
-    ShowsState k s db × (a ≡ Refused Store → RefusesOutcome k s None db o)
-    × ((after : Database) × Becomes k s a o.next None db after × AreRefused k (if is_failed a then s else o.next) after cs answers last)
-
--- so where the disk counted no fault, on a connection that was open, with no limit on the steps of a query, of what it saw before and behind
-abbrev pub BlamesCalls : Rules → List (ℕ × Command) → List Answer → Standing → Standing → Type 0
-BlamesCalls k cs answers old new = HasCleanDisk new → (s : State) → IsSound k s → IfClean (KeepsState k s) old
-    → IsTrue old.connection.is_open → old.connection.step_limit ≡ None → (MoreFaults old.connection.faults new.connection.faults → ⊥)
-    → AreRefused k s old.connection.now cs answers new.connection.now
+-- what a list of commands comes to, of which the answers are appended
+pub record AreCalled (k : Rules) (cs : List (ℕ × Command)) (before after : List Answer) (old new : Standing) : Type 0 where
+  -- the answers
+  pub told : List Answer
+  -- they are appended
+  pub appended : after ≡ before ++ told
+  -- there is one for each command, and what is refused whether or not there is memory is refused
+  pub outright : AreOutright k cs told
+  -- the state is the plain machine's after the list without what failed and without the repeats, and each answer is the expected one
+  pub ran : RunsCalls k cs told old new
+  -- a crash leaves what it could leave before, or the state after some of the first commands
+  pub crash : SparesCalls k cs told old new
+  -- behind each commit that was answered it leaves the state behind that, or the one after some of the commands that follow
+  pub lasts : OutlastsCalls k cs told old new

@@ -1,18 +1,17 @@
 -- What a desk answers, the state that its tables show then, and what a crash leaves. All of it is said of a state that the tables show,
 -- over a disk that has returned what was written so far; what is answered outright is said of any.
-use Rattle.std.specs.Prelude.{◌≡◌, ◌⊎◌, ◌||◌, ℕ, Bool, true, false, nat_lt, if◌then◌else◌, codes, length}
-use Rattle.std.specs.Prelude.{Option, Some, None, MatchBool, ⊤, Result, Ok, Err, IfOk, IfErr, IsTrue}
+use Rattle.std.specs.Prelude.{◌≡◌, ◌⊎◌, ℕ, Bool, false, nat_lt, if◌then◌else◌, codes, length}
+use Rattle.std.specs.Prelude.{Option, Some, None, MatchBool, ⊤, Result, Ok, Err, IfErr, IsTrue}
 use Rattle.std.specs.List.{list_all}
 use Rattle.sqlite_disk.specs.Disk.{MoreFaults}
 use Rattle.sqlite.specs.Effect.{Database}
-use Rattle.sqlite.specs.State.{State as Connected, HasCleanDisk, Survives}
-use Rattle.sqlite.specs.Tree.{Trees}
+use Rattle.sqlite.specs.State.{State as Connected}
+use Rattle.sqlite_trees.specs.declared.store.Store.{Ghosts}
 use Rattle.up_canon.specs.Moments.{last_command_moment}
 use Rattle.up_canon.specs.Names.{Name}
-use Rattle.up_canon.specs.Refusals.{is_memory}
-use Rattle.up_canon.specs.Steps.{◌>>=◌, error_of}
 use Rattle.up_canon.specs.declared.refusal.Refusal.{Refusal}
-use Rattle.up_canon.specs.declared.refusal.Refusal.TheVariants.{Memory, Store, MomentOutOfRange, TooLarge, BadShape}
+use Rattle.up_canon.specs.declared.refusal.Refusal.TheVariants.{Store, MomentOutOfRange, TooLarge, BadShape}
+use Rattle.up_canon.specs.Steps.{◌>>=◌}
 use Rattle.up_sign.specs.Schemes.{Rules}
 use Rattle.up_manifest.specs.Manifests.{largest_body, incoming_in}
 use Rattle.up_machine.specs.Vehicles.{public_fits}
@@ -23,29 +22,19 @@ use Rattle.up_machine.specs.declared.answer.Answer.TheVariants.{Done, Already, R
 use Rattle.up_machine.specs.declared.answer.Reply.{Reply}
 use Rattle.up_machine.specs.State.{State}
 use Rattle.up_machine.specs.Deciding.{Outcome, check_moment}
-use Rattle.up_machine.specs.Decisions.{decide_incoming}
+use Rattle.up_machine.specs.Decisions.{decide_incoming, GivesDelivered}
+use Rattle.up_machine.specs.declared.decision.AcceptedRows.{AcceptedRows}
+use Rattle.up_machine.specs.declared.decision.Delivered.TheVariants.{Accepted}
 use Rattle.up_machine.specs.Machine.{decide, outcome_of}
 use Rattle.up_machine.specs.Replies.{kept_reply}
 use Rattle.up_machine.specs.Sound.{IsSound}
-use Rattle.up_rows.specs.StateRows.{StateRows, rows_of_state}
+use Rattle.up_rows.specs.StateRows.{rows_of_state}
 use Rattle.up_tables.specs.declared.values.StoreFault.{StoreFault}
-use Rattle.up_tables.specs.declared.values.StoreFault.TheVariants as fault
-use Rattle.up_tables.specs.Stands.{IfClean, IsWith, LeavesOnly}
-use Rattle.up_tables.specs.Tables.{up_schema}
-use Rattle.up_store.specs.Connections.{KeepsRows, KeepsState, HoldsRows}
-use Rattle.up_store.specs.Listing as listing
-use Rattle.up_store.specs.Writes.{MakesNext, RefusesToWrite}
+use Rattle.up_store.specs.Writes.{RefusesToWrite}
+use Rattle.up_records.specs.Connected.{is_fault, refusal_told}
+use Rattle.up_records.specs.Standing.{Standing, Stored, CanUse, HasCleanDisk, HoldsState, IfClean, LeavesOnly, ShowsState, Survives, state}
 
 -- ---- answers
-
--- the database refused, for another cause than memory
-abbrev pub is_store : Refusal → Bool
-is_store Store = true
-is_store _ = false
-
--- a fault: memory or the database refused
-abbrev pub is_fault : Refusal → Bool
-is_fault r = is_memory r || is_store r
 
 abbrev pub is_failed : Answer → Bool
 is_failed (Refused r) = is_fault r
@@ -73,17 +62,6 @@ outright_in_time k c = None
 abbrev pub outright : Rules → ℕ → Command → Option Refusal
 outright k at c = if nat_lt last_command_moment at then Some MomentOutOfRange else outright_in_time k c
 
--- ---- refusals for which nothing is read of the tables
-
--- of a command in time: those, and that of a body that can't be read
-abbrev pub alone_in_time : Rules → Command → Option Refusal
-alone_in_time k (Deliver body) = error_of (incoming_in body)
-alone_in_time k c = outright_in_time k c
-
--- that of a moment past the last one, before all others
-abbrev pub refused_alone : Rules → ℕ → Command → Option Refusal
-refused_alone k at c = if nat_lt last_command_moment at then Some MomentOutOfRange else alone_in_time k c
-
 -- ---- one command
 
 -- a refusal is told as one
@@ -99,15 +77,11 @@ outcome_due k s at (Deliver body) = do
   decide_incoming k s at incoming
 outcome_due k s at c = decide k s at c
 
--- what a crash may leave shows the state
-abbrev pub HoldsState : Rules → State → Trees → Type 0
-HoldsState k s = HoldsRows (rows_of_state k s)
-
--- the tables show the state of the outcome that was computed; of a refusal, or where the command failed, the state as it was
-abbrev pub Leaves : Rules → State → Connected → Result Answer Refusal → Result Outcome Refusal → Type 0
+-- what is shown is the state of the outcome that was computed; of a refusal, or where the command failed, the state as it was
+abbrev pub Leaves : Rules → State → Standing → Result Answer Refusal → Result Outcome Refusal → Type 0
 Leaves k s new (Ok answer) computed =
-    (is_failed answer ≡ false) × ((next : State) × (computed ≡ Ok (record { answer = answer; next = next })) × KeepsState k next new)
-Leaves k s new (Err r) computed = KeepsState k s new × MatchBool (is_fault r) ⊤ (computed ≡ Err r)
+    (is_failed answer ≡ false) × ((next : State) × (computed ≡ Ok (record { answer = answer; next = next })) × ShowsState k next new)
+Leaves k s new (Err r) computed = ShowsState k s new × MatchBool (is_fault r) ⊤ (computed ≡ Err r)
 
 -- it was done, or is a reply with which the state changed: that to a newly accepted manifest
 abbrev pub IsCommit : State → Answer → State → Type 0
@@ -116,16 +90,6 @@ IsCommit s Already next = ⊥
 IsCommit s (Replied reply) next = next ≡ s → ⊥
 IsCommit s (File text) next = ⊥
 IsCommit s (Refused r) next = ⊥
-
--- the database shows the state
-abbrev pub ShowsState : Rules → State → Database → Type 0
-ShowsState k s = IsWith up_schema (listing.ShowsState k s)
-
--- What is made of a database that shows the state: behind a commit, what statements make that write the rows of the next state. Behind all else
--- it stays.
-abbrev pub Becomes : Rules → State → Answer → State → Option ℕ → Database → Database → Type 0
-Becomes k s a next limit db after =
-    (IsCommit s a next × MakesNext (rows_of_state k s) (rows_of_state k next) limit db after) ⊎ ((IsCommit s a next → ⊥) × (after ≡ db))
 
 -- the outcome is a commit, and the database refuses to write the rows of its next state
 pub record RefusesOutcome (k : Rules) (s : State) (limit : Option ℕ) (db : Database) (o : Outcome) : Type 0 where
@@ -136,65 +100,32 @@ pub record RefusesOutcome (k : Rules) (s : State) (limit : Option ℕ) (db : Dat
 abbrev pub IsBlamed : Rules → State → Connected → Connected → Outcome → Type 0
 IsBlamed k s old new o = IsTrue old.is_open → old.step_limit ≡ None → MoreFaults old.faults new.faults ⊎ RefusesOutcome k s old.step_limit old.now o
 
--- It leaves what was computed. Whatever it answers, a crash leaves what it could leave before, or the next state; after a commit that
--- state alone. Where the next state is sound, `Store` is told only where the disk or the database is to blame. A connection that is open was open,
--- and sees what is made of what it saw.
-pub record Serves (k : Rules) (s : State) (old new : Connected) (result : Result Answer Refusal) (computed : Result Outcome Refusal) : Type 0 where
+-- what a command comes to in a sound state that is shown
+pub record Serves (k : Rules) (s : State) (old new : Standing) (result : Result Answer Refusal) (computed : Result Outcome Refusal) : Type 0 where
+  -- it leaves what was computed
   pub leaves : HasCleanDisk new → Leaves k s new result computed
+  -- whatever it answers, a crash leaves what it could leave before, or the next state
   pub crash : Survives old new (HoldsState k (outcome_of s computed).next)
+  -- behind a commit it leaves that alone
   pub durable : IsCommit s (told result) (outcome_of s computed).next → IfClean (LeavesOnly (HoldsState k (outcome_of s computed).next)) new
+  -- where the next state is sound, `Store` is told only where the disk or the database is to blame
   pub blame : HasCleanDisk new → IsSound k (outcome_of s computed).next
-      → IfErr result (λ r. r ≡ Store → IsBlamed k s old new (outcome_of s computed))
-  pub made : HasCleanDisk new → IsTrue new.is_open
-      → IsTrue old.is_open × Becomes k s (told result) (outcome_of s computed).next old.step_limit old.now new.now
+      → IfErr result (λ r. r ≡ Store → IsBlamed k s old.connection new.connection (outcome_of s computed))
 
--- ---- its steps
+-- a command by this rule
+pub record CarriesOut (k : Rules) (rule : State → Result Outcome Refusal) (old new : Standing) (result : Result Answer Refusal) : Type 0 where
+  pub serves : (s : State) → IsSound k s → IfClean (ShowsState k s) old → Serves k s old new result (rule s)
+  -- what is kept in memory can be used, if it could be
+  pub can : CanUse k old → CanUse k new
 
--- a connection that is open was open, and sees the database that it saw
-abbrev pub SeesSame : Connected → Connected → Type 0
-SeesSame old new = IsTrue new.is_open → IsTrue old.is_open × (new.now ≡ old.now)
+abbrev pub Carries : {D : Type 0} → Ghosts D → Rules → (State → Result Outcome Refusal) → Stored D → Stored D → Result Answer Refusal → Type 0
+Carries g k rule old new result = CarriesOut k rule (state g old) (state g new) result
 
--- nothing is written: the tables list what they listed, and a crash leaves what it could leave before
-pub record Reads (old new : Connected) : Type 0 where
-  pub kept : (rows : StateRows) → IfClean (KeepsRows rows) old → IfClean (KeepsRows rows) new
-  pub same : (rows : StateRows) → IfClean (KeepsRows rows) old → IfClean (SeesSame old) new
-  pub survives : Survives old new (λ _. ⊥)
-
--- what is read is told by the state that the tables show
-abbrev pub Tells : {A E : Type 0} → (Rules → State → A) → Connected → Connected → Result A E → Type 0
-Tells of_state old new result = HasCleanDisk new → IfOk result (λ found. (k : Rules) (s : State)
-    → IfClean (KeepsState k s) old → found ≡ of_state k s)
-
--- on a connection that was open, with no limit on the steps of a query, the disk counted a fault
-abbrev pub DiskFailed : Connected → Connected → Type 0
-DiskFailed old new = IsTrue old.is_open → old.step_limit ≡ None → MoreFaults old.faults new.faults
-
--- this error is told only where the disk failed
-abbrev pub BlamesDisk : {A E : Type 0} → E → Connected → Connected → Result A E → Type 0
-BlamesDisk store old new result = HasCleanDisk new → IfErr result (λ e. e ≡ store → DiskFailed old new)
-
--- `Store` is told only so of what is read, over tables that show a state
-abbrev pub Blames : {A : Type 0} → Connected → Connected → Result A StoreFault → Type 0
-Blames old new result = (k : Rules) (s : State) → IfClean (KeepsState k s) old → BlamesDisk fault.Store old new result
-
--- this error is told only so, over tables that show a state which is sound under these rules
-abbrev pub BlamesSound : {A E : Type 0} → E → Rules → Connected → Connected → Result A E → Type 0
-BlamesSound store k old new result = (s : State) → IsSound k s → IfClean (KeepsState k s) old → BlamesDisk store old new result
-
--- the refusal is due, or memory was refused, or the disk failed, which is told as `Store`
-abbrev pub IsDueOrFails : Connected → Connected → Refusal → Result Outcome Refusal → Type 0
-IsDueOrFails old new r computed = MatchBool (is_fault r) (r ≡ Store → DiskFailed old new) (computed ≡ Err r)
-
--- what is decided is what a decision gives, but that the disk may fail too
-abbrev pub GivesOrFails : {R : Type 0} → (Result R Refusal → Result Outcome Refusal → Type 0) → Connected → Connected → Result R Refusal
-    → Result Outcome Refusal → Type 0
-GivesOrFails gives old new (Ok x) computed = gives (Ok x) computed
-GivesOrFails gives old new (Err r) computed = IsDueOrFails old new r computed
-
--- a fault of the store as a refusal
-abbrev pub refusal_told : StoreFault → Refusal
-refusal_told fault.Memory = Memory
-refusal_told fault.Store = Store
+-- the rows of a manifest that is accepted are written
+pub record Accepts (k : Rules) (rows : AcceptedRows) (old new : Standing) (result : Result Answer Refusal) : Type 0 where
+  pub serves : (s : State) (name : Name) (computed : Result Outcome Refusal) → IsSound k s → IfClean (ShowsState k s) old
+      → (HasCleanDisk old → GivesDelivered k s name (Ok (Accepted rows)) computed) → Serves k s old new result computed
+  pub can : CanUse k old → CanUse k new
 
 -- the answer, where it was written
 abbrev pub answer_written : Answer → Result ⊤ StoreFault → Result Answer Refusal

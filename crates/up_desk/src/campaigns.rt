@@ -1,156 +1,139 @@
 //! Campaigns.
-ghost use Rattle.std.specs.Prelude.{◌≡◌, ◌≤◌, IfOk, is_some, map, option_copied};
+ghost use Rattle.std.specs.Prelude.{◌≡◌, is_some, map, option_copied};
 ghost use Rattle.std.specs.FinMap as table;
-ghost use Rattle.sqlite.specs.Held.{state};
-ghost use Rattle.sqlite.specs.State.{HasCleanDisk};
-ghost use Rattle.up_canon.specs.Moments.{last_command_moment};
 ghost use Rattle.up_sign.specs.Schemes.{Rules};
-ghost use Rattle.up_machine.specs.Inventory.{decide_open as decide_open_in, decide_close as decide_close_in, with_campaign};
-ghost use Rattle.up_machine.specs.Decisions.{named_in, GivesDecision, GivesClosed};
+ghost use Rattle.up_machine.specs.Inventory.{decide_open as decide_open_in, decide_close as decide_close_in};
+ghost use Rattle.up_machine.specs.Decisions.{named_in};
 ghost use Rattle.up_machine.specs.Rows.{founding_row};
-ghost use Rattle.up_machine.specs.Sound.{IsSound};
-ghost use Rattle.up_machine.specs.State.{State};
-ghost use Rattle.up_store.specs.Connections.{KeepsState};
-ghost use Rattle.up_tables.specs.Stands.{IfClean};
-ghost use Rattle.up_desk.specs.Serving.{Blames, GivesOrFails, Reads, Serves, Tells};
-ghost use Rattle.up_desk.specs.Gathered.{gathered, item_files};
+ghost use Rattle.up_desk.specs.Deciding.{DecidesClose, DecidesOpen};
+ghost use Rattle.up_desk.specs.Serving.{Carries};
+ghost use Rattle.up_records.specs.Reads.{FindsSuch};
+ghost use Rattle.std.specs.Prelude.{⊤};
 
-use crate::faults::{done_of, refusal_of};
+use crate::command_moment::CommandMoment;
+use crate::faults::done_of;
 use crate::images::images_of;
-use crate::reads::is_founded;
 use sqlite::Alter;
 use std::alloc::Global;
 use up_canon::ident::Ident;
-use up_canon::moment::Moment;
 use up_canon::refusal::Refusal;
 use up_machine::answer::Answer;
 use up_machine::decide_campaign::{decide_close, decide_open};
 use up_machine::decision::Decision;
 use up_plan::campaign::{Campaign, Reach};
-use up_rows::laws::{campaigns_are_written, rows_are_found};
-use up_store::store::{Store, StoreFault};
+use up_records::faults::refusal_of;
+use up_records::records::Records;
+use up_store::store::StoreFault;
 
 /// Opens a campaign.
 pub fn open<D: Alter>(
-    store: &mut Store<D>,
+    records: &mut Records<D>,
     alloc: Global,
-    at: Moment,
+    at: CommandMoment,
     campaign: &Campaign,
 ) -> Result<Answer, Refusal>
-    requires { at ≤ last_command_moment }
-    ensures { (k : Rules) (s : State) → IsSound k s → IfClean (KeepsState k s) (state D.Store store.old)
-        → Serves k s (state D.Store store.old) (state D.Store store.new) result (decide_open_in s at campaign.now) }
+    ensures { (k : Rules) → Carries D.Store k (λ s. decide_open_in s at campaign.now) records.old records.new result }
 {
-    campaigns_are_written();
-    match decide_opening(store, alloc, at, campaign) {
+    match decide_opening(records, alloc, at, campaign) {
         Ok(Decision::Already) => Ok(Answer::Already),
-        Ok(Decision::New(row)) => done_of(store.write_campaign(alloc, &row)),
+        Ok(Decision::New(row)) => done_of(records.write_campaign(alloc, &row)),
         Err(refusal) => Err(refusal),
     }
 }
 
 /// Decides on opening a campaign, over rows that are read one after another.
 fn decide_opening<D: Alter>(
-    store: &mut Store<D>,
+    records: &mut Records<D>,
     alloc: Global,
-    at: Moment,
+    at: CommandMoment,
     campaign: &Campaign,
 ) -> Result<Decision<Campaign>, Refusal>
-    requires { at ≤ last_command_moment }
-    ensures decided { HasCleanDisk (state D.Store store.new) → (k : Rules) (s : State) → IfClean (KeepsState k s) (state D.Store store.old)
-        → GivesOrFails (GivesDecision (λ row. row ≡ campaign.now) s (with_campaign s campaign.now))
-        (state D.Store store.old) (state D.Store store.new) result (decide_open_in s at campaign.now) }
-    ensures reads { Reads (state D.Store store.old) (state D.Store store.new) }
+    ensures { (k : Rules) → DecidesOpen D.Store k at campaign.now (λ s. ⊤) records.old records.new result }
 {
-    match is_founded(store) {
-        Ok(founded) => decide_founded(store, alloc, at, campaign, founded),
+    match records.is_founded(alloc) {
+        Ok(founded) => decide_opening_founded(records, alloc, at, campaign, founded),
         Err(fault) => Err(refusal_of(fault)),
     }
 }
 
-/// The same, once it was read whether the repositories are founded.
-fn decide_founded<D: Alter>(
-    store: &mut Store<D>,
+/// Decides on it once it is known whether the repositories are founded.
+fn decide_opening_founded<D: Alter>(
+    records: &mut Records<D>,
     alloc: Global,
-    at: Moment,
+    at: CommandMoment,
     campaign: &Campaign,
     founded: bool,
 ) -> Result<Decision<Campaign>, Refusal>
-    requires { at ≤ last_command_moment }
-    ensures decided { HasCleanDisk (state D.Store store.new) → (k : Rules) (s : State) → founded ≡ is_some (founding_row s)
-        → IfClean (KeepsState k s) (state D.Store store.old)
-        → GivesOrFails (GivesDecision (λ row. row ≡ campaign.now) s (with_campaign s campaign.now))
-        (state D.Store store.old) (state D.Store store.new) result (decide_open_in s at campaign.now) }
-    ensures reads { Reads (state D.Store store.old) (state D.Store store.new) }
+    ensures { (k : Rules)
+        → DecidesOpen D.Store k at campaign.now (λ s. founded ≡ is_some (founding_row s))
+        records.old records.new result }
 {
-    match store.campaign(alloc, &campaign.name) {
-        Ok(old) => decide_named(store, alloc, at, campaign, founded, old.as_ref()),
+    match records.campaign(alloc, &campaign.name) {
+        Ok(old) => decide_opening_named(records, alloc, at, campaign, founded, old.as_ref()),
         Err(fault) => Err(refusal_of(fault)),
     }
 }
 
-/// The same, once the campaign of that name was read.
-fn decide_named<D: Alter>(
-    store: &mut Store<D>,
+/// Decides on it once the campaign of that name is known.
+fn decide_opening_named<D: Alter>(
+    records: &mut Records<D>,
     alloc: Global,
-    at: Moment,
+    at: CommandMoment,
     campaign: &Campaign,
     founded: bool,
     old: Option<&Campaign>,
 ) -> Result<Decision<Campaign>, Refusal>
-    requires { at ≤ last_command_moment }
-    ensures decided { HasCleanDisk (state D.Store store.new) → (k : Rules) (s : State) → founded ≡ is_some (founding_row s)
-        → option_copied old.entry ≡ table.get s.campaigns campaign.now.name → IfClean (KeepsState k s) (state D.Store store.old)
-        → GivesOrFails (GivesDecision (λ row. row ≡ campaign.now) s (with_campaign s campaign.now))
-        (state D.Store store.old) (state D.Store store.new) result (decide_open_in s at campaign.now) }
-    ensures reads { Reads (state D.Store store.old) (state D.Store store.new) }
+    ensures { (k : Rules) → DecidesOpen D.Store k at campaign.now (λ s. (founded ≡ is_some (founding_row s))
+        × (option_copied old.entry ≡ table.get s.campaigns campaign.now.name)) records.old records.new result }
 {
-    match known_vehicles(store, alloc, &campaign.reach) {
-        Ok(known) => decide_known(store, alloc, at, campaign, founded, old, known.as_slice()),
+    match known_vehicles(records, alloc, &campaign.reach) {
+        Ok(known) => decide_opening_known(
+            records,
+            alloc,
+            at,
+            campaign,
+            founded,
+            old,
+            known.as_slice(),
+        ),
         Err(fault) => Err(refusal_of(fault)),
     }
 }
 
-/// The same, once the vehicles were looked up.
-fn decide_known<D: Alter>(
-    store: &mut Store<D>,
+/// Decides on it once its vehicles are known, with the images that its items name.
+fn decide_opening_known<D: Alter>(
+    records: &mut Records<D>,
     alloc: Global,
-    at: Moment,
+    at: CommandMoment,
     campaign: &Campaign,
     founded: bool,
     old: Option<&Campaign>,
     known: &[bool],
 ) -> Result<Decision<Campaign>, Refusal>
-    requires { at ≤ last_command_moment }
-    ensures decided { HasCleanDisk (state D.Store store.new) → (k : Rules) (s : State) → founded ≡ is_some (founding_row s)
-        → option_copied old.entry ≡ table.get s.campaigns campaign.now.name
-        → known.now ≡ map (table.contains_key s.vehicles) (named_in campaign.now.reach) → IfClean (KeepsState k s) (state D.Store store.old)
-        → GivesOrFails (GivesDecision (λ row. row ≡ campaign.now) s (with_campaign s campaign.now))
-        (state D.Store store.old) (state D.Store store.new) result (decide_open_in s at campaign.now) }
-    ensures reads { Reads (state D.Store store.old) (state D.Store store.new) }
+    ensures { (k : Rules) → DecidesOpen D.Store k at campaign.now (λ s. (founded ≡ is_some (founding_row s))
+        × (option_copied old.entry ≡ table.get s.campaigns campaign.now.name)
+        × (known.now ≡ map (table.contains_key s.vehicles) (named_in campaign.now.reach)))
+        records.old records.new result }
 {
-    match images_of(store, alloc, campaign.items.as_slice()) {
-        Ok(images) => decide_open(alloc, at, campaign, founded, old, known, &images),
+    match images_of(records, alloc, campaign.items.as_slice()) {
+        Ok(images) => decide_open(alloc, at.moment(), campaign, founded, old, known, &images),
         Err(fault) => Err(refusal_of(fault)),
     }
 }
 
 /// Marks for each vehicle that a campaign names whether it is in the inventory.
 fn known_vehicles<D: Alter>(
-    store: &mut Store<D>,
+    records: &mut Records<D>,
     alloc: Global,
     reach: &Reach,
 ) -> Result<Vec<bool>, StoreFault>
-    ensures told { HasCleanDisk (state D.Store store.new)
-        → IfOk result (λ known. (k : Rules) (s : State) → IfClean (KeepsState k s) (state D.Store store.old)
-        → known.items ≡ map (table.contains_key s.vehicles) (named_in reach.now)) }
-    ensures blame { Blames (state D.Store store.old) (state D.Store store.new) result }
-    ensures reads { Reads (state D.Store store.old) (state D.Store store.new) }
+    ensures { FindsSuch D.Store (λ s known. known.items ≡ map (table.contains_key s.vehicles) (named_in reach.now))
+        records.old records.new result }
 {
     let names = names_in(reach);
     let mut known = Vec::with_capacity(alloc, names.len())?;
     for name in names {
-        match is_known(store, alloc, name) {
+        match records.is_known(alloc, name) {
             Ok(is_known) => known.push(is_known)?,
             Err(fault) => return Err(fault),
         }
@@ -167,57 +150,38 @@ fn names_in(reach: &Reach) -> &[Ident]
     }
 }
 
-/// Whether the vehicle is in the inventory.
-fn is_known<D: Alter>(store: &mut Store<D>, alloc: Global, name: &Ident) -> Result<bool, StoreFault>
-    ensures told { Tells (λ k s. table.contains_key s.vehicles name.now) (state D.Store store.old) (state D.Store store.new) result }
-    ensures blame { Blames (state D.Store store.old) (state D.Store store.new) result }
-    ensures reads { Reads (state D.Store store.old) (state D.Store store.new) }
-{
-    rows_are_found();
-    match store.vehicle(alloc, name) {
-        Ok(vehicle) => Ok(vehicle.is_some()),
-        Err(fault) => Err(fault),
-    }
-}
-
 /// Closes the campaign of this name.
 pub fn close<D: Alter>(
-    store: &mut Store<D>,
+    records: &mut Records<D>,
     alloc: Global,
-    at: Moment,
+    at: CommandMoment,
     name: &Ident,
 ) -> Result<Answer, Refusal>
-    requires { at ≤ last_command_moment }
-    ensures { (k : Rules) (s : State) → IsSound k s → IfClean (KeepsState k s) (state D.Store store.old)
-        → Serves k s (state D.Store store.old) (state D.Store store.new) result (decide_close_in s at name.now) }
+    ensures { (k : Rules) → Carries D.Store k (λ s. decide_close_in s at name.now) records.old records.new result }
 {
-    campaigns_are_written();
-    match decide_closing(store, alloc, at, name) {
+    match decide_closing(records, alloc, at, name) {
         Ok(Decision::Already) => Ok(Answer::Already),
-        Ok(Decision::New(row)) => done_of(store.write_close(alloc, &row)),
+        Ok(Decision::New(row)) => done_of(records.write_close(&row)),
         Err(refusal) => Err(refusal),
     }
 }
 
 /// Decides on closing a campaign, over the rows that are read.
 fn decide_closing<D: Alter>(
-    store: &mut Store<D>,
+    records: &mut Records<D>,
     alloc: Global,
-    at: Moment,
+    at: CommandMoment,
     name: &Ident,
 ) -> Result<Decision<Campaign>, Refusal>
-    requires { at ≤ last_command_moment }
-    ensures decided { HasCleanDisk (state D.Store store.new) → (k : Rules) (s : State) → IfClean (KeepsState k s) (state D.Store store.old)
-        → GivesOrFails (GivesClosed s name.now) (state D.Store store.old) (state D.Store store.new) result (decide_close_in s at name.now) }
-    ensures reads { Reads (state D.Store store.old) (state D.Store store.new) }
+    ensures { (k : Rules) → DecidesClose D.Store k at name.now (λ s. ⊤) records.old records.new result }
 {
-    let founded = match is_founded(store) {
+    let founded = match records.is_founded(alloc) {
         Ok(founded) => founded,
         Err(fault) => return Err(refusal_of(fault)),
     };
-    let campaign = match store.campaign(alloc, name) {
+    let campaign = match records.campaign(alloc, name) {
         Ok(campaign) => campaign,
         Err(fault) => return Err(refusal_of(fault)),
     };
-    decide_close(alloc, at, name, founded, campaign.as_ref())
+    decide_close(alloc, at.moment(), name, founded, campaign.as_ref())
 }

@@ -1,154 +1,64 @@
 //! Manifests that vehicles deliver.
-ghost use Rattle.std.specs.Prelude.{◌≡◌, ◌≤◌, ◌<◌, length, Result, Ok, Err, IfOk, IfSome};
-ghost use Rattle.sqlite.specs.Held.{state};
-ghost use Rattle.sqlite.specs.State.{HasCleanDisk};
-ghost use Rattle.up_canon.specs.Moments.{last_command_moment};
-ghost use Rattle.up_canon.specs.Names.{Name};
-ghost use Rattle.up_canon.specs.declared.refusal.Refusal.{Refusal};
+ghost use Rattle.std.specs.Prelude.{◌<◌, length};
 ghost use Rattle.up_canon.specs.declared.refusal.Refusal.TheVariants.{TooLarge};
-ghost use Rattle.up_canon.specs.Steps.{and_then, error_of};
+ghost use Rattle.up_canon.specs.Steps.{and_then};
 ghost use Rattle.up_sign.specs.Schemes.{Rules};
 ghost use Rattle.up_manifest.specs.Manifests.{largest_body, incoming_in};
-ghost use Rattle.up_manifest.specs.declared.manifest.Incoming.{Incoming};
-ghost use Rattle.up_metadata.specs.Keys.{hashed_roles};
-ghost use Rattle.up_machine.specs.declared.decision.Delivered.TheVariants.{Accepted};
-ghost use Rattle.up_machine.specs.Deciding.{Outcome};
-ghost use Rattle.up_machine.specs.Decisions.{IsRead, decide_incoming, GivesDelivered};
-ghost use Rattle.up_machine.specs.Senders.{CanAnswer, IsSenderOf};
-ghost use Rattle.up_machine.specs.Sound.{IsSound};
-ghost use Rattle.up_machine.specs.State.{State};
-ghost use Rattle.up_store.specs.Connections.{KeepsState};
-ghost use Rattle.up_tables.specs.Stands.{IfClean};
-ghost use Rattle.up_desk.specs.Delivering.{Decides, IsLoadedBehind, IsReadBy, IsSent, IsSentBy};
-ghost use Rattle.up_desk.specs.Delivering.{IsThere, RefusesRead, RefusesUnread, refused_before, refused_by, refused_in};
-ghost use Rattle.up_desk.specs.Serving.{Reads, Serves, told};
-ghost use Rattle.up_desk.specs.Standing.{CanDecide, Come, Fits, IsLoaded, IsOf, KeepsMore, StaysLoaded, primaries_in};
+ghost use Rattle.up_machine.specs.Decisions.{IsRead, decide_incoming};
+ghost use Rattle.up_records.specs.Senders.{RefusesUnread};
+ghost use Rattle.up_records.specs.Standing.{CanUse, state};
+ghost use Rattle.up_desk.specs.Serving.{Accepts, Carries};
 
-use crate::catalog::{Catalog, load};
-use crate::ecu_keys::keep_ecus;
-use crate::faults::{refusal_of, replied};
-use crate::senders::read_sender;
+use crate::command_moment::CommandMoment;
+use crate::faults::replied;
 use sqlite::Alter;
 use std::alloc::Global;
 use up_canon::bytes::Bytes;
-use up_canon::moment::Moment;
 use up_canon::refusal::Refusal;
 use up_machine::answer::Answer;
-use up_machine::decide_manifest::{decide_again, decide_new};
 use up_machine::decision::{AcceptedRows, Delivered};
 use up_machine::kept_reply::{reply_in, targets_in};
-use up_machine::sender::{Sender, is_later};
 use up_manifest::manifest::Incoming;
 use up_manifest::manifest_read::read_manifest;
-use up_rows::laws::{ecus_tell_their_hash, manifests_are_added, rows_are_found};
-use up_sign::key_cache::KeyCache;
+use up_records::records::Records;
 use up_sign::scheme::Scheme;
-use up_store::store::Store;
 
-/// Takes in a manifest, or answers a repeat by the reply that was kept for it. What is kept in memory of the tables is loaded
-/// where nothing is, and kept whatever is answered. `keys` gets the keys of ECUs that are met, and no answer depends on it. Nothing
-/// is read of the tables for a body that can't be read.
+/// Takes in a manifest, or answers a repeat by the reply that was kept for it.
 pub fn deliver<K: Scheme, D: Alter>(
-    store: &mut Store<D>,
-    catalog: &mut Option<Catalog>,
-    keys: &mut KeyCache,
+    records: &mut Records<D>,
     alloc: Global,
     scheme: &K,
-    at: Moment,
+    at: CommandMoment,
     body: &Bytes,
 ) -> Result<Answer, Refusal>
-    requires moment { at ≤ last_command_moment }
-    requires can { IfSome catalog.old (CanDecide (K.rules scheme.now)) }
-    ensures large { largest_body < length body.now → RefusesUnread store.old store.new result TooLarge }
-    ensures unread { IfSome (error_of (incoming_in body.now)) (RefusesRead store.old store.new result) }
-    ensures serves { (s : State) → IsSound (K.rules scheme.now) s → IfClean (KeepsState (K.rules scheme.now) s) (state D.Store store.old)
-        → (HasCleanDisk (state D.Store store.old) → Fits s catalog.old)
-        → Serves (K.rules scheme.now) s (state D.Store store.old) (state D.Store store.new) result
-        (and_then (incoming_in body.now) (decide_incoming (K.rules scheme.now) s at)) }
-    ensures fits { HasCleanDisk (state D.Store store.new) → (k : Rules) (s : State)
-        → IfClean (KeepsState k s) (state D.Store store.old) → Fits s catalog.old → Fits s catalog.new }
-    ensures kept { StaysLoaded catalog.old catalog.new }
-    ensures came { HasCleanDisk (state D.Store store.new) → (s : State)
-        → IfClean (KeepsState (K.rules scheme.now) s) (state D.Store store.old) → Fits s catalog.old
-        → Come (IsReadBy (K.rules scheme.now) (incoming_in body.now)) (primaries_in catalog.old) (primaries_in catalog.new) }
-    ensures loads { IfOk (incoming_in body.now) (λ incoming. IsLoadedBehind (told result) catalog.new) }
-    ensures can { IfSome catalog.new (CanDecide (K.rules scheme.now)) }
-    ensures forged { (incoming : Incoming) → incoming_in body.now ≡ Ok incoming
-        → IfSome (refused_in (K.rules scheme.now) catalog.old incoming) (RefusesRead store.old store.new result) }
-    ensures left { IfSome (refused_before (K.rules scheme.now) catalog.old (incoming_in body.now)) (λ r. catalog.new ≡ catalog.old) }
+    requires can { CanUse (K.rules scheme.now) (state D.Store records.old) }
+    ensures large { largest_body < length body.now → RefusesUnread records.old records.new result TooLarge }
+    ensures carries { Carries D.Store (K.rules scheme.now)
+        (λ s. and_then (incoming_in body.now) (decide_incoming (K.rules scheme.now) s at))
+        records.old records.new result }
 {
     match read_manifest(alloc, body.as_slice()) {
-        Ok(incoming) => receive(store, catalog, keys, alloc, scheme, at, &incoming),
+        Ok(incoming) => receive(records, alloc, scheme, at, &incoming),
         Err(refusal) => Err(refusal),
     }
 }
 
-/// The same of a manifest that was read.
+/// A manifest that was read is decided on, and one that is accepted is written.
 fn receive<K: Scheme, D: Alter>(
-    store: &mut Store<D>,
-    catalog: &mut Option<Catalog>,
-    keys: &mut KeyCache,
+    records: &mut Records<D>,
     alloc: Global,
     scheme: &K,
-    at: Moment,
+    at: CommandMoment,
     incoming: &Incoming,
 ) -> Result<Answer, Refusal>
-    requires moment { at ≤ last_command_moment }
     requires read { IsRead incoming.now }
-    requires can { IfSome catalog.old (CanDecide (K.rules scheme.now)) }
-    ensures serves { (s : State) → IsSound (K.rules scheme.now) s → IfClean (KeepsState (K.rules scheme.now) s) (state D.Store store.old)
-        → (HasCleanDisk (state D.Store store.old) → Fits s catalog.old)
-        → Serves (K.rules scheme.now) s (state D.Store store.old) (state D.Store store.new) result
-        (decide_incoming (K.rules scheme.now) s at incoming.now) }
-    ensures fits { HasCleanDisk (state D.Store store.new) → (k : Rules) (s : State)
-        → IfClean (KeepsState k s) (state D.Store store.old) → Fits s catalog.old → Fits s catalog.new }
-    ensures kept { StaysLoaded catalog.old catalog.new }
-    ensures came { HasCleanDisk (state D.Store store.new) → (s : State)
-        → IfClean (KeepsState (K.rules scheme.now) s) (state D.Store store.old) → Fits s catalog.old
-        → Come (IsSentBy (K.rules scheme.now) incoming.now) (primaries_in catalog.old) (primaries_in catalog.new) }
-    ensures loads { IsLoadedBehind (told result) catalog.new }
-    ensures can { IfSome catalog.new (CanDecide (K.rules scheme.now)) }
-    ensures forged { IfSome (refused_in (K.rules scheme.now) catalog.old incoming.now) (RefusesUnread store.old store.new result) }
-    ensures left { IfSome (refused_in (K.rules scheme.now) catalog.old incoming.now) (λ r. catalog.new ≡ catalog.old) }
+    requires can { CanUse (K.rules scheme.now) (state D.Store records.old) }
+    ensures { Carries D.Store (K.rules scheme.now) (λ s. decide_incoming (K.rules scheme.now) s at incoming.now)
+        records.old records.new result }
 {
-    match load(store, catalog, alloc, scheme) {
-        Ok(()) => receive_loaded(store, catalog, keys, alloc, scheme, at, incoming),
-        Err(fault) => Err(refusal_of(fault)),
-    }
-}
-
-/// The same, once the catalog is loaded; there is none before founding.
-fn receive_loaded<K: Scheme, D: Alter>(
-    store: &mut Store<D>,
-    catalog: &mut Option<Catalog>,
-    keys: &mut KeyCache,
-    alloc: Global,
-    scheme: &K,
-    at: Moment,
-    incoming: &Incoming,
-) -> Result<Answer, Refusal>
-    requires moment { at ≤ last_command_moment }
-    requires read { IsRead incoming.now }
-    requires can { IfSome catalog.old (CanDecide (K.rules scheme.now)) }
-    ensures serves { (s : State) → IsSound (K.rules scheme.now) s → IfClean (KeepsState (K.rules scheme.now) s) (state D.Store store.old)
-        → (HasCleanDisk (state D.Store store.old) → IsLoaded s catalog.old)
-        → Serves (K.rules scheme.now) s (state D.Store store.old) (state D.Store store.new) result
-        (decide_incoming (K.rules scheme.now) s at incoming.now) }
-    ensures clean { HasCleanDisk (state D.Store store.new) → HasCleanDisk (state D.Store store.old) }
-    ensures fits { HasCleanDisk (state D.Store store.new) → (k : Rules) (s : State)
-        → IfClean (KeepsState k s) (state D.Store store.old) → Fits s catalog.old → Fits s catalog.new }
-    ensures kept { StaysLoaded catalog.old catalog.new }
-    ensures came { HasCleanDisk (state D.Store store.new) → (s : State)
-        → IfClean (KeepsState (K.rules scheme.now) s) (state D.Store store.old) → Fits s catalog.old
-        → Come (IsSentBy (K.rules scheme.now) incoming.now) (primaries_in catalog.old) (primaries_in catalog.new) }
-    ensures loads { IsThere result catalog.new }
-    ensures can { IfSome catalog.new (CanDecide (K.rules scheme.now)) }
-    ensures forged { IfSome (refused_in (K.rules scheme.now) catalog.old incoming.now) (RefusesUnread store.old store.new result) }
-    ensures left { IfSome (refused_in (K.rules scheme.now) catalog.old incoming.now) (λ r. catalog.new ≡ catalog.old) }
-{
-    match decide(store, catalog, keys, alloc, scheme, at, incoming) {
+    match records.decide(alloc, scheme, at.moment(), incoming) {
         Ok(Delivered::Repeat(reply)) => Ok(Answer::Reply(reply)),
-        Ok(Delivered::Accepted(rows)) => accept(store, alloc, rows),
+        Ok(Delivered::Accepted(rows)) => accept(records, alloc, rows),
         Err(refusal) => Err(refusal),
     }
 }
@@ -156,178 +66,17 @@ fn receive_loaded<K: Scheme, D: Alter>(
 /// Writes the rows of a manifest that is accepted. Its reply is made of the rows themselves, so that nothing grows between the
 /// commit and the answer.
 fn accept<D: Alter>(
-    store: &mut Store<D>,
+    records: &mut Records<D>,
     alloc: Global,
     rows: AcceptedRows,
 ) -> Result<Answer, Refusal>
-    ensures serves { (k : Rules) (s : State) (name : Name) (computed : Result Outcome Refusal) → IsSound k s
-        → IfClean (KeepsState k s) (state D.Store store.old)
-        → (HasCleanDisk (state D.Store store.old) → GivesDelivered k s name (Ok (Accepted rows)) computed)
-        → Serves k s (state D.Store store.old) (state D.Store store.new) result computed }
-    ensures clean { HasCleanDisk (state D.Store store.new) → HasCleanDisk (state D.Store store.old) }
+    ensures { (k : Rules) → Accepts k rows (state D.Store records.old) (state D.Store records.new) result }
 {
-    rows_are_found();
-    manifests_are_added();
-    ecus_tell_their_hash();
     match targets_in(&rows.kept) {
         Ok(targets) => {
-            let written = store.write_accept(alloc, &rows);
+            let written = records.write_accept(alloc, &rows);
             replied(reply_in(rows.kept, targets), written)
         }
         Err(_) => Err(Refusal::Memory),
     }
-}
-
-/// Decides on a manifest: who sent it, whether it was there before, and what is new.
-fn decide<K: Scheme, D: Alter>(
-    store: &mut Store<D>,
-    catalog: &mut Option<Catalog>,
-    keys: &mut KeyCache,
-    alloc: Global,
-    scheme: &K,
-    at: Moment,
-    incoming: &Incoming,
-) -> Result<Delivered, Refusal>
-    requires moment { at ≤ last_command_moment }
-    requires read { IsRead incoming.now }
-    requires can { IfSome catalog.old (CanDecide (K.rules scheme.now)) }
-    ensures decided { Decides (K.rules scheme.now) at incoming.now (λ s. IsLoaded s catalog.old)
-        (state D.Store store.old) (state D.Store store.new) result }
-    ensures fits { HasCleanDisk (state D.Store store.new) → (k : Rules) (s : State)
-        → IfClean (KeepsState k s) (state D.Store store.old) → Fits s catalog.old → Fits s catalog.new }
-    ensures kept { StaysLoaded catalog.old catalog.new }
-    ensures came { HasCleanDisk (state D.Store store.new) → (s : State)
-        → IfClean (KeepsState (K.rules scheme.now) s) (state D.Store store.old) → Fits s catalog.old
-        → Come (IsSentBy (K.rules scheme.now) incoming.now) (primaries_in catalog.old) (primaries_in catalog.new) }
-    ensures loads { IsThere result catalog.new }
-    ensures can { IfSome catalog.new (CanDecide (K.rules scheme.now)) }
-    ensures forged { IfSome (refused_in (K.rules scheme.now) catalog.old incoming.now) (RefusesUnread store.old store.new result) }
-    ensures left { IfSome (refused_in (K.rules scheme.now) catalog.old incoming.now) (λ r. catalog.new ≡ catalog.old) }
-    ensures reads { Reads (state D.Store store.old) (state D.Store store.new) }
-{
-    match catalog {
-        Some(catalog) => decide_founded(store, catalog, keys, alloc, scheme, at, incoming),
-        None => Err(Refusal::NotFounded),
-    }
-}
-
-/// The same of founded repositories. A manifest that its vehicle's Primary didn't sign costs no more than the test of who sent it.
-fn decide_founded<K: Scheme, D: Alter>(
-    store: &mut Store<D>,
-    catalog: &mut Catalog,
-    keys: &mut KeyCache,
-    alloc: Global,
-    scheme: &K,
-    at: Moment,
-    incoming: &Incoming,
-) -> Result<Delivered, Refusal>
-    requires moment { at ≤ last_command_moment }
-    requires read { IsRead incoming.now }
-    requires can { CanDecide (K.rules scheme.now) catalog.old }
-    ensures decided { Decides (K.rules scheme.now) at incoming.now (λ s. IsOf s catalog.old)
-        (state D.Store store.old) (state D.Store store.new) result }
-    ensures of { HasCleanDisk (state D.Store store.new) → (k : Rules) (s : State)
-        → IfClean (KeepsState k s) (state D.Store store.old) → IsOf s catalog.old → IsOf s catalog.new }
-    ensures more { KeepsMore catalog.old catalog.new }
-    ensures came { HasCleanDisk (state D.Store store.new) → (s : State)
-        → IfClean (KeepsState (K.rules scheme.now) s) (state D.Store store.old) → IsOf s catalog.old
-        → Come (IsSentBy (K.rules scheme.now) incoming.now) catalog.old.primaries catalog.new.primaries }
-    ensures forged { IfSome (refused_by (K.rules scheme.now) catalog.old.primaries incoming.now) (RefusesUnread store.old store.new result) }
-    ensures left { IfSome (refused_by (K.rules scheme.now) catalog.old.primaries incoming.now) (λ r. catalog.new ≡ catalog.old) }
-    ensures reads { Reads (state D.Store store.old) (state D.Store store.new) }
-{
-    match read_sender(store, catalog, keys, alloc, scheme, incoming) {
-        Ok(rows) => {
-            let sender = Sender {
-                founding: &catalog.founding,
-                vehicle: &rows,
-            };
-            decide_sent(store, catalog, keys, alloc, scheme, at, incoming, &sender)
-        }
-        Err(refusal) => Err(refusal),
-    }
-}
-
-/// The same, once it is known who sent it: its counter tells whether it may have been there before.
-fn decide_sent<K: Scheme, D: Alter>(
-    store: &mut Store<D>,
-    catalog: &Catalog,
-    keys: &mut KeyCache,
-    alloc: Global,
-    scheme: &K,
-    at: Moment,
-    incoming: &Incoming,
-    sender: &Sender,
-) -> Result<Delivered, Refusal>
-    requires moment { at ≤ last_command_moment }
-    requires read { IsRead incoming.now }
-    requires can { CanAnswer (K.rules scheme.now) sender.now }
-    requires hashed { catalog.now.hashed ≡ hashed_roles (K.rules scheme.now) sender.now.founding.keys.director }
-    ensures decided { Decides (K.rules scheme.now) at incoming.now (λ s. IsSent (K.rules scheme.now) s incoming.now catalog.now sender.now)
-        (state D.Store store.old) (state D.Store store.new) result }
-    ensures reads { Reads (state D.Store store.old) (state D.Store store.new) }
-{
-    if is_later(incoming, sender) {
-        decide_later(catalog, keys, alloc, scheme, at, incoming, sender)
-    } else {
-        decide_earlier(store, alloc, at, incoming, sender)
-    }
-}
-
-/// Of a manifest whose counter isn't above the last: the row that was kept with it tells whether it is a repeat.
-fn decide_earlier<D: Alter>(
-    store: &mut Store<D>,
-    alloc: Global,
-    at: Moment,
-    incoming: &Incoming,
-    sender: &Sender,
-) -> Result<Delivered, Refusal>
-    requires moment { at ≤ last_command_moment }
-    requires read { IsRead incoming.now }
-    requires older { incoming.now.manifest.counter ≤ sender.now.vehicle.vehicle.last }
-    ensures decided { (k : Rules) → Decides k at incoming.now (λ s. IsSenderOf k s incoming.now sender.now)
-        (state D.Store store.old) (state D.Store store.new) result }
-    ensures reads { Reads (state D.Store store.old) (state D.Store store.new) }
-{
-    rows_are_found();
-    let manifest = &incoming.manifest;
-    match store.kept(alloc, &manifest.vehicle, manifest.counter) {
-        Ok(kept) => decide_again(alloc, incoming, sender, kept.as_ref()),
-        Err(fault) => Err(refusal_of(fault)),
-    }
-}
-
-/// Of a manifest whose counter is above the last: what is new, by the running campaigns that reach its vehicle, and the images.
-fn decide_later<K: Scheme>(
-    catalog: &Catalog,
-    keys: &mut KeyCache,
-    alloc: Global,
-    scheme: &K,
-    at: Moment,
-    incoming: &Incoming,
-    sender: &Sender,
-) -> Result<Delivered, Refusal>
-    requires moment { at ≤ last_command_moment }
-    requires read { IsRead incoming.now }
-    requires later { sender.now.vehicle.vehicle.last < incoming.now.manifest.counter }
-    requires can { CanAnswer (K.rules scheme.now) sender.now }
-    requires hashed { catalog.now.hashed ≡ hashed_roles (K.rules scheme.now) sender.now.founding.keys.director }
-    ensures { (s : State) → IsSound (K.rules scheme.now) s → IsSent (K.rules scheme.now) s incoming.now catalog.now sender.now
-        → GivesDelivered (K.rules scheme.now) s incoming.now.manifest.vehicle result (decide_incoming (K.rules scheme.now) s at incoming.now) }
-{
-    keep_ecus(keys, alloc, sender);
-    let items = catalog
-        .campaigns
-        .items_for(alloc, &incoming.manifest.vehicle)?;
-    decide_new(
-        alloc,
-        scheme,
-        at,
-        incoming,
-        sender,
-        &catalog.hashed,
-        keys,
-        &catalog.images,
-        items.as_slice(),
-    )
 }

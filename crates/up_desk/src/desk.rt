@@ -1,24 +1,16 @@
 //! The two repositories under one scheme.
-ghost use Rattle.std.specs.Prelude.{◌≡◌, ◌+◌, ◌<◌, ◌≤◌, ◌++◌, List, length, vec_capacity, vec_len, IfSome, OnOk, OnErr, IsTrue};
+ghost use Rattle.std.specs.Prelude.{◌≡◌, ◌+◌, ◌<◌, length, vec_capacity, vec_len, OnOk, OnErr, IsTrue};
 ghost use Rattle.std.specs.List.{AllByRecursion};
-ghost use Rattle.up_canon.specs.Moments.{last_command_moment};
-ghost use Rattle.up_machine.specs.declared.answer.Answer.{Answer};
-ghost use Rattle.up_machine.specs.declared.answer.Answer.TheVariants.{Refused};
 ghost use Rattle.up_machine.specs.Commands.{opens_running};
-ghost use Rattle.up_machine.specs.Reads.{ecus_of as ecus_in, version_of as version_in, installed as installed_in, assigned_to};
+ghost use Rattle.up_machine.specs.Reads.{ecus_of as ecus_in, version_of as version_in, installed as installed_in};
+ghost use Rattle.up_machine.specs.Reads.{assigned_to};
 ghost use Rattle.up_machine.specs.Rows.{vehicle_rows};
-ghost use Rattle.up_machine.specs.State.{State};
-ghost use Rattle.up_desk.specs.Runs.{AreCalls, AreOutright, BlamesCalls, CommitsCalls, OutlastsCalls, RunsCalls, SparesCalls};
-ghost use Rattle.up_desk.specs.Calls.{BlamesCall, CommitsCall, MakesCall, ServesCall, SparesCall};
-ghost use Rattle.up_desk.specs.Delivering.{AnswersRead, IsDeliveredBy, LeavesKept, Loads, forged_by};
-ghost use Rattle.up_desk.specs.Serving.{outright as outright_of, refused_alone};
-ghost use Rattle.up_desk.specs.Standing.{Blames, Come, HasCleanDisk, IfClean, KeepsState, Reads};
-ghost use Rattle.up_desk.specs.Standing.{StaysLoaded, Tells, bare, kept_for, kept_over, primaries_in, state};
+ghost use Rattle.up_desk.specs.Calls.{IsCalled};
+ghost use Rattle.up_desk.specs.Desks.{Views};
+ghost use Rattle.up_desk.specs.Runs.{AreCalled};
+ghost use Rattle.up_records.specs.Standing.{bare, state};
 
-use crate::catalog::Catalog;
 use crate::dispatch::{answer_of, dispatch, keeps_limits};
-use crate::reads::read_vehicle;
-use crate::views::{assigned_of, ecus_of, installed_on, version_of};
 use sqlite::Alter;
 use std::alloc::{AllocError, Global};
 use std::marker::Model;
@@ -27,13 +19,12 @@ use up_canon::listed::Listed;
 use up_machine::answer::Answer;
 use up_machine::command::Command;
 use up_machine::laws::{
-    deliveries_keep_primaries, kept_replies_stay, repeats_change_nothing, states_stay_sound,
-    vehicles_stand_apart,
+    kept_replies_stay, repeats_change_nothing, states_stay_sound, vehicles_stand_apart,
 };
 use up_machine::rows::VehicleRows;
 use up_manifest::report::Installed;
 use up_plan::assigned::Plan;
-use up_sign::key_cache::KeyCache;
+use up_records::records::Records;
 use up_sign::scheme::Scheme;
 use up_store::store::{Store, StoreFault};
 
@@ -41,13 +32,12 @@ use up_store::store::{Store, StoreFault};
 #[derive(Drop)]
 pub struct Desk<K: Scheme, D: Alter> {
     scheme: K,
-    store: Store<D>,
-    catalog: Option<Catalog>,
-    keys: KeyCache,
+    records: Records<D>,
 }
 
 impl<K: Scheme, D: Alter> Model for Desk<K, D> {
-    ghost use Rattle.up_desk.specs.Standing.{CanDecide, DeskView};
+    ghost use Rattle.up_desk.specs.Desks.{DeskView};
+    ghost use Rattle.up_records.specs.Catalogs.{CanDecide};
     ghost use Rattle.std.specs.Prelude.{IfSome};
 
     ghost Value = { DeskView K D };
@@ -58,9 +48,9 @@ impl<K: Scheme, D: Alter> Model for Desk<K, D> {
 
     ghost coded = { Prim.hlevel (codes, held_code D.code, table.code) };
 
-    ghost view = { λ a. record { scheme = a.scheme; store = record { held = a.store; catalog = a.catalog } } };
+    ghost view = { λ a. record { scheme = a.scheme; store = a.records } };
 
-    ghost invariant = { λ a. IfSome a.catalog (CanDecide (K.rules a.scheme)) };
+    ghost invariant = { λ a. IfSome a.records.catalog (CanDecide (K.rules a.scheme)) };
 }
 
 impl<K: Scheme, D: Alter> Desk<K, D> {
@@ -70,9 +60,7 @@ impl<K: Scheme, D: Alter> Desk<K, D> {
     {
         Desk {
             scheme,
-            store,
-            catalog: None,
-            keys: KeyCache::new(),
+            records: Records::new(store),
         }
     }
 
@@ -80,7 +68,7 @@ impl<K: Scheme, D: Alter> Desk<K, D> {
     pub fn release(self) -> Store<D>
         ensures { result ≡ self.store.held }
     {
-        self.store
+        self.records.release()
     }
 
     /// The scheme that it was made with.
@@ -93,49 +81,21 @@ impl<K: Scheme, D: Alter> Desk<K, D> {
     /// Answers a command at a moment: as the plain machine does, but a repeat of an accepted manifest is answered the reply that
     /// was kept for it, and each kept reply stays. Where memory or the database refuses (`Refused(Memory)`, `Refused(Store)`)
     /// nothing changes, and over a connection without a limit on the steps of a query `Store` is told only where the disk counted
-    /// a fault, or the database refuses to write what the command comes to. Behind a commit the connection sees what the
-    /// statements made that write the rows of the next state, and behind all else what it saw. A moment past 2100-01-01T00:00:00Z,
-    /// a body of more than 262,144 bytes and a key of a new vehicle or ECU that doesn't fit are refused as that whatever they do.
-    /// Whatever is answered, a crash leaves what it could leave before, or the next state; after `Done` and a reply to a newly
-    /// accepted manifest that state alone. What is kept in memory stays over deliveries and fetches, and is there behind each
-    /// delivery in time of a body that can be read, but for `NotFounded` and these two faults. A Primary comes to be kept by a
-    /// manifest that it sent. A manifest that the kept Primary of its vehicle didn't send, and a body that can't be read, is
-    /// refused as that, or for want of memory, and nothing is read of the tables; nor is it for such a moment or key.
+    /// a fault, or the database refuses to write what the command comes to. A moment past 2100-01-01T00:00:00Z, a body of more
+    /// than 262,144 bytes and a key of a new vehicle or ECU that doesn't fit are refused as that whatever they do. Whatever is
+    /// answered, a crash leaves what it could leave before, or the next state; after `Done` and a reply to a newly accepted
+    /// manifest that state alone.
     pub fn call(&mut self, alloc: Global, at: u64, command: &Command) -> Answer
         requires { IsTrue (opens_running command.now) }
-        ensures served { ServesCall (K.rules self.old.scheme) at command.now result (state D.Store self.old.store) (state D.Store self.new.store) }
-        ensures outright { IfSome (outright_of (K.rules self.old.scheme) at command.now) (λ r. result ≡ Refused r) }
-        ensures unread { IfSome (refused_alone (K.rules self.old.scheme) at command.now)
-            (AnswersRead self.old.store.held self.new.store.held result) }
-        ensures crash { SparesCall (K.rules self.old.scheme) at command.now (state D.Store self.old.store) (state D.Store self.new.store) }
-        ensures durable { CommitsCall (K.rules self.old.scheme) at command.now result (state D.Store self.old.store) (state D.Store self.new.store) }
-        ensures clean { HasCleanDisk (state D.Store self.new.store) → HasCleanDisk (state D.Store self.old.store) }
-        ensures blame { BlamesCall (K.rules self.old.scheme) at command.now result (state D.Store self.old.store) (state D.Store self.new.store) }
-        ensures made { MakesCall (K.rules self.old.scheme) at command.now result (state D.Store self.old.store) (state D.Store self.new.store) }
-        ensures kept { StaysLoaded (kept_for command.now self.old.store.catalog) self.new.store.catalog }
-        ensures came { HasCleanDisk (state D.Store self.new.store) → (s : State)
-            → IfClean (KeepsState (K.rules self.old.scheme) s) (state D.Store self.old.store)
-            → Come (IsDeliveredBy (K.rules self.old.scheme) command.now) (primaries_in self.old.store.catalog) (primaries_in self.new.store.catalog) }
-        ensures loads { at ≤ last_command_moment → Loads command.now result self.new.store.catalog }
-        ensures forged { at ≤ last_command_moment → IfSome (forged_by (K.rules self.old.scheme) self.old.store.catalog command.now)
-            (AnswersRead self.old.store.held self.new.store.held result) }
-        ensures left { LeavesKept (K.rules self.old.scheme) at command.now self.old.store.catalog self.new.store.catalog }
+        ensures called { IsCalled (K.rules self.old.scheme) at command.now result
+            (state D.Store self.old.store) (state D.Store self.new.store) }
         ensures scheme { self.new.scheme ≡ self.old.scheme }
     {
         keeps_limits(command);
         states_stay_sound();
         repeats_change_nothing();
         kept_replies_stay();
-        deliveries_keep_primaries();
-        answer_of(dispatch(
-            &mut self.store,
-            &mut self.catalog,
-            &mut self.keys,
-            alloc,
-            &self.scheme,
-            at,
-            command,
-        ))
+        answer_of(dispatch(&mut self.records, alloc, &self.scheme, at, command))
     }
 
     /// Answers commands one after another, each with its moment, and appends one answer for each: where some commands are
@@ -143,12 +103,8 @@ impl<K: Scheme, D: Alter> Desk<K, D> {
     /// without these, and each command that didn't fail has the expected answer; each kept reply stays. Only a fault of the
     /// disk shuts the connection. A crash leaves what it could leave before, or the state after some of the first commands. What
     /// was answered stays: behind each commit that was answered (`Done`, or a reply to a newly accepted manifest) a crash leaves
-    /// the state behind it, or the one after some of the commands that follow; where none of these changes the state, the
-    /// state after all of them. Where the disk counted no fault over the whole list, each command makes of the database that the
-    /// connection saw the next one, which shows the state then, and each `Refused(Store)` is to a command whose outcome the
-    /// database refuses that there is then. What is kept in memory stays over deliveries and fetches. Each command reads nothing
-    /// where a call of it alone reads nothing, and leaves of what is kept what that would leave. An error means that nothing
-    /// was done, and comes only where there was no room for the answers: of no commands never.
+    /// the state behind it, or the one after some of the commands that follow. An error means that nothing was done, and comes
+    /// only where there was no room for the answers: of no commands never.
     pub fn run(
         &mut self,
         alloc: Global,
@@ -156,19 +112,10 @@ impl<K: Scheme, D: Alter> Desk<K, D> {
         answers: &mut Vec<Answer>,
     ) -> Result<(), AllocError>
         requires { AllByRecursion (λ c. IsTrue (opens_running c.1)) commands.now }
-        ensures ran { OnOk result ((told : List Answer) × (answers.new.items ≡ answers.old.items ++ told)
-            × AreOutright (K.rules self.old.scheme) commands.now told
-            × RunsCalls (K.rules self.old.scheme) commands.now told (state D.Store self.old.store) (state D.Store self.new.store)
-            × SparesCalls (K.rules self.old.scheme) commands.now told (state D.Store self.old.store) (state D.Store self.new.store)
-            × OutlastsCalls (K.rules self.old.scheme) commands.now told (state D.Store self.old.store) (state D.Store self.new.store)
-            × CommitsCalls (K.rules self.old.scheme) commands.now told (state D.Store self.old.store) (state D.Store self.new.store)
-            × BlamesCalls (K.rules self.old.scheme) commands.now told (state D.Store self.old.store) (state D.Store self.new.store)) }
-        ensures err { OnErr result ((answers.new.items ≡ answers.old.items) × (self.new ≡ self.old)) }
-        ensures room { OnErr result (vec_capacity answers.old < vec_len answers.old + length commands.now) }
-        ensures each { OnOk result ((told : List Answer) × (answers.new.items ≡ answers.old.items ++ told)
-            × AreCalls (K.rules self.old.scheme) commands.now told self.old.store self.new.store) }
-        ensures kept { OnOk result (StaysLoaded (kept_over commands.now self.old.store.catalog) self.new.store.catalog) }
-        ensures clean { HasCleanDisk (state D.Store self.new.store) → HasCleanDisk (state D.Store self.old.store) }
+        ensures ran { OnOk result (AreCalled (K.rules self.old.scheme) commands.now answers.old.items answers.new.items
+            (state D.Store self.old.store) (state D.Store self.new.store)) }
+        ensures err { OnErr result ((answers.new.items ≡ answers.old.items) × (self.new ≡ self.old)
+            × (vec_capacity answers.old < vec_len answers.old + length commands.now)) }
         ensures scheme { self.new.scheme ≡ self.old.scheme }
     {
         repeats_change_nothing();
@@ -190,12 +137,9 @@ impl<K: Scheme, D: Alter> Desk<K, D> {
         alloc: Global,
         vehicle: &Ident,
     ) -> Result<Option<VehicleRows>, StoreFault>
-        ensures told { Tells (λ k s. vehicle_rows s vehicle.now) (state D.Store self.old.store) (state D.Store self.new.store) result }
-        ensures blame { Blames (state D.Store self.old.store) (state D.Store self.new.store) result }
-        ensures reads { Reads (state D.Store self.old.store) (state D.Store self.new.store) }
-        ensures scheme { self.new.scheme ≡ self.old.scheme }
+        ensures { Views D.Store (λ k s. vehicle_rows s vehicle.now) self.old self.new result }
     {
-        read_vehicle(&mut self.store, alloc, vehicle)
+        self.records.vehicle(alloc, vehicle)
     }
 
     /// The ECUs of a vehicle in inventory order, none of an unknown vehicle.
@@ -204,41 +148,29 @@ impl<K: Scheme, D: Alter> Desk<K, D> {
         alloc: Global,
         vehicle: &Ident,
     ) -> Result<Option<Listed<Ident>>, StoreFault>
-        ensures told { Tells (λ k s. ecus_in s vehicle.now) (state D.Store self.old.store) (state D.Store self.new.store) result }
-        ensures blame { Blames (state D.Store self.old.store) (state D.Store self.new.store) result }
-        ensures reads { Reads (state D.Store self.old.store) (state D.Store self.new.store) }
-        ensures scheme { self.new.scheme ≡ self.old.scheme }
+        ensures { Views D.Store (λ k s. ecus_in s vehicle.now) self.old self.new result }
     {
-        ecus_of(&mut self.store, alloc, vehicle)
+        self.records.ecus(alloc, vehicle)
     }
 
     /// How many manifests of a vehicle were accepted, none of an unknown vehicle.
     pub fn version(&mut self, alloc: Global, vehicle: &Ident) -> Result<Option<u64>, StoreFault>
-        ensures told { Tells (λ k s. version_in s vehicle.now) (state D.Store self.old.store) (state D.Store self.new.store) result }
-        ensures blame { Blames (state D.Store self.old.store) (state D.Store self.new.store) result }
-        ensures reads { Reads (state D.Store self.old.store) (state D.Store self.new.store) }
-        ensures scheme { self.new.scheme ≡ self.old.scheme }
+        ensures { Views D.Store (λ k s. version_in s vehicle.now) self.old self.new result }
     {
-        version_of(&mut self.store, alloc, vehicle)
+        self.records.version(alloc, vehicle)
     }
 
     /// The image that an ECU reported last, none of an unknown ECU and before its first report.
     pub fn installed(&mut self, alloc: Global, ecu: &Ident) -> Result<Option<Installed>, StoreFault>
-        ensures told { Tells (λ k s. installed_in s ecu.now) (state D.Store self.old.store) (state D.Store self.new.store) result }
-        ensures blame { Blames (state D.Store self.old.store) (state D.Store self.new.store) result }
-        ensures reads { Reads (state D.Store self.old.store) (state D.Store self.new.store) }
-        ensures scheme { self.new.scheme ≡ self.old.scheme }
+        ensures { Views D.Store (λ k s. installed_in s ecu.now) self.old self.new result }
     {
-        installed_on(&mut self.store, alloc, ecu)
+        self.records.installed(alloc, ecu)
     }
 
     /// What is assigned to a vehicle, none of an unknown vehicle and before its first manifest.
     pub fn assigned(&mut self, alloc: Global, vehicle: &Ident) -> Result<Option<Plan>, StoreFault>
-        ensures told { Tells (λ k s. assigned_to s vehicle.now) (state D.Store self.old.store) (state D.Store self.new.store) result }
-        ensures blame { Blames (state D.Store self.old.store) (state D.Store self.new.store) result }
-        ensures reads { Reads (state D.Store self.old.store) (state D.Store self.new.store) }
-        ensures scheme { self.new.scheme ≡ self.old.scheme }
+        ensures { Views D.Store (λ k s. assigned_to s vehicle.now) self.old self.new result }
     {
-        assigned_of(&mut self.store, alloc, vehicle)
+        self.records.assigned(alloc, vehicle)
     }
 }

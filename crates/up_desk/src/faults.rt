@@ -1,21 +1,12 @@
-//! Faults of the store, told as refusals.
+//! Answers of what was written.
 ghost use Rattle.std.specs.Prelude.{◌≡◌};
 ghost use Rattle.up_machine.specs.declared.answer.Answer.TheVariants.{Done, Reply as Replied};
-ghost use Rattle.up_desk.specs.Serving.{refusal_told, answer_written};
+ghost use Rattle.up_desk.specs.Serving.{answer_written};
 
 use up_canon::refusal::Refusal;
 use up_machine::answer::{Answer, Reply};
+pub use up_records::faults::refusal_of;
 use up_store::store::StoreFault;
-
-/// A fault of the store as a refusal.
-pub fn refusal_of(fault: StoreFault) -> Refusal
-    ensures { result ≡ refusal_told fault }
-{
-    match fault {
-        StoreFault::Memory => Refusal::Memory,
-        StoreFault::Store => Refusal::Store,
-    }
-}
 
 /// `Done` where it was written.
 pub fn done_of(written: Result<(), StoreFault>) -> Result<Answer, Refusal>

@@ -1,47 +1,39 @@
 //! Files of the repositories.
-ghost use Rattle.std.specs.Prelude.{◌≡◌, ◌≤◌, None};
-ghost use Rattle.sqlite.specs.Held.{state};
-ghost use Rattle.sqlite.specs.State.{HasCleanDisk};
-ghost use Rattle.up_canon.specs.Moments.{last_command_moment};
+ghost use Rattle.std.specs.Prelude.{◌≡◌, None};
 ghost use Rattle.up_canon.specs.Names.{Name};
 ghost use Rattle.up_sign.specs.Schemes.{Rules};
 ghost use Rattle.up_roles.specs.declared.repository.Repository.{Repository as RepositoryName};
 ghost use Rattle.up_machine.specs.Files.{file};
 ghost use Rattle.up_machine.specs.Repositories.{decide_fetch as decide_fetch_in};
-ghost use Rattle.up_machine.specs.Decisions.{GivesFile};
-ghost use Rattle.up_machine.specs.Sound.{IsSound};
-ghost use Rattle.up_machine.specs.State.{State};
-ghost use Rattle.up_store.specs.Connections.{KeepsState};
-ghost use Rattle.up_tables.specs.Stands.{IfClean};
-ghost use Rattle.up_desk.specs.Serving.{GivesOrFails, Reads, Serves};
+ghost use Rattle.up_desk.specs.Deciding.{DecidesFile};
+ghost use Rattle.up_desk.specs.Serving.{Carries};
+ghost use Rattle.std.specs.Prelude.{⊤};
 
-use crate::faults::refusal_of;
-use crate::reads::is_founded;
+use crate::command_moment::CommandMoment;
 use sqlite::Alter;
 use std::alloc::Global;
 use up_canon::file_name::FileName;
-use up_canon::moment::Moment;
 use up_canon::refusal::Refusal;
 use up_canon::text::Text;
 use up_machine::answer::Answer;
 use up_machine::decide_fetch::decide_fetch;
+use up_records::faults::refusal_of;
+use up_records::records::Records;
 use up_roles::repository::Repository;
 use up_rows::laws::rows_are_found;
-use up_store::store::Store;
 
 /// The text of a file.
 pub fn fetch<D: Alter>(
-    store: &mut Store<D>,
+    records: &mut Records<D>,
     alloc: Global,
-    at: Moment,
+    at: CommandMoment,
     repository: Repository,
     name: &FileName,
 ) -> Result<Answer, Refusal>
-    requires { at ≤ last_command_moment }
-    ensures { (k : Rules) (s : State) → IsSound k s → IfClean (KeepsState k s) (state D.Store store.old)
-        → Serves k s (state D.Store store.old) (state D.Store store.new) result (decide_fetch_in k s at repository name.now) }
+    ensures { (k : Rules)
+        → Carries D.Store k (λ s. decide_fetch_in k s at repository name.now) records.old records.new result }
 {
-    match read_file(store, alloc, at, repository, name) {
+    match read_file(records, alloc, at, repository, name) {
         Ok(text) => Ok(Answer::File(text)),
         Err(refusal) => Err(refusal),
     }
@@ -49,35 +41,34 @@ pub fn fetch<D: Alter>(
 
 /// Decides on the file, over the rows that are read.
 fn read_file<D: Alter>(
-    store: &mut Store<D>,
+    records: &mut Records<D>,
     alloc: Global,
-    at: Moment,
+    at: CommandMoment,
     repository: Repository,
     name: &FileName,
 ) -> Result<Text, Refusal>
-    requires { at ≤ last_command_moment }
-    ensures decided { HasCleanDisk (state D.Store store.new) → (k : Rules) (s : State) → IfClean (KeepsState k s) (state D.Store store.old)
-        → GivesOrFails (GivesFile s) (state D.Store store.old) (state D.Store store.new) result (decide_fetch_in k s at repository name.now) }
-    ensures reads { Reads (state D.Store store.old) (state D.Store store.new) }
+    ensures { (k : Rules) → DecidesFile D.Store k at repository name.now (λ s. ⊤) records.old records.new result }
 {
     rows_are_found();
-    match store.file(alloc, repository, name) {
-        Ok(Some(text)) => decide_fetch(at, true, Some(text)),
-        Ok(None) => decide_missing(store, at),
+    match records.file(alloc, repository, name) {
+        Ok(Some(text)) => decide_fetch(at.moment(), true, Some(text)),
+        Ok(None) => decide_missing(records, alloc, at),
         Err(fault) => Err(refusal_of(fault)),
     }
 }
 
-/// The same where there is no such file: whether the repositories are founded is read for the refusal alone.
-fn decide_missing<D: Alter>(store: &mut Store<D>, at: Moment) -> Result<Text, Refusal>
-    requires { at ≤ last_command_moment }
-    ensures decided { HasCleanDisk (state D.Store store.new) → (k : Rules) (s : State) (repository : RepositoryName) (name : Name)
-        → None ≡ file k s repository name → IfClean (KeepsState k s) (state D.Store store.old)
-        → GivesOrFails (GivesFile s) (state D.Store store.old) (state D.Store store.new) result (decide_fetch_in k s at repository name) }
-    ensures reads { Reads (state D.Store store.old) (state D.Store store.new) }
+/// Decides where there is no such file: whether the repositories are founded is read for the refusal alone.
+fn decide_missing<D: Alter>(
+    records: &mut Records<D>,
+    alloc: Global,
+    at: CommandMoment,
+) -> Result<Text, Refusal>
+    ensures { (k : Rules) (repository : RepositoryName) (name : Name)
+        → DecidesFile D.Store k at repository name (λ s. None ≡ file k s repository name)
+        records.old records.new result }
 {
-    match is_founded(store) {
-        Ok(founded) => decide_fetch(at, founded, None),
+    match records.is_founded(alloc) {
+        Ok(founded) => decide_fetch(at.moment(), founded, None),
         Err(fault) => Err(refusal_of(fault)),
     }
 }

@@ -1,15 +1,9 @@
 //! Images that are read by the files that name them.
-ghost use Rattle.std.specs.Prelude.{◌≡◌, IfErr, IfOk, OnOk, map};
+ghost use Rattle.std.specs.Prelude.{◌≡◌, IfErr, IfOk, OnOk};
 ghost use Rattle.std.specs.FinMap as table;
-ghost use Rattle.sqlite.specs.Held.{state};
-ghost use Rattle.sqlite.specs.State.{HasCleanDisk};
-ghost use Rattle.up_sign.specs.Schemes.{Rules};
-ghost use Rattle.up_machine.specs.State.{State};
-ghost use Rattle.up_store.specs.Connections.{KeepsState};
-ghost use Rattle.up_tables.specs.Stands.{IfClean};
 ghost use Rattle.up_tables.specs.declared.values.StoreFault.TheVariants as faults;
-ghost use Rattle.up_desk.specs.Serving.{Blames, Reads};
 ghost use Rattle.up_desk.specs.Gathered.{IsPart, with_found, gathered, item_files};
+ghost use Rattle.up_records.specs.Reads.{Finds, FindsSuch};
 
 use sqlite::Alter;
 use std::alloc::{AllocError, Global};
@@ -18,40 +12,37 @@ use up_canon::table::Table;
 use up_canon::text::Text;
 use up_plan::campaign::Item;
 use up_plan::image::Image;
-use up_store::store::{Store, StoreFault};
+use up_records::records::Records;
+use up_store::store::StoreFault;
 
 /// The images of these items' files, each under its filename.
 pub fn images_of<D: Alter>(
-    store: &mut Store<D>,
+    records: &mut Records<D>,
     alloc: Global,
     items: &[Item],
 ) -> Result<Table<Image>, StoreFault>
-    ensures told { HasCleanDisk (state D.Store store.new) → IfOk result (λ images. (k : Rules) (s : State)
-        → IfClean (KeepsState k s) (state D.Store store.old)
-        → images ≡ gathered s.images (item_files items.now) table.empty) }
-    ensures blame { Blames (state D.Store store.old) (state D.Store store.new) result }
-    ensures reads { Reads (state D.Store store.old) (state D.Store store.new) }
+    ensures { Finds D.Store (λ k s. gathered s.images (item_files items.now) table.empty)
+        records.old records.new result }
 {
     let mut images = Table::new(alloc);
-    match add_items(store, alloc, &mut images, items) {
+    match add_items(records, alloc, &mut images, items) {
         Ok(()) => Ok(images),
         Err(fault) => Err(fault),
     }
 }
 
 fn add_items<D: Alter>(
-    store: &mut Store<D>,
+    records: &mut Records<D>,
     alloc: Global,
     images: &mut Table<Image>,
     items: &[Item],
 ) -> Result<(), StoreFault>
-    ensures told { HasCleanDisk (state D.Store store.new) → OnOk result ((k : Rules) (s : State) → IfClean (KeepsState k s) (state D.Store store.old)
-        → IsPart s.images images.old → images.new ≡ gathered s.images (item_files items.now) images.old) }
-    ensures blame { Blames (state D.Store store.old) (state D.Store store.new) result }
-    ensures reads { Reads (state D.Store store.old) (state D.Store store.new) }
+    ensures { FindsSuch D.Store
+        (λ s _. IsPart s.images images.old → images.new ≡ gathered s.images (item_files items.now) images.old)
+        records.old records.new result }
 {
     for item in items {
-        match add_file(store, alloc, images, &item.file) {
+        match add_file(records, alloc, images, &item.file) {
             Ok(()) => {}
             Err(fault) => return Err(fault),
         }
@@ -61,20 +52,19 @@ fn add_items<D: Alter>(
 
 /// Puts the image of this filename among the others, where one is registered. One that is there is not read again.
 fn add_file<D: Alter>(
-    store: &mut Store<D>,
+    records: &mut Records<D>,
     alloc: Global,
     images: &mut Table<Image>,
     file: &FileName,
 ) -> Result<(), StoreFault>
-    ensures told { HasCleanDisk (state D.Store store.new) → OnOk result ((k : Rules) (s : State) → IfClean (KeepsState k s) (state D.Store store.old)
-        → IsPart s.images images.old → images.new ≡ with_found s.images images.old file.now) }
-    ensures blame { Blames (state D.Store store.old) (state D.Store store.new) result }
-    ensures reads { Reads (state D.Store store.old) (state D.Store store.new) }
+    ensures { FindsSuch D.Store
+        (λ s _. IsPart s.images images.old → images.new ≡ with_found s.images images.old file.now)
+        records.old records.new result }
 {
     if images.contains(file.text()) {
         return Ok(());
     }
-    match store.image(alloc, file) {
+    match records.image(alloc, file) {
         Ok(Some(image)) => put_image(alloc, images, file, image),
         Ok(None) => Ok(()),
         Err(fault) => Err(fault),
@@ -95,8 +85,8 @@ fn put_image(
     Ok(())
 }
 
-/// The same text in memory of its own.
-pub(crate) fn text_of(alloc: Global, text: &str) -> Result<Text, AllocError>
+/// A text, copied.
+fn text_of(alloc: Global, text: &str) -> Result<Text, AllocError>
     ensures { IfOk result (λ made. made ≡ text.now) }
 {
     Ok(Text::new(text.to_string(alloc)?))

@@ -1,5 +1,6 @@
 //! The laws of commits, and of deliveries that come again.
-ghost use Rattle.up_desk.specs.Laws.{NewRepliesCommit, DeliveriesActOnce, CrashesActOnce, ReopenedActsOnce, ReopenedOutlast};
+ghost use Rattle.up_desk.specs.Laws.{NewRepliesCommit, DeliveriesActOnce, CrashesActOnce, LastCommitsStand};
+ghost use Rattle.up_desk.specs.Laws.{ReopenedActsOnce, ReopenedOutlast};
 
 use sqlite::Alter;
 use sqlite_disk::Disk;
@@ -22,7 +23,7 @@ pub fn deliveries_act_once<D: Alter>()
     states_only_grow();
 }
 
-/// The same where the program stopped and the files are opened again as a crash left them.
+/// So a delivery does where the program stopped, and the files are opened again as a crash left them.
 pub fn reopened_deliveries_act_once<D: Disk>()
     ensures { ReopenedActsOnce D.Disk }
 {
@@ -30,6 +31,12 @@ pub fn reopened_deliveries_act_once<D: Disk>()
     repeats_change_nothing();
     states_only_grow();
 }
+
+/// Of a whole list: where behind a commit that was answered no command changes the state, a crash leaves the state after the
+/// whole list alone.
+pub fn last_commits_stand<D: Alter>()
+    ensures { LastCommitsStand D.Store }
+{}
 
 /// Of a whole list, where the program stopped and the files are opened again as a crash left them: behind each commit that was
 /// answered the tables show the state behind it, or the one after some of the commands that follow.

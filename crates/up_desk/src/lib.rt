@@ -1,20 +1,16 @@
-//! The desk: commands and views of the two repositories over the store.
+//! The desk: commands and views of the two repositories over their records.
 #![tactic(auto)]
 
 mod campaigns;
-pub mod catalog;
+mod command_moment;
 mod deliveries;
 pub mod desk;
 mod dispatch;
-mod ecu_keys;
 pub mod faults;
 mod files;
 mod images;
 mod inventory;
 pub mod laws;
-mod reads;
 mod register;
 mod replacements;
 mod roots;
-mod senders;
-mod views;

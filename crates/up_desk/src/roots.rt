@@ -1,22 +1,17 @@
 //! Foundings and rotations.
-ghost use Rattle.std.specs.Prelude.{◌≡◌, ◌≤◌, ◌+◌, IfSome, IsTrue, is_some};
-ghost use Rattle.sqlite.specs.Held.{state};
-ghost use Rattle.sqlite.specs.State.{HasCleanDisk};
-ghost use Rattle.up_canon.specs.Moments.{last_command_moment};
-ghost use Rattle.up_machine.specs.Repositories.{decide_found as decide_found_in, decide_rotate as decide_rotate_in, stamped, with_root};
-ghost use Rattle.up_machine.specs.Decisions.{GivesRows, HasRootRows};
+ghost use Rattle.std.specs.Prelude.{◌≡◌, IfSome, IsTrue, is_some};
+ghost use Rattle.up_machine.specs.Repositories.{decide_found as decide_found_in, decide_rotate as decide_rotate_in};
+ghost use Rattle.up_machine.specs.Decisions.{HasRootRows};
 ghost use Rattle.up_machine.specs.Due.{CanMakeRoot, HasRoot};
 ghost use Rattle.up_machine.specs.Rows.{founding_row};
 ghost use Rattle.up_machine.specs.RowsFit.{founding_fits};
-ghost use Rattle.up_machine.specs.Sound.{IsSound};
-ghost use Rattle.up_machine.specs.State.{State};
-ghost use Rattle.up_store.specs.Connections.{KeepsState};
-ghost use Rattle.up_tables.specs.Stands.{IfClean};
-ghost use Rattle.up_desk.specs.Serving.{GivesOrFails, Reads, Serves};
-ghost use Rattle.up_desk.specs.NewMetadata.{MetadataOrFails};
+ghost use Rattle.up_desk.specs.Deciding.{DecidesFound, DecidesRotate, Makes};
+ghost use Rattle.up_desk.specs.Serving.{Carries};
+ghost use Rattle.up_records.specs.Standing.{state};
+ghost use Rattle.std.specs.Prelude.{⊤};
 
-use crate::faults::{done_of, refusal_of};
-use crate::reads::{is_founded, read_founding};
+use crate::command_moment::CommandMoment;
+use crate::faults::done_of;
 use sqlite::Alter;
 use std::alloc::Global;
 use up_canon::moment::Moment;
@@ -27,145 +22,118 @@ use up_machine::decision::{NextRoot, RootRows};
 use up_machine::new_files::root_rows;
 use up_machine::rows::Founding;
 use up_metadata::keys::KeySet;
-use up_rows::laws::roots_are_added;
+use up_records::faults::refusal_of;
+use up_records::records::Records;
 use up_sign::scheme::Scheme;
-use up_store::store::Store;
 
 /// Founds the repositories with these keys.
 pub fn found<K: Scheme, D: Alter>(
-    store: &mut Store<D>,
+    records: &mut Records<D>,
     alloc: Global,
     scheme: &K,
-    at: Moment,
+    at: CommandMoment,
     keys: &KeySet,
 ) -> Result<Answer, Refusal>
-    requires { at ≤ last_command_moment }
-    ensures { (s : State) → IsSound (K.rules scheme.now) s → IfClean (KeepsState (K.rules scheme.now) s) (state D.Store store.old)
-        → Serves (K.rules scheme.now) s (state D.Store store.old) (state D.Store store.new) result
-        (decide_found_in (K.rules scheme.now) s at keys.now) }
+    ensures { Carries D.Store (K.rules scheme.now) (λ s. decide_found_in (K.rules scheme.now) s at keys.now)
+        records.old records.new result }
 {
-    roots_are_added();
-    match decide_founding(store, alloc, scheme, at, keys) {
-        Ok(rows) => done_of(store.write_found(alloc, &rows)),
+    match decide_founding(records, alloc, scheme, at, keys) {
+        Ok(rows) => done_of(records.write_found(alloc, &rows)),
         Err(refusal) => Err(refusal),
     }
 }
 
 /// Decides on a founding, and makes its rows.
 fn decide_founding<K: Scheme, D: Alter>(
-    store: &mut Store<D>,
+    records: &mut Records<D>,
     alloc: Global,
     scheme: &K,
-    at: Moment,
+    at: CommandMoment,
     keys: &KeySet,
 ) -> Result<RootRows, Refusal>
-    requires { at ≤ last_command_moment }
-    ensures decided { HasCleanDisk (state D.Store store.new) → (s : State) → IsSound (K.rules scheme.now) s
-        → IfClean (KeepsState (K.rules scheme.now) s) (state D.Store store.old)
-        → GivesOrFails (GivesRows (HasRootRows (K.rules scheme.now) (stamped (with_root s at keys.now) at 1))
-        (stamped (with_root s at keys.now) at 1))
-        (state D.Store store.old) (state D.Store store.new) result (decide_found_in (K.rules scheme.now) s at keys.now) }
-    ensures reads { Reads (state D.Store store.old) (state D.Store store.new) }
+    ensures { DecidesFound D.Store (K.rules scheme.now) at keys.now (λ s. ⊤) records.old records.new result }
 {
-    match is_founded(store) {
-        Ok(founded) => decide_founding_after(store, alloc, scheme, at, keys, founded),
+    match records.is_founded(alloc) {
+        Ok(founded) => decide_founding_anew(records, alloc, scheme, at, keys, founded),
         Err(fault) => Err(refusal_of(fault)),
     }
 }
 
-/// The same, once it was read whether the repositories are founded.
-fn decide_founding_after<K: Scheme, D: Alter>(
-    store: &mut Store<D>,
+/// Decides on it once it is known whether the repositories are founded.
+fn decide_founding_anew<K: Scheme, D: Alter>(
+    records: &mut Records<D>,
     alloc: Global,
     scheme: &K,
-    at: Moment,
+    at: CommandMoment,
     keys: &KeySet,
     founded: bool,
 ) -> Result<RootRows, Refusal>
-    requires { at ≤ last_command_moment }
-    ensures decided { HasCleanDisk (state D.Store store.new) → (s : State) → founded ≡ is_some (founding_row s)
-        → IfClean (KeepsState (K.rules scheme.now) s) (state D.Store store.old)
-        → GivesOrFails (GivesRows (HasRootRows (K.rules scheme.now) (stamped (with_root s at keys.now) at 1))
-        (stamped (with_root s at keys.now) at 1))
-        (state D.Store store.old) (state D.Store store.new) result (decide_found_in (K.rules scheme.now) s at keys.now) }
-    ensures reads { Reads (state D.Store store.old) (state D.Store store.new) }
+    ensures { DecidesFound D.Store (K.rules scheme.now) at keys.now (λ s. founded ≡ is_some (founding_row s))
+        records.old records.new result }
 {
+    let at = at.moment();
     match decide_found(alloc, scheme, at, keys, founded) {
-        Ok(new) => make_rows(store, alloc, scheme, at, keys, &new),
+        Ok(new) => make_root_rows(records, alloc, scheme, at, keys, &new),
         Err(refusal) => Err(refusal),
     }
 }
 
 /// Makes the next root version, with these keys.
 pub fn rotate<K: Scheme, D: Alter>(
-    store: &mut Store<D>,
+    records: &mut Records<D>,
     alloc: Global,
     scheme: &K,
-    at: Moment,
+    at: CommandMoment,
     keys: &KeySet,
 ) -> Result<Answer, Refusal>
-    requires { at ≤ last_command_moment }
-    ensures { (s : State) → IsSound (K.rules scheme.now) s → IfClean (KeepsState (K.rules scheme.now) s) (state D.Store store.old)
-        → Serves (K.rules scheme.now) s (state D.Store store.old) (state D.Store store.new) result
-        (decide_rotate_in (K.rules scheme.now) s at keys.now) }
+    ensures { Carries D.Store (K.rules scheme.now) (λ s. decide_rotate_in (K.rules scheme.now) s at keys.now)
+        records.old records.new result }
 {
-    roots_are_added();
-    match decide_rotation(store, alloc, scheme, at, keys) {
-        Ok(rows) => done_of(store.write_rotate(alloc, &rows)),
+    match decide_rotation(records, alloc, scheme, at, keys) {
+        Ok(rows) => done_of(records.write_rotate(alloc, &rows)),
         Err(refusal) => Err(refusal),
     }
 }
 
 /// Decides on a rotation, and makes its rows.
 fn decide_rotation<K: Scheme, D: Alter>(
-    store: &mut Store<D>,
+    records: &mut Records<D>,
     alloc: Global,
     scheme: &K,
-    at: Moment,
+    at: CommandMoment,
     keys: &KeySet,
 ) -> Result<RootRows, Refusal>
-    requires { at ≤ last_command_moment }
-    ensures decided { HasCleanDisk (state D.Store store.new) → (s : State) → IsSound (K.rules scheme.now) s
-        → IfClean (KeepsState (K.rules scheme.now) s) (state D.Store store.old)
-        → GivesOrFails (GivesRows (HasRootRows (K.rules scheme.now) (stamped (with_root s at keys.now) at (s.image_version + 1)))
-        (stamped (with_root s at keys.now) at (s.image_version + 1)))
-        (state D.Store store.old) (state D.Store store.new) result (decide_rotate_in (K.rules scheme.now) s at keys.now) }
-    ensures reads { Reads (state D.Store store.old) (state D.Store store.new) }
+    ensures { DecidesRotate D.Store (K.rules scheme.now) at keys.now (λ s. ⊤) records.old records.new result }
 {
-    match read_founding(store, alloc, scheme) {
-        Ok(founding) => decide_rotation_after(store, alloc, scheme, at, keys, founding),
+    match records.founding(alloc, scheme) {
+        Ok(founding) => decide_rotation_founded(records, alloc, scheme, at, keys, founding),
         Err(fault) => Err(refusal_of(fault)),
     }
 }
 
-/// The same, once the founding's row was read.
-fn decide_rotation_after<K: Scheme, D: Alter>(
-    store: &mut Store<D>,
+/// Decides on it once the founding's row is known.
+fn decide_rotation_founded<K: Scheme, D: Alter>(
+    records: &mut Records<D>,
     alloc: Global,
     scheme: &K,
-    at: Moment,
+    at: CommandMoment,
     keys: &KeySet,
     founding: Option<Founding>,
 ) -> Result<RootRows, Refusal>
-    requires moment { at ≤ last_command_moment }
     requires keys { IfSome founding (λ f. IsTrue (founding_fits (K.rules scheme.now) f)) }
-    ensures decided { HasCleanDisk (state D.Store store.new) → (s : State) → founding ≡ founding_row s
-        → IfClean (KeepsState (K.rules scheme.now) s) (state D.Store store.old)
-        → GivesOrFails (GivesRows (HasRootRows (K.rules scheme.now) (stamped (with_root s at keys.now) at (s.image_version + 1)))
-        (stamped (with_root s at keys.now) at (s.image_version + 1)))
-        (state D.Store store.old) (state D.Store store.new) result (decide_rotate_in (K.rules scheme.now) s at keys.now) }
-    ensures reads { Reads (state D.Store store.old) (state D.Store store.new) }
+    ensures { DecidesRotate D.Store (K.rules scheme.now) at keys.now (λ s. founding ≡ founding_row s)
+        records.old records.new result }
 {
+    let at = at.moment();
     match decide_rotate(alloc, scheme, at, keys, founding) {
-        Ok(new) => make_rows(store, alloc, scheme, at, keys, &new),
+        Ok(new) => make_root_rows(records, alloc, scheme, at, keys, &new),
         Err(refusal) => Err(refusal),
     }
 }
 
 /// Makes the rows of a root version that is due, with all images, which are read here, after every refusal.
-#[tactic(auto, using(crate::proofs::Steps::store_reads))]
-fn make_rows<K: Scheme, D: Alter>(
-    store: &mut Store<D>,
+fn make_root_rows<K: Scheme, D: Alter>(
+    records: &mut Records<D>,
     alloc: Global,
     scheme: &K,
     at: Moment,
@@ -173,12 +141,10 @@ fn make_rows<K: Scheme, D: Alter>(
     new: &NextRoot,
 ) -> Result<RootRows, Refusal>
     requires { CanMakeRoot (K.rules scheme.now) at keys.now new.now }
-    ensures made { HasCleanDisk (state D.Store store.new) → (s next : State) → IfClean (KeepsState (K.rules scheme.now) s) (state D.Store store.old)
-        → HasRoot next at keys.now new.now → next.images ≡ s.images → MetadataOrFails (HasRootRows (K.rules scheme.now) next)
-        (state D.Store store.old) (state D.Store store.new) result }
-    ensures reads { Reads (state D.Store store.old) (state D.Store store.new) }
+    ensures { Makes (K.rules scheme.now) (λ s. HasRoot s at keys.now new.now) (HasRootRows (K.rules scheme.now))
+        (state D.Store records.old) (state D.Store records.new) result }
 {
-    match store.images(alloc) {
+    match records.images(alloc) {
         Ok(images) => Ok(root_rows(alloc, scheme, at, keys, new, &images)?),
         Err(fault) => Err(refusal_of(fault)),
     }

@@ -1,3 +1,4 @@
 pub mod Adopted
+pub mod AsBefore
 pub mod Closed
 pub mod TakenFor

@@ -1,5 +1,5 @@
 -- What is asked for where a file is opened, and what is told of that.
-use Rattle.std.specs.Prelude.{◌≡◌, ◌⊎◌, ◌++◌, ℕ, List, codes, true, false, Result, Ok, Err}
+use Rattle.std.specs.Prelude.{◌≡◌, ◌≢◌, ◌⊎◌, ◌++◌, ℕ, List, codes, true, false, Result, None, Ok, Err}
 use Rattle.std.specs.IoError.{error_kind}
 use Rattle.std.specs.declared.io.ErrorKind.{ErrorKind}
 use Rattle.sqlite_disk.specs.declared.Disk.{Ghosts}
@@ -11,11 +11,17 @@ use Rattle.sqlite_std_file.specs.declared.host.Host.{Host}
 use Rattle.sqlite_std_file.specs.declared.pair.OpenError.{OpenError}
 use Rattle.sqlite_std_file.specs.declared.pair.OpenError.TheVariants as refused
 use Rattle.sqlite_std_file.specs.File.{IsFresh}
-use Rattle.sqlite.specs.Files.{FailsToOpenFiles, IsCleanLeft, LeavesFiles}
+use Rattle.sqlite.specs.Files.{file_state, FailsToOpenFiles, IsBlankAs, IsCleanLeft, IsOpened, LeavesFiles}
+use Rattle.sqlite.specs.Held.{Held}
+use Rattle.sqlite.specs.Start.{FindsIn}
+use Rattle.sqlite.specs.State.{HasCleanDisk}
+use Rattle.sqlite.specs.WalFiles.{image_at}
 use Rattle.sqlite.specs.declared.error.Error.{Error}
 use Rattle.sqlite.specs.declared.file.Leftover.{Leftover}
+use Rattle.sqlite_store.specs.declared.store.FileStore.{FileStore}
+use Rattle.sqlite_store.specs.FileStore.{view}
 use Rattle.up_tables.specs.declared.open.OpenFault.{OpenFault}
-use Rattle.up_tables.specs.declared.open.OpenFault.TheVariants.{Memory, Store}
+use Rattle.up_tables.specs.declared.open.OpenFault.TheVariants.{Memory, NotOurs, Store}
 use Rattle.up_tables.specs.Faults.{open_fault}
 use Rattle.up_file.specs.NewFiles.{kind_fault, made_fault}
 
@@ -51,10 +57,23 @@ module _ {S : Type 0} {c : calls.Ghosts Host} {start : starts.Ghosts S} where
   abbrev pub AreFresh : Files (Modelled Host S c start) → Type 0
   AreFresh files = IsFresh true files.log × IsFresh false files.db
 
-  -- Why no connection stands over files, with what is left of them. Where their disk is clean, the fault stands for want of memory, or for an error for
-  -- which they gave cause; and they hold what they held: a crash leaves of them what it could leave before, or the same database; of files that had
-  -- none yet, and nothing else, perhaps an empty one.
-  abbrev pub RefusesFiles : {g : Ghosts (Modelled Host S c start)} → Files (Modelled Host S c start)
-      → OpenFault × Leftover (Modelled Host S c start) g → Type 0
-  RefusesFiles files refused = (error : Error) × (refused.0 ≡ open_fault error)
-      × (IsCleanLeft refused.1 → FailsToOpenFiles files refused.1 error × LeavesFiles files refused.1)
+  -- A connection over files that hold what was found at the start: it is open, finds that, and may go on without a limit. Where they held nothing,
+  -- each page of what was made has a sum.
+  pub record Connects {g : Ghosts (Modelled Host S c start)} (conn : Held (FileStore (Modelled Host S c start) g)) : Type 0 where
+    pub opened : HasCleanDisk (file_state conn) → IsOpened conn
+    pub found : HasCleanDisk (file_state conn) → FindsIn (image_at start) (file_state conn)
+    pub sums : HasCleanDisk (file_state conn) → IsBlankAs true (image_at start) → (view conn.store).has_sums ≡ true
+    pub mode : (file_state conn).in_transaction ≡ false
+    pub unlimited : (file_state conn).step_limit ≡ None
+    pub shielded : HasCleanDisk (file_state conn) → (file_state conn).IsShielded
+
+  -- Why no connection stands over files, with what is left of them: it is never told that they are another product's. Where their disk is clean, the
+  -- fault stands for want of memory, or for an error for which they gave cause; and they hold what they held: a crash leaves of them what it could
+  -- leave before, or the same database; of files that had none yet, and nothing else, perhaps an empty one.
+  pub record RefusesFiles {g : Ghosts (Modelled Host S c start)} (files : Files (Modelled Host S c start))
+      (refused : OpenFault × Leftover (Modelled Host S c start) g) : Type 0 where
+    pub known : refused.0 ≢ NotOurs
+    pub error : Error
+    pub told : refused.0 ≡ open_fault error
+    pub cause : IsCleanLeft refused.1 → FailsToOpenFiles files refused.1 error
+    pub unharmed : IsCleanLeft refused.1 → LeavesFiles files refused.1

@@ -41,10 +41,11 @@ TellKeys method are s = (rows : StateRows) → IfClean (KeepsRows rows) s → ar
 abbrev pub AnswersKeys : {E : Type 0} → List ℕ → State → State → Result Bool E → Type 0
 AnswersKeys method = Answers (λ rows. are_keys_of method (text_held rows Director (codes "root.json")))
 
--- the database was read, stays as it was committed, and a crash leaves what it could leave before
+-- the database was read, stays as it was committed, with no transaction under way, and a crash leaves what it could leave before
 pub record IsRead (old new : State) : Type 0 where
   pub kept : IfClean (IsAsCommitted old) new
   pub survives : Survives old new (λ _. ⊥)
+  pub mode : new.in_transaction ≡ false
 
 -- it had no tables, of this product or another, and now has those of this product, which show that nothing is founded, also after a crash
 pub record IsMade (old new : State) : Type 0 where

@@ -1,12 +1,9 @@
 //! Adopting a database, or making its tables.
 
-ghost use Rattle.std.specs.Prelude.{◌≡◌, ◌≢◌, false, Err, IfOk, IfErr};
+ghost use Rattle.std.specs.Prelude.{◌≡◌, false, Err, IfOk, IfErr};
 ghost use Rattle.sqlite.specs.Held.{state};
-ghost use Rattle.sqlite.specs.State.{HasCleanDisk, Survives};
-ghost use Rattle.up_tables.specs.Stands.{IfClean, IsAsCommitted};
 ghost use Rattle.up_tables.specs.declared.open.OpenFault.TheVariants.{NotOurs};
-ghost use Rattle.up_tables.specs.declared.open.OpenFault.TheVariants as Fault;
-ghost use Rattle.up_file.specs.Adopting.{IsAdopted, AdoptedIn, FailsToTake, TakesOrMakes};
+ghost use Rattle.up_file.specs.Adopting.{RefusesDatabase, TakesDatabase, TakesOrMakes};
 ghost use Rattle.up_file.specs.Schemes.{IsTakenFor, IsRefused, IsOther};
 
 use crate::schemes::has_keys_of;
@@ -22,14 +19,8 @@ pub fn adopt_or_create<D: Alter>(
     conn: Connection<D>,
 ) -> Result<Store<D>, (Connection<D>, OpenFault)>
     requires { (state D.Store conn).in_transaction ≡ false }
-    ensures taken { IfOk result (λ s. HasCleanDisk (state D.Store s) → IsAdopted (state D.Store conn) (state D.Store s)) }
-    ensures crash { IfOk result (λ s. Survives (state D.Store conn) (state D.Store s) (AdoptedIn (state D.Store conn))) }
-    ensures kept { IfErr result (λ e. IfClean (IsAsCommitted (state D.Store conn)) (state D.Store e.0)) }
-    ensures crash_err { IfErr result (λ e. Survives (state D.Store conn) (state D.Store e.0) (AdoptedIn (state D.Store conn))) }
-    ensures fault { IfErr result (λ e. e.1 ≢ NotOurs) }
-    ensures cause { IfErr result (λ e. e.1 ≡ Fault.Store → HasCleanDisk (state D.Store e.0)
-        → FailsToTake (state D.Store conn) (state D.Store e.0)) }
-    ensures mode { IfErr result (λ e. (state D.Store e.0).in_transaction ≡ false) }
+    ensures taken { IfOk result (λ s. TakesDatabase (state D.Store conn) (state D.Store s)) }
+    ensures refused { IfErr result (λ e. RefusesDatabase (state D.Store conn) (state D.Store e.0) e.1) }
 {
     or_made(conn, Store::adopt, Store::create)
 }
@@ -45,7 +36,6 @@ pub fn take_for<D: Alter>(
     ensures taken { IfOk result (λ s. IsTakenFor (state D.Store) method.now (state D.Store conn) (state D.Store s)) }
     ensures refused { IfErr result (λ e. IsRefused (state D.Store) (state D.Store conn) (state D.Store e.0)) }
     ensures other { IfErr result (λ e. e.1 ≡ NotOurs → IsOther method.now (state D.Store conn) (state D.Store e.0)) }
-    ensures mode { IfErr result (λ e. (state D.Store e.0).in_transaction ≡ false) }
 {
     match has_keys_of(alloc, method, &mut conn) {
         Ok(true) => adopt_or_create(conn),

@@ -1,15 +1,10 @@
 //! Opening a database file.
 
-ghost use Rattle.std.specs.Prelude.{◌≡◌, ◌≢◌, ◌↔◌, ◌++◌, ℕ, List, false, true, None, IfOk, IfErr, IsTrue, codes, Err};
+ghost use Rattle.std.specs.Prelude.{◌≡◌, ◌≢◌, ◌↔◌, ◌++◌, ℕ, List, true, IfOk, IfErr, IsTrue, codes, Err};
 ghost use Rattle.std.specs.Fs.{new_options, with_create_new, with_read, with_write};
-ghost use Rattle.sqlite.specs.Files.{file_state, IsBlankAs, IsOpened};
-ghost use Rattle.sqlite.specs.Start.{FindsIn};
-ghost use Rattle.sqlite.specs.State.{HasCleanDisk};
-ghost use Rattle.sqlite.specs.WalFiles.{image_at};
-ghost use Rattle.sqlite_store.specs.FileStore.{view};
 ghost use Rattle.up_tables.specs.Faults.{open_fault};
 ghost use Rattle.up_file.specs.NewFiles.{kind_fault as fault_of_kind, made_fault};
-ghost use Rattle.up_file.specs.Opening.{AreFresh, NamesNoFile, OpensNamed, RefusesFiles, opened_fault};
+ghost use Rattle.up_file.specs.Opening.{AreFresh, Connects, NamesNoFile, OpensNamed, RefusesFiles, opened_fault};
 ghost use Rattle.up_tables.specs.declared.open.OpenFault.TheVariants.{NotOurs};
 
 use sqlite::{Connection, Error, ErrorCode, FileFrom, FileStore, Files, Leftover, Options, Start};
@@ -66,14 +61,8 @@ pub fn connect_files<S: Start>(
     seed: u64,
 ) -> Result<Connection<FileStore<FileFrom<S>>>, (OpenFault, Leftover<FileFrom<S>>)>
     requires fresh { AreFresh files }
-    ensures opened { IfOk result (λ c. HasCleanDisk (file_state c) → IsOpened c) }
-    ensures found { IfOk result (λ c. HasCleanDisk (file_state c) → FindsIn (image_at S.Start) (file_state c)) }
-    ensures sums { IfOk result (λ c. HasCleanDisk (file_state c) → IsBlankAs true (image_at S.Start) → (view c.store).has_sums ≡ true) }
-    ensures mode { IfOk result (λ c. (file_state c).in_transaction ≡ false) }
-    ensures unlimited { IfOk result (λ c. (file_state c).step_limit ≡ None) }
-    ensures shielded { IfOk result (λ c. HasCleanDisk (file_state c) → (file_state c).IsShielded) }
-    ensures fault { IfErr result (λ e. e.0 ≢ NotOurs) }
-    ensures failed { IfErr result (RefusesFiles files) }
+    ensures connected { IfOk result Connects }
+    ensures refused { IfErr result (RefusesFiles files) }
 {
     match Connection::open_files_with(alloc, files, Options::new(seed), true) {
         Ok(conn) => Ok(conn),

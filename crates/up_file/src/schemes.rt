@@ -1,23 +1,22 @@
 //! Whose keys a database has: a file belongs to one scheme of signatures.
 ghost use Rattle.std.specs.Prelude.{◌≡◌, Bool, false, IfOk, IfErr, Ok, Err, codes};
 ghost use Rattle.sqlite.specs.Held.{state};
-ghost use Rattle.sqlite.specs.State.{HasCleanDisk, Survives};
 ghost use Rattle.up_roles.specs.Root.{root_in};
 ghost use Rattle.up_roles.specs.declared.repository.Repository.TheVariants.{Director};
 ghost use Rattle.up_rows.specs.Lookups.{text_held};
-ghost use Rattle.up_store.specs.Connections.{Answers, FindsRows};
-ghost use Rattle.up_tables.specs.Stands.{IfClean, IsAsCommitted, IsInside};
-ghost use Rattle.up_tables.specs.Statements.{IsStep};
-ghost use Rattle.up_file.specs.Schemes.{AnswersKeys, are_keys_of, is_by, is_root_by, is_role_by};
+ghost use Rattle.up_store.specs.Connections.{Answers};
+ghost use Rattle.up_file.specs.Schemes.{AnswersKeys, IsRead, are_keys_of, is_by, is_root_by, is_role_by};
 ghost use Rattle.up_tables.specs.declared.values.StoreFault.TheVariants as StoreFault;
 
-use sqlite::{Alter, Connection, Transaction};
+use sqlite::{Alter, Connection};
 use std::alloc::{AllocError, Global};
+use up_canon::file_name::FileName;
 use up_canon::refusal::Refusal;
 use up_canon::text::Text;
+use up_roles::repository::Repository;
 use up_roles::root::{RoleKeys, RootFile, read_root};
+use up_store::roots::find_file;
 use up_store::store::StoreFault;
-use up_tables::repo_file::file;
 
 /// Whether all keys in the Director's latest Root are of the method: where nothing is founded, or what stands there is no Root,
 /// no key is of another. The database stays as it is, and so does one of an older schema.
@@ -28,11 +27,9 @@ pub fn has_keys_of<D: Alter>(
 ) -> Result<bool, StoreFault>
     requires { (state D.Store conn.old).in_transaction ≡ false }
     ensures told { AnswersKeys method.now (state D.Store conn.old) (state D.Store conn.new) result }
-    ensures kept { IfClean (IsAsCommitted (state D.Store conn.old)) (state D.Store conn.new) }
-    ensures crash { Survives (state D.Store conn.old) (state D.Store conn.new) (λ _. ⊥) }
-    ensures mode { (state D.Store conn.new).in_transaction ≡ false }
+    ensures read { IsRead (state D.Store conn.old) (state D.Store conn.new) }
 {
-    match latest_root(conn) {
+    match latest_root(alloc, conn) {
         Ok(found) => told(are_of(alloc, method, &found)),
         Err(fault) => Err(fault),
     }
@@ -40,28 +37,27 @@ pub fn has_keys_of<D: Alter>(
 
 /// The text of the latest Root of the Director, none where nothing is founded. The database stays as it is, and so does one of
 /// an older schema. `Store` where it has no table of files, or no such.
-fn latest_root<D: Alter>(conn: &mut Connection<D>) -> Result<Option<Text>, StoreFault>
+fn latest_root<D: Alter>(
+    alloc: Global,
+    conn: &mut Connection<D>,
+) -> Result<Option<Text>, StoreFault>
     requires { (state D.Store conn.old).in_transaction ≡ false }
-    ensures told { Answers (λ rows. text_held rows Director (codes "root.json")) (state D.Store conn.old) (state D.Store conn.new) result }
-    ensures kept { IfClean (IsAsCommitted (state D.Store conn.old)) (state D.Store conn.new) }
-    ensures crash { Survives (state D.Store conn.old) (state D.Store conn.new) (λ _. ⊥) }
-    ensures mode { (state D.Store conn.new).in_transaction ≡ false }
+    ensures told { Answers (λ rows. text_held rows Director (codes "root.json"))
+        (state D.Store conn.old) (state D.Store conn.new) result }
+    ensures read { IsRead (state D.Store conn.old) (state D.Store conn.new) }
 {
     let mut tx = conn.transaction();
-    find_latest_root(&mut tx)
+    let name = latest_name(alloc)?;
+    find_file(&mut tx, alloc, Repository::Director, &name)
 }
 
-/// The same within a transaction.
-fn find_latest_root<D: Alter>(tx: &mut Transaction<'_, D>) -> Result<Option<Text>, StoreFault>
-    requires mode { IfClean IsInside (state D.Store tx.old.conn.now) }
-    ensures found { FindsRows (λ rows. text_held rows Director (codes "root.json"))
-        (state D.Store tx.old.conn.now) (state D.Store tx.new.conn.now) result }
-    ensures step { IsStep D.Store tx.old.conn tx.new.conn }
+/// The filename of the latest Root.
+fn latest_name(alloc: Global) -> Result<FileName, StoreFault>
+    ensures { IfOk result (λ name. name ≡ codes "root.json") }
 {
-    match file(tx, "director", "root.json") {
-        Ok(Some(row)) => Ok(Some(Text::new(row.body))),
-        Ok(None) => Ok(None),
-        Err(fault) => Err(fault),
+    match FileName::new("root.json".to_string(alloc)?) {
+        Some(name) => Ok(name),
+        None => Err(StoreFault::Store),
     }
 }
 

@@ -9,13 +9,14 @@ use Rattle.up_http.specs.Requests.{First, Firsts, most_requests, most_request}
 use Rattle.up_http.specs.Feeding.{Waits}
 use Rattle.up_lines.specs.Runs.{At, BreaksOff, HasRead, LastRead, Run, listed, written}
 use Rattle.up_lines.specs.declared.fault.ScriptCause.TheVariants as why
-use Rattle.up_http.specs.Serving.{Gives, plain, is_call, calls, cause_of, IsBegun, AreFirst, WantsMore, Tells, Stopped, FinishedRequests, RanRequests, AnswersFirst, most_bytes, piece_bytes}
+use Rattle.up_http.specs.Serving.{Gives, plain, is_call, calls, cause_of, IsBegun, AreFirst, WantsMore, Tells, Stopped, FinishedRequests, RanRequests, RunsRequests, AnswersFirst, most_bytes, piece_bytes}
 use Rattle.up_http.specs.Steps.{Sofar, Takes, Stops, Unanswered, Completes, told, fault_at}
 use Rattle.up_http.specs.declared.asked.Next.{Next}
 use Rattle.up_http.specs.declared.fault.Fault.{Fault}
 use Rattle.up_http.specs.declared.fault.ServeFault.{ServeFault}
 use Rattle.up_http.specs.declared.fault.Fault.TheVariants.{Memory, Read, Write}
 use Rattle.up_http.specs.declared.progress.Progress.{Progress}
+use Rattle.up_http.specs.declared.served.Served.{Served}
 use Rattle.up_http.proofs.StreamLaws.{waits_none, waits_short, first_below, firsts_push, firsts_more, some_left}
 
 pub written-push : (xs : List (List ℕ)) (text : List ℕ) → written plain (xs ++ text ∷ []) ≡ written plain xs ++ text
@@ -377,7 +378,7 @@ first_more bytes left ended done None end (rest, firsts) = (rest ++ left, firsts
 first_more bytes left ended done (Some next) end (rest, firsts, begun) = (rest ++ left, firsts_more 0 bytes left done rest firsts, begun_more (length done) rest left ended next end begun)
 
 -- a run that ended early, where it is known what the reader had
-pub known_prefix : {S : Type 0} (gives : Gives S) (first now : At S) (had has : Option (List ℕ)) (fault : ServeFault) → RanRequests gives had has first now (Err fault)
+known_prefix : {S : Type 0} (gives : Gives S) (first now : At S) (had has : Option (List ℕ)) (fault : ServeFault) → RanRequests gives had has first now (Err fault)
     → IfSome had (λ input. AnswersFirst gives input fault first now)
 known_prefix gives first now None has fault ran = tt
 known_prefix gives first now (Some input) None fault ran = absurd ran.read
@@ -395,3 +396,16 @@ known_prefix gives first now (Some input) (Some left) fault ran =
       answered_is = st.answered_is;
       wrote = st.wrote;
     })
+
+-- a run that ended well, where it is known what the reader had
+known_whole : {S : Type 0} (gives : Gives S) (first now : At S) (had has : Option (List ℕ)) (served : Served) → RanRequests gives had has first now (Ok served)
+    → IfSome had (λ input. FinishedRequests gives input served.requests first now)
+known_whole gives first now None has served ran = tt
+known_whole gives first now (Some input) None served ran = absurd ran.read
+known_whole gives first now (Some input) (Some left) served ran =
+    subst (λ l. FinishedRequests gives l served.requests first now) (sym ran.read) (ran.leaves.0 left ran.at_end)
+
+pub runs_requests : {S : Type 0} (gives : Gives S) (first now : At S) (had has : Option (List ℕ)) (result : Result Served ServeFault) → RanRequests gives had has first now result
+    → RunsRequests gives had has first now result
+runs_requests gives first now had has (Ok served) ran = record { ran = ran; whole = known_whole gives first now had has served ran; prefix = tt }
+runs_requests gives first now had has (Err fault) ran = record { ran = ran; whole = tt; prefix = known_prefix gives first now had has fault ran }

@@ -1,5 +1,5 @@
 -- What a run over a stream leaves: answers, states, and what was written.
-use Rattle.std.specs.Prelude.{◌≡◌, ℕ, ◌*◌, ◌<◌, ◌≤◌, Bool, true, false, ⊤, Option, Some, None, IfNone, List, [], ◌++◌, length, filter, Result}
+use Rattle.std.specs.Prelude.{◌≡◌, ℕ, ◌*◌, ◌<◌, ◌≤◌, Bool, true, false, ⊤, Option, Some, None, IfNone, List, [], ◌++◌, length, filter, Result, IfOk, IfErr, IfSome}
 use Rattle.up_lines.specs.Runs.{At, AnswersUpTo, Finished, LastRead, Ran, listed}
 use Rattle.up_lines.specs.declared.fault.ScriptCause.{ScriptCause}
 use Rattle.up_lines.specs.declared.fault.ScriptCause.TheVariants as why
@@ -95,3 +95,12 @@ RanRequests gives had has first now result =
 abbrev pub AnswersFirst : {S : Type 0} → Gives S → List ℕ → ServeFault → At S → At S → Type 0
 AnswersFirst gives input fault first now =
     AnswersUpTo gives plain (λ done next. AreFirst input true done next × (fault.called ≡ calls (done ++ listed next))) (cause_of fault.cause) first fault.answered now
+
+-- a run over a stream
+pub record RunsRequests {S : Type 0} (gives : Gives S) (had has : Option (List ℕ)) (first now : At S) (result : Result Served ServeFault) : Type 0 where
+  -- for any reader and writer: the bytes that came, what was answered of them, and what was written
+  pub ran : RanRequests gives had has first now result
+  -- where it is known what the reader had, and the run ended well, each of its requests is answered
+  pub whole : IfOk result (λ served. IfSome had (λ input. FinishedRequests gives input served.requests first now))
+  -- and where it ended early the first of them are
+  pub prefix : IfErr result (λ fault. IfSome had (λ input. AnswersFirst gives input fault first now))

@@ -1,10 +1,10 @@
 -- The steps of a run over a stream.
-use Rattle.std.specs.Prelude.{◌≡◌, ◌⊎◌, ℕ, ◌+◌, ◌*◌, ◌<◌, ◌≤◌, Bool, false, Some, List, [], ◌++◌, length, Result, Ok, Err}
+use Rattle.std.specs.Prelude.{◌≡◌, ◌⊎◌, ℕ, ◌+◌, ◌*◌, ◌<◌, ◌≤◌, Bool, false, Some, List, [], ◌∷◌, ◌++◌, length, Result, Ok, Err, OnOk, IfOk, IfErr, if◌then◌else◌, is_ok}
 use Rattle.std.specs.Io.KnownBytes.{Appends}
-use Rattle.up_lines.specs.Runs.{At, Run, BreaksOff, written}
+use Rattle.up_lines.specs.Runs.{At, Run, BlamesWriter, BreaksOff, written}
 use Rattle.up_http.specs.Requests.{Firsts, most_requests, most_request}
 use Rattle.up_http.specs.Feeding.{Waits}
-use Rattle.up_http.specs.Serving.{Gives, plain, calls, Stopped, FinishedRequests}
+use Rattle.up_http.specs.Serving.{Gives, plain, calls, cause_of, Stopped, FinishedRequests}
 use Rattle.up_http.specs.declared.asked.Next.{Next}
 use Rattle.up_http.specs.declared.progress.Progress.{Progress}
 use Rattle.up_http.specs.declared.fault.Fault.{Fault}
@@ -66,3 +66,28 @@ pub record IsFresh (at : Progress) : Type 0 where
   pub over : at.over ≡ false
   pub none_called : at.called ≡ 0
   pub none_answered : at.answered ≡ 0
+
+-- A step that writes is done, or the run stops at it. Of the writer it is given what says that it failed, and that it may be written.
+pub record TakesStep {S A : Type 0} (Done : A → Progress → At S → Progress → At S → Type 0) (StopsFor : Fault → Progress → At S → Progress → At S → Type 0)
+    (old : Progress) (before : At S) (new : Progress) (after : At S) (failed can_write : Type 0) (result : Result A Fault) : Type 0 where
+  pub ok : IfOk result (λ a. Done a old before new after)
+  pub err : IfErr result (λ cause. StopsFor cause old before new after)
+  -- no answer is forgotten
+  pub grows : old.answered ≤ new.answered
+  -- only where it is done the writer may be written again
+  pub goes_on : OnOk result can_write
+  -- and what stops the run is told of the writer as it is
+  pub blames : IfErr result (λ cause. BlamesWriter (cause_of cause) failed can_write)
+
+-- A request is answered and counted, or not whole. Of the writer it is given what says that it failed, and that it may be written.
+pub record AnswersNext {S : Type 0} (gives : Gives S) (next : Next) (old : Progress) (before : At S) (new : Progress) (after : At S) (failed can_write : Type 0) (result : Result (Unit {0}) Fault) : Type 0 where
+  -- it counts as handed on if it is a command, and as answered if its answer is written whole
+  pub feeder : new.feeder ≡ old.feeder
+  pub called : new.called ≡ old.called + calls (next ∷ [])
+  pub answered : new.answered ≡ (if is_ok result then old.answered + 1 else old.answered)
+  pub ok : OnOk result ((text : List ℕ) × gives before.state next text after.state × Appends before.held after.held text)
+  pub err : IfErr result (λ cause. Unanswered gives cause next before after)
+  -- only where it is answered the writer may be written again
+  pub goes_on : OnOk result can_write
+  -- and what stops the run is told of the writer as it is
+  pub blames : IfErr result (λ cause. BlamesWriter (cause_of cause) failed can_write)

@@ -1,10 +1,10 @@
 //! A stream that is read, and the answers to its requests.
-ghost use Rattle.std.specs.Prelude.{◌≡◌, ◌⊎◌, ◌≤◌, ◌<◌, ◌+◌, [], ◌∷◌, ℕ, List, if◌then◌else◌, is_ok, IfOk, IfErr, IfSome, IsTrue, OnOk, false, true, length, take};
+ghost use Rattle.std.specs.Prelude.{◌≡◌, ◌⊎◌, ◌≤◌, ◌<◌, ◌+◌, [], ◌∷◌, ℕ, List, IfErr, IsTrue, OnOk, false, true, length, take};
 ghost use Rattle.std.specs.Io.KnownBytes.{Appends};
 ghost use Rattle.up_http.specs.Requests.{asks_running, most_requests};
-ghost use Rattle.up_lines.specs.Runs.{Blames, BlamesWriter};
-ghost use Rattle.up_http.specs.Serving.{RanRequests, FinishedRequests, AnswersFirst, calls, cause_of};
-ghost use Rattle.up_http.specs.Steps.{Unanswered, Takes, Stops, Moves, Completes, IsFresh, told};
+ghost use Rattle.up_lines.specs.Runs.{BlamesWriter, EndsRun};
+ghost use Rattle.up_http.specs.Serving.{RanRequests, RunsRequests, calls, cause_of};
+ghost use Rattle.up_http.specs.Steps.{AnswersNext, Completes, IsFresh, Moves, Stops, Takes, TakesStep, Unanswered, told};
 
 use crate::asked::{Next, Step, What};
 use crate::fault::{Fault, ServeFault};
@@ -72,15 +72,10 @@ fn answer_counted<S, A: Respond<S>, W: Sink>(
     requires calls_left { progress.old.called < progress.old.feeder.given }
     requires answers_left { progress.old.answered < progress.old.feeder.given }
     requires can_write { W.can_write writer.old }
-    ensures feeder { progress.new.feeder ≡ progress.old.feeder }
-    ensures called { progress.new.called ≡ progress.old.called + calls (next ∷ []) }
-    ensures answered { progress.new.answered ≡ (if is_ok result then progress.old.answered + 1 else progress.old.answered) }
-    ensures ok { OnOk result ((text : List ℕ) × A.gives responder.now state.old next text state.new
-        × Appends (W.contents writer.old) (W.contents writer.new) text) }
-    ensures err { IfErr result (λ cause. Unanswered (A.gives responder.now) cause next (record { state = state.old; held = W.contents writer.old })
-        (record { state = state.new; held = W.contents writer.new })) }
-    ensures goes_on { OnOk result (W.can_write writer.new) }
-    ensures blames { IfErr result (λ cause. BlamesWriter (cause_of cause) (W.has_failed writer.new) (W.can_write writer.new)) }
+    ensures { AnswersNext (A.gives responder.now) next
+        progress.old (record { state = state.old; held = W.contents writer.old })
+        progress.new (record { state = state.new; held = W.contents writer.new })
+        (W.has_failed writer.new) (W.can_write writer.new) result }
 {
     progress.called = count_call(progress.called, &next);
     let told = answer_next(alloc, responder, state, writer, &next);
@@ -103,15 +98,12 @@ fn serve_piece<S, A: Respond<S>, W: Sink>(
     requires goes_on { progress.old.over ≡ false }
     requires some { 0 < length piece.now }
     requires can_write { W.can_write writer.old }
-    ensures taken { IfOk result (λ n. Moves n piece.now progress.old progress.new) }
-    ensures ok { IfOk result (λ n. Takes (A.gives responder.now) (take n piece.now) progress.old (record { state = state.old; held = W.contents writer.old })
-        progress.new (record { state = state.new; held = W.contents writer.new })) }
-    ensures err { IfErr result (λ cause. Stops (A.gives responder.now) cause false piece.now
+    ensures { TakesStep
+        (λ n old before new after. Moves n piece.now old new × Takes (A.gives responder.now) (take n piece.now) old before new after)
+        (λ cause. Stops (A.gives responder.now) cause false piece.now)
         progress.old (record { state = state.old; held = W.contents writer.old })
-        progress.new (record { state = state.new; held = W.contents writer.new })) }
-    ensures grows { progress.old.answered ≤ progress.new.answered }
-    ensures goes_on { OnOk result (W.can_write writer.new) }
-    ensures blames { IfErr result (λ cause. BlamesWriter (cause_of cause) (W.has_failed writer.new) (W.can_write writer.new)) }
+        progress.new (record { state = state.new; held = W.contents writer.new })
+        (W.has_failed writer.new) (W.can_write writer.new) result }
 {
     let Step { taken, next } = match progress.feeder.feed(piece) {
         Ok(step) => step,
@@ -139,14 +131,10 @@ fn finish<S, A: Respond<S>, W: Sink>(
 ) -> Result<(), Fault>
     requires goes_on { progress.old.over ≡ false }
     requires can_write { W.can_write writer.old }
-    ensures ok { OnOk result (Completes (A.gives responder.now) progress.old (record { state = state.old; held = W.contents writer.old })
-        progress.new (record { state = state.new; held = W.contents writer.new })) }
-    ensures err { IfErr result (λ cause. Stops (A.gives responder.now) cause true []
+    ensures { TakesStep (λ _. Completes (A.gives responder.now)) (λ cause. Stops (A.gives responder.now) cause true [])
         progress.old (record { state = state.old; held = W.contents writer.old })
-        progress.new (record { state = state.new; held = W.contents writer.new })) }
-    ensures grows { progress.old.answered ≤ progress.new.answered }
-    ensures goes_on { OnOk result (W.can_write writer.new) }
-    ensures blames { IfErr result (λ cause. BlamesWriter (cause_of cause) (W.has_failed writer.new) (W.can_write writer.new)) }
+        progress.new (record { state = state.new; held = W.contents writer.new })
+        (W.has_failed writer.new) (W.can_write writer.new) result }
 {
     match progress.feeder.end() {
         None => {
@@ -178,10 +166,9 @@ fn serve_reads<S, A: Respond<S>, R: Source, W: Sink>(
     ensures ran { RanRequests (A.gives responder.now) (R.remaining reader.old) (R.remaining reader.new)
         (record { state = state.old; held = W.contents writer.old })
         (record { state = state.new; held = W.contents writer.new }) (told result progress.new) }
-    ensures goes_on { OnOk result (W.can_write writer.new) }
-    ensures blames { IfErr result (λ cause. Blames (cause_of cause) (R.has_failed reader.new) (R.can_read reader.new ⊎ R.has_ended reader.new)
-        (W.has_failed writer.new) (W.can_write writer.new)) }
-    ensures stands { OnOk result (R.can_read reader.new ⊎ R.has_ended reader.new) }
+    ensures ends { EndsRun cause_of (R.can_read reader.new ⊎ R.has_ended reader.new)
+        (R.has_failed reader.new) (R.can_read reader.new ⊎ R.has_ended reader.new)
+        (W.has_failed writer.new) (W.can_write writer.new) result }
 {
     let mut buffer = [0; PIECE_BYTES];
     let mut most = MOST_BYTES;
@@ -232,27 +219,12 @@ pub fn serve<S, A: Respond<S>, R: Source, W: Sink>(
 ) -> Result<Served, ServeFault>
     requires can_read { R.can_read reader.old }
     requires can_write { W.can_write writer.old }
-
-    // For any reader and writer: the bytes that came, what was answered of them, and what was written.
-    ensures ran { RanRequests (A.gives responder.now) (R.remaining reader.old) (R.remaining reader.new)
+    ensures requests { RunsRequests (A.gives responder.now) (R.remaining reader.old) (R.remaining reader.new)
         (record { state = state.old; held = W.contents writer.old })
         (record { state = state.new; held = W.contents writer.new }) result }
-
-    // Where it is known what the reader has, by its requests.
-    ensures whole { IfOk result (λ served. IfSome (R.remaining reader.old) (λ input.
-        FinishedRequests (A.gives responder.now) input served.requests (record { state = state.old; held = W.contents writer.old })
-        (record { state = state.new; held = W.contents writer.new }))) }
-    ensures prefix { IfErr result (λ fault. IfSome (R.remaining reader.old) (λ input.
-        AnswersFirst (A.gives responder.now) input fault (record { state = state.old; held = W.contents writer.old })
-        (record { state = state.new; held = W.contents writer.new }))) }
-
-    // Nothing was tried twice: where it ended well the writer may be written again.
-    ensures goes_on { OnOk result (W.can_write writer.new) }
-
-    // What ended it is told of the part that failed, and a read that failed isn't taken for the stream's end.
-    ensures blames { IfErr result (λ fault. Blames (cause_of fault.cause) (R.has_failed reader.new) (R.can_read reader.new ⊎ R.has_ended reader.new)
-        (W.has_failed writer.new) (W.can_write writer.new)) }
-    ensures stands { OnOk result (R.can_read reader.new ⊎ R.has_ended reader.new) }
+    ensures ends { EndsRun (λ fault. cause_of fault.cause) (R.can_read reader.new ⊎ R.has_ended reader.new)
+        (R.has_failed reader.new) (R.can_read reader.new ⊎ R.has_ended reader.new)
+        (W.has_failed writer.new) (W.can_write writer.new) result }
 {
     let mut progress = Progress {
         feeder: Feeder::new(alloc),

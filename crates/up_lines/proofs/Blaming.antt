@@ -1,9 +1,10 @@
 -- What ended a run is told of the part that failed.
-use Rattle.std.proofs.Common.{ℕ, List, Result, Ok, Err, IfErr}
+use Rattle.std.proofs.Common.{◌≡◌, ◌∙◌, ap, sym, subst, ℕ, List, Result, Ok, Err, IfErr, IsErrAnd}
+use Rattle.std.proofs.lemmas.Result.{err_from_is_err_and}
 use Rattle.up_lines.specs.declared.progress.Progress.{Progress}
 use Rattle.up_lines.specs.declared.fault.ScriptCause.{ScriptCause}
 use Rattle.up_lines.specs.declared.fault.ScriptCause.TheVariants.{Memory, Read, Write, TooLong}
-use Rattle.up_lines.specs.Runs.{Blames, BlamesWriter}
+use Rattle.up_lines.specs.Runs.{Blames, BlamesWriter, EndsRun}
 use Rattle.up_lines.specs.Progress.{Refuses}
 
 -- a part of a line is refused before anything is written
@@ -26,3 +27,10 @@ pub blames_all : {T : Type 0} → (r : Result T ScriptCause) (read_failed reader
     → IfErr r (λ cause. BlamesWriter cause write_failed writer_stands) → IfErr r (λ cause. Blames cause read_failed reader_stands write_failed writer_stands)
 blames_all (Ok _) read_failed reader_stands write_failed writer_stands reader told = tt
 blames_all (Err cause) read_failed reader_stands write_failed writer_stands reader told = blames_both cause read_failed reader_stands write_failed writer_stands reader told
+
+-- a run that the exit of a `?` ends
+pub ends_early : (reader_done read_failed reader_stands write_failed writer_stands : Type 0) (r : Result (Unit {0}) ScriptCause) (cause : ScriptCause) → IsErrAnd r (λ x. x ≡ cause)
+    → Blames cause read_failed reader_stands write_failed writer_stands → EndsRun (λ c. c) reader_done read_failed reader_stands write_failed writer_stands r
+ends_early reader_done read_failed reader_stands write_failed writer_stands r cause h blames =
+    let (x, is, same) = err_from_is_err_and r h in
+    subst (EndsRun (λ c. c) reader_done read_failed reader_stands write_failed writer_stands) (sym (is ∙ ap Err same)) (record { goes_on = tt; ended = tt; blames = blames })

@@ -1,12 +1,12 @@
 -- What a run says where it is known what the reader had.
 use Rattle.std.proofs.Common.{◌≡◌, ℕ, Bool, true, false, List, [], ◌∷◌, ◌++◌, Ok, Err, IfSome, Some, None, refl, ap, sym, ◌∙◌, subst, append_assoc, append-nil}
-use Rattle.std.specs.Prelude.{Option}
+use Rattle.std.specs.Prelude.{Option, Result}
 use Rattle.std.proofs.KnownBytes.{Consumes-whole}
 use Rattle.up_lines.specs.declared.fault.ScriptCause.TheVariants.{TooLong}
 use Rattle.up_lines.specs.declared.fault.ScriptFault.{ScriptFault}
 use Rattle.up_lines.specs.Lines.{lines_of, fits, asked}
 use Rattle.up_lines.specs.Runs.{At}
-use Rattle.up_lines.specs.LineRuns.{Gives, AreFirst, FinishedLines, Tells, RanLines, AnswersFirst}
+use Rattle.up_lines.specs.LineRuns.{Gives, AreFirst, FinishedLines, Tells, RanLines, AnswersFirst, RunsLines}
 use Rattle.up_lines.proofs.Later.{whole_first}
 
 -- what is to be answered of the whole input begins with what is to be answered of what came
@@ -20,11 +20,11 @@ first_among lines more done None (others, is) = (others ++ more, ap (λ l. l ++ 
 first_among lines more done (Some next) (others, is) = (others ++ more, ap (λ l. l ++ more) is ∙ append_assoc done (next ∷ others) more)
 
 module _ {S : Type 0} (gives : Gives S) (first now : At S) where
-  pub known_whole : (had has : Option (List ℕ)) (answered : ℕ) → RanLines gives had has first now (Ok answered)
+  known_whole : (had has : Option (List ℕ)) (answered : ℕ) → RanLines gives had has first now (Ok answered)
       → IfSome had (λ input. FinishedLines gives input answered first now)
   known_whole had has answered ran = Consumes-whole had has ran.came (λ input. FinishedLines gives input answered first now) ran.read (ran.at_end ran.leaves.0) ran.leaves.1
 
-  pub known_too_long : (had has : Option (List ℕ)) (fault : ScriptFault) → RanLines gives had has first now (Err fault)
+  known_too_long : (had has : Option (List ℕ)) (fault : ScriptFault) → RanLines gives had has first now (Err fault)
       → fault.cause ≡ TooLong → IfSome had (λ input. fits (lines_of true input) ≡ false)
   known_too_long None has fault ran is = tt
   known_too_long (Some input) None fault ran is = absurd ran.read
@@ -33,7 +33,7 @@ module _ {S : Type 0} (gives : Gives S) (first now : At S) where
       let past : Tells TooLong ran.came ran.ended st.done st.next = subst (λ c. Tells c ran.came ran.ended st.done st.next) is st.first_ones.1 in
       ap (λ l. fits (lines_of true l)) ran.read ∙ (past.0 left).0
 
-  pub known_prefix : (had has : Option (List ℕ)) (fault : ScriptFault) → RanLines gives had has first now (Err fault)
+  known_prefix : (had has : Option (List ℕ)) (fault : ScriptFault) → RanLines gives had has first now (Err fault)
       → IfSome had (λ input. AnswersFirst gives input fault first now)
   known_prefix None has fault ran = tt
   known_prefix (Some input) None fault ran = absurd ran.read
@@ -52,3 +52,7 @@ module _ {S : Type 0} (gives : Gives S) (first now : At S) where
         answered_is = st.answered_is;
         wrote = st.wrote;
       }
+
+  pub runs_lines : (had has : Option (List ℕ)) (result : Result ℕ ScriptFault) → RanLines gives had has first now result → RunsLines gives had has first now result
+  runs_lines had has (Ok answered) ran = record { ran = ran; whole = known_whole had has answered ran; prefix = tt; too_long = tt }
+  runs_lines had has (Err fault) ran = record { ran = ran; whole = tt; prefix = known_prefix had has fault ran; too_long = known_too_long had has fault ran }

@@ -1,16 +1,17 @@
 -- How far a run has come, step by step.
-use Rattle.std.proofs.Common.{◌≡◌, ◌&&◌, Result, Ok, Err, OnOk, IfErr, IsErrAnd, ℕ, ◌+◌, ◌<◌, true, List, [], ◌∷◌, ◌++◌, length, filter, refl, ap, sym, ◌∙◌, subst, arith, append_assoc, append-nil, length-append}
+use Rattle.std.proofs.Common.{◌≡◌, ◌&&◌, Result, Ok, Err, OnOk, IfErr, IsErrAnd, ℕ, ◌+◌, ◌<◌, ◌≤◌, true, List, [], ◌∷◌, ◌++◌, length, filter, refl, ap, sym, ◌∙◌, subst, arith, append_assoc, append-nil, length-append}
 use Rattle.std.specs.List.{list_all}
 use Rattle.std.specs.Io.KnownBytes.{Appends}
 use Rattle.std.proofs.KnownBytes.{Appends-trans}
 use Rattle.std.proofs.lemmas.Result.{err_from_is_err_and}
 use Rattle.std.proofs.lemmas.List.Elements.{filter-append}
 use Rattle.std.proofs.lemmas.List.Folds.{list_all-append}
+use Rattle.up_lines.specs.declared.fault.ScriptCause.{ScriptCause}
 use Rattle.up_lines.specs.declared.progress.Progress.{Progress}
 use Rattle.up_lines.specs.Lines.{newline, most_lines, lines_of, is_short, has_bytes}
-use Rattle.up_lines.specs.Runs.{At, Run}
+use Rattle.up_lines.specs.Runs.{At, Run, BlamesWriter}
 use Rattle.up_lines.specs.LineRuns.{Gives, print}
-use Rattle.up_lines.specs.Progress.{Sofar, Closes, Grows, Takes, is_inside}
+use Rattle.up_lines.specs.Progress.{Sofar, Closes, Grows, Step, Takes, is_inside}
 use Rattle.up_lines.proofs.Cuts.{lines-line}
 use Rattle.up_lines.proofs.RunLaws.{has_bytes-long, is_short-le, Run-append, Run-one, printed-append}
 
@@ -112,3 +113,12 @@ pub passed_on : {T E : Type 0} → (r : Result T E) (e : E) (Q : E → Type 0) �
 passed_on r e Q h q =
     let (x, is, same) = err_from_is_err_and r h in
     subst (λ s. IfErr s Q) (sym is) (subst Q (sym same) q)
+
+-- a step that the exit of a `?` ends
+pub step_ends : {S : Type 0} (Done : Progress → At S → Progress → At S → Type 0) (StopsFor : ScriptCause → Progress → At S → Progress → At S → Type 0)
+    (old : Progress) (before : At S) (new : Progress) (after : At S) (failed can_write : Type 0) (r : Result (Unit {0}) ScriptCause) (cause : ScriptCause)
+    → IsErrAnd r (λ x. x ≡ cause) → StopsFor cause old before new after → old.answered ≤ new.answered → BlamesWriter cause failed can_write
+    → Step Done StopsFor old before new after failed can_write r
+step_ends Done StopsFor old before new after failed can_write r cause h stops grows blames =
+    let (x, is, same) = err_from_is_err_and r h in
+    subst (Step Done StopsFor old before new after failed can_write) (sym (is ∙ ap Err same)) (record { ok = tt; err = stops; grows = grows; goes_on = tt; blames = blames })

@@ -1,5 +1,5 @@
 -- What a run over lines leaves.
-use Rattle.std.specs.Prelude.{◌≡◌, ◌≢◌, ℕ, ◌≤◌, Bool, true, false, ⊤, Option, Some, None, IfNone, List, [], ◌∷◌, ◌++◌, length, filter, Result}
+use Rattle.std.specs.Prelude.{◌≡◌, ◌≢◌, ℕ, ◌≤◌, Bool, true, false, ⊤, Option, Some, None, IfNone, List, [], ◌∷◌, ◌++◌, length, filter, Result, IfOk, IfErr, IfSome}
 use Rattle.up_lines.specs.declared.fault.ScriptCause.{ScriptCause}
 use Rattle.up_lines.specs.declared.fault.ScriptCause.TheVariants.{Memory, Read, Write, TooLong}
 use Rattle.up_lines.specs.declared.fault.ScriptFault.{ScriptFault}
@@ -72,3 +72,14 @@ RanLines gives had has first now result =
 -- answer written
 abbrev pub AnswersFirst : {S : Type 0} → Gives S → List ℕ → ScriptFault → At S → At S → Type 0
 AnswersFirst gives input fault first now = AnswersUpTo gives print (AreFirst (asked (lines_of true input))) fault.cause first fault.lines now
+
+-- a run over lines
+pub record RunsLines {S : Type 0} (gives : Gives S) (had has : Option (List ℕ)) (first now : At S) (result : Result ℕ ScriptFault) : Type 0 where
+  -- for any reader and writer: the bytes that came, what was answered of them, and what was written
+  pub ran : RanLines gives had has first now result
+  -- where it is known what the reader had, and the run ended well, each of its lines is answered
+  pub whole : IfOk result (λ answered. IfSome had (λ input. FinishedLines gives input answered first now))
+  -- and where it ended early the first of them are
+  pub prefix : IfErr result (λ fault. IfSome had (λ input. AnswersFirst gives input fault first now))
+  -- `TooLong` is told only where they pass a limit
+  pub too_long : IfErr result (λ fault. fault.cause ≡ TooLong → IfSome had (λ input. fits (lines_of true input) ≡ false))

@@ -1,5 +1,5 @@
 -- What stands while lines are read: the steps of a run.
-use Rattle.std.specs.Prelude.{◌≡◌, ◌⊎◌, ℕ, ◌+◌, ◌*◌, ◌<◌, ◌≤◌, ◌==◌, Bool, true, not, Result, Ok, Err, Some, List, [], ◌∷◌, ◌++◌, length, filter}
+use Rattle.std.specs.Prelude.{◌≡◌, ◌⊎◌, ℕ, ◌+◌, ◌*◌, ◌<◌, ◌≤◌, ◌==◌, Bool, true, not, Result, Ok, Err, Some, List, [], ◌∷◌, ◌++◌, length, filter, OnOk, IfErr}
 use Rattle.std.specs.List.{list_all}
 use Rattle.std.specs.Io.KnownBytes.{Appends}
 use Rattle.up_lines.specs.declared.fault.ScriptCause.{ScriptCause}
@@ -7,7 +7,7 @@ use Rattle.up_lines.specs.declared.fault.ScriptCause.TheVariants.{Memory, Read, 
 use Rattle.up_lines.specs.declared.fault.ScriptFault.{ScriptFault}
 use Rattle.up_lines.specs.declared.progress.Progress.{Progress}
 use Rattle.up_lines.specs.Lines.{newline, most_lines, most_line_bytes, piece_bytes, lines_of, is_short, has_bytes}
-use Rattle.up_lines.specs.Runs.{At, Run, written, BreaksOff}
+use Rattle.up_lines.specs.Runs.{At, Run, written, BreaksOff, BlamesWriter}
 use Rattle.up_lines.specs.LineRuns.{Gives, print, Stopped, FinishedLines}
 
 -- whether a byte is one of a line's own
@@ -92,3 +92,15 @@ pub record IsFresh (at : Progress) : Type 0 where
 abbrev pub told : Result (Unit {0}) ScriptCause → ℕ → Result ℕ ScriptFault
 told (Ok _) answered = Ok answered
 told (Err cause) answered = Err (record { cause = cause; lines = answered })
+
+-- A step that writes is done, or the run stops at it. Of the writer it is given what says that it failed, and that it may be written.
+pub record Step {S : Type 0} (Done : Progress → At S → Progress → At S → Type 0) (StopsFor : ScriptCause → Progress → At S → Progress → At S → Type 0)
+    (old : Progress) (before : At S) (new : Progress) (after : At S) (failed can_write : Type 0) (result : Result (Unit {0}) ScriptCause) : Type 0 where
+  pub ok : OnOk result (Done old before new after)
+  pub err : IfErr result (λ cause. StopsFor cause old before new after)
+  -- no answer is forgotten
+  pub grows : old.answered ≤ new.answered
+  -- only where it is done the writer may be written again
+  pub goes_on : OnOk result can_write
+  -- and what stops the run is told of the writer as it is
+  pub blames : IfErr result (λ cause. BlamesWriter cause failed can_write)

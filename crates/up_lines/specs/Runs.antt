@@ -1,5 +1,5 @@
 -- What a run over items leaves, whatever the items are: answers, states, and what was written. Lines are such items, and requests.
-use Rattle.std.specs.Prelude.{◌≡◌, ◌≢◌, ℕ, ◌≤◌, ⊤, Bool, true, Option, Some, None, List, [], ◌∷◌, ◌++◌, length, flat_map, Result, MatchResult}
+use Rattle.std.specs.Prelude.{◌≡◌, ◌≢◌, ℕ, ◌≤◌, ⊤, Bool, true, Option, Some, None, List, [], ◌∷◌, ◌++◌, length, flat_map, Result, MatchResult, OnOk, IfErr}
 use Rattle.std.specs.Io.KnownBytes.{Appends, Consumes, IsAtEnd}
 use Rattle.up_pieces.specs.Prefixes.{IsProperPrefix}
 use Rattle.up_lines.specs.declared.fault.ScriptCause.{ScriptCause}
@@ -99,3 +99,13 @@ pub record LastRead (most : ℕ) (Wants : List ℕ → Type 0) (came : List ℕ)
 -- a run over a reader: what it leaves of the bytes that came where it ended well, and where it ended early
 abbrev pub Ran : {A F : Type 0} → ℕ → (List ℕ → Bool → A → Type 0) → (List ℕ → Bool → F → Type 0) → Option (List ℕ) → Option (List ℕ) → Result A F → Type 0
 Ran most Ends Stops had has result = HasRead most had has (λ came ended. MatchResult result (Ends came ended) (Stops came ended))
+
+-- How a run over a reader and a writer ended. It is given what holds of the reader where the run ended well; and of both parts what says that
+-- it failed, and what says that it didn't.
+pub record EndsRun {A F : Type 0} (cause_of : F → ScriptCause) (reader_done read_failed reader_stands write_failed writer_stands : Type 0) (result : Result A F) : Type 0 where
+  -- nothing was tried twice: where it ended well the writer may be written again
+  pub goes_on : OnOk result writer_stands
+  -- and the reader is as it has to be, so that one that failed isn't taken for one that ended
+  pub ended : OnOk result reader_done
+  -- what ended it early is told of the part that failed
+  pub blames : IfErr result (λ fault. Blames (cause_of fault) read_failed reader_stands write_failed writer_stands)

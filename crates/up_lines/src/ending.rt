@@ -1,8 +1,7 @@
 //! The end of a line.
 ghost use Rattle.std.specs.Prelude.{◌≡◌, ◌≤◌, ◌<◌, ◌+◌, [], ℕ, List, IfErr, OnOk};
 ghost use Rattle.up_lines.specs.Lines.{most_lines};
-ghost use Rattle.up_lines.specs.Progress.{Closes, Fails};
-ghost use Rattle.up_lines.specs.Runs.{BlamesWriter};
+ghost use Rattle.up_lines.specs.Progress.{Closes, Fails, Step};
 
 use crate::answered::answer_line;
 use crate::fault::ScriptCause;
@@ -21,13 +20,10 @@ pub(crate) fn end_line<S, I: Interpret<S>, W: Sink>(
 ) -> Result<(), ScriptCause>
     requires few { progress.old.counted < most_lines }
     requires can_write { W.can_write writer.old }
-    ensures ok { OnOk result (Closes I.gives progress.old (record { state = state.old; held = W.contents writer.old })
-        progress.new (record { state = state.new; held = W.contents writer.new })) }
-    ensures err { IfErr result (λ cause. Fails I.gives cause progress.old (record { state = state.old; held = W.contents writer.old })
-        progress.new (record { state = state.new; held = W.contents writer.new })) }
-    ensures grows { progress.old.answered ≤ progress.new.answered }
-    ensures goes_on { OnOk result (W.can_write writer.new) }
-    ensures blames { IfErr result (λ cause. BlamesWriter cause (W.has_failed writer.new) (W.can_write writer.new)) }
+    ensures { Step (Closes I.gives) (Fails I.gives)
+        progress.old (record { state = state.old; held = W.contents writer.old })
+        progress.new (record { state = state.new; held = W.contents writer.new })
+        (W.has_failed writer.new) (W.can_write writer.new) result }
 {
     if progress.line.is_empty() {
         progress.counted += 1;

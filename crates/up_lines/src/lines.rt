@@ -1,9 +1,8 @@
 //! Lines cut from a reader, and their answers written to a writer.
-ghost use Rattle.std.specs.Prelude.{◌≡◌, ◌≤◌, ◌⊎◌, ℕ, List, Option, [], IfOk, IfErr, IfSome, OnOk, false, true};
-ghost use Rattle.up_lines.specs.Lines.{lines_of, fits};
-ghost use Rattle.up_lines.specs.LineRuns.{RanLines, FinishedLines, AnswersFirst};
-ghost use Rattle.up_lines.specs.Progress.{Takes, Stops, Completes, IsFresh, told};
-ghost use Rattle.up_lines.specs.Runs.{Blames, BlamesWriter};
+ghost use Rattle.std.specs.Prelude.{◌⊎◌, [], false, true};
+ghost use Rattle.up_lines.specs.LineRuns.{RanLines, RunsLines};
+ghost use Rattle.up_lines.specs.Progress.{Takes, Stops, Completes, Step, IsFresh, told};
+ghost use Rattle.up_lines.specs.Runs.{EndsRun};
 
 use crate::cut::cut_line;
 use crate::ending::end_line;
@@ -27,14 +26,10 @@ fn take_piece<S, I: Interpret<S>, W: Sink>(
     piece: &[u8],
 ) -> Result<(), ScriptCause>
     requires { W.can_write writer.old }
-    ensures ok { OnOk result (Takes I.gives piece.now progress.old (record { state = state.old; held = W.contents writer.old })
-        progress.new (record { state = state.new; held = W.contents writer.new })) }
-    ensures err { IfErr result (λ cause. Stops I.gives cause false piece.now
+    ensures { Step (Takes I.gives piece.now) (λ cause. Stops I.gives cause false piece.now)
         progress.old (record { state = state.old; held = W.contents writer.old })
-        progress.new (record { state = state.new; held = W.contents writer.new })) }
-    ensures grows { progress.old.answered ≤ progress.new.answered }
-    ensures goes_on { OnOk result (W.can_write writer.new) }
-    ensures blames { IfErr result (λ cause. BlamesWriter cause (W.has_failed writer.new) (W.can_write writer.new)) }
+        progress.new (record { state = state.new; held = W.contents writer.new })
+        (W.has_failed writer.new) (W.can_write writer.new) result }
 {
     let mut rest = piece;
     while let Some((line, behind)) = cut_line(rest) {
@@ -53,14 +48,10 @@ fn finish<S, I: Interpret<S>, W: Sink>(
     progress: &mut Progress,
 ) -> Result<(), ScriptCause>
     requires { W.can_write writer.old }
-    ensures ok { OnOk result (Completes I.gives progress.old (record { state = state.old; held = W.contents writer.old })
-        progress.new (record { state = state.new; held = W.contents writer.new })) }
-    ensures err { IfErr result (λ cause. Stops I.gives cause true []
+    ensures { Step (Completes I.gives) (λ cause. Stops I.gives cause true [])
         progress.old (record { state = state.old; held = W.contents writer.old })
-        progress.new (record { state = state.new; held = W.contents writer.new })) }
-    ensures grows { progress.old.answered ≤ progress.new.answered }
-    ensures goes_on { OnOk result (W.can_write writer.new) }
-    ensures blames { IfErr result (λ cause. BlamesWriter cause (W.has_failed writer.new) (W.can_write writer.new)) }
+        progress.new (record { state = state.new; held = W.contents writer.new })
+        (W.has_failed writer.new) (W.can_write writer.new) result }
 {
     if progress.line.is_empty() {
         return Ok(());
@@ -83,10 +74,9 @@ fn read_lines<S, I: Interpret<S>, R: Source, W: Sink>(
     ensures ran { RanLines I.gives (R.remaining reader.old) (R.remaining reader.new)
         (record { state = state.old; held = W.contents writer.old })
         (record { state = state.new; held = W.contents writer.new }) (told result progress.new.answered) }
-    ensures goes_on { OnOk result (W.can_write writer.new) }
-    ensures blames { IfErr result (λ cause. Blames cause (R.has_failed reader.new) (R.can_read reader.new ⊎ R.has_ended reader.new)
-        (W.has_failed writer.new) (W.can_write writer.new)) }
-    ensures ended { OnOk result (R.has_ended reader.new) }
+    ensures ends { EndsRun (λ cause. cause) (R.has_ended reader.new)
+        (R.has_failed reader.new) (R.can_read reader.new ⊎ R.has_ended reader.new)
+        (W.has_failed writer.new) (W.can_write writer.new) result }
 {
     let mut buffer = [0; PIECE_BYTES];
     let mut most = MOST_BYTES;
@@ -125,28 +115,12 @@ pub fn run<S, I: Interpret<S>, R: Source, W: Sink>(
 ) -> Result<u32, ScriptFault>
     requires can_read { R.can_read reader.old }
     requires can_write { W.can_write writer.old }
-    // For any reader and writer: the bytes that came, what was answered of them, and what was written.
-    ensures ran { RanLines I.gives (R.remaining reader.old) (R.remaining reader.new)
+    ensures lines { RunsLines I.gives (R.remaining reader.old) (R.remaining reader.new)
         (record { state = state.old; held = W.contents writer.old })
         (record { state = state.new; held = W.contents writer.new }) result }
-
-    // Where it is known what the reader has, by its lines.
-    ensures whole { IfOk result (λ answered. IfSome (R.remaining reader.old) (λ input.
-        FinishedLines I.gives input answered (record { state = state.old; held = W.contents writer.old })
-        (record { state = state.new; held = W.contents writer.new }))) }
-    ensures too_long { IfErr result (λ fault. fault.cause ≡ ScriptCause.TooLong → IfSome (R.remaining reader.old) (λ input.
-        fits (lines_of true input) ≡ false)) }
-    ensures prefix { IfErr result (λ fault. IfSome (R.remaining reader.old) (λ input.
-        AnswersFirst I.gives input fault (record { state = state.old; held = W.contents writer.old })
-        (record { state = state.new; held = W.contents writer.new }))) }
-
-    // Nothing was tried twice: where it ended well the writer may be written again.
-    ensures goes_on { OnOk result (W.can_write writer.new) }
-
-    // What ended it is told of the part that failed, and a reader that didn't end isn't taken for one that did.
-    ensures blames { IfErr result (λ fault. Blames fault.cause (R.has_failed reader.new) (R.can_read reader.new ⊎ R.has_ended reader.new)
-        (W.has_failed writer.new) (W.can_write writer.new)) }
-    ensures ended { OnOk result (R.has_ended reader.new) }
+    ensures ends { EndsRun (λ fault. fault.cause) (R.has_ended reader.new)
+        (R.has_failed reader.new) (R.can_read reader.new ⊎ R.has_ended reader.new)
+        (W.has_failed writer.new) (W.can_write writer.new) result }
 {
     let mut progress = Progress {
         line: Vec::new(alloc),

@@ -2,8 +2,7 @@
 ghost use Rattle.std.specs.Prelude.{◌≡◌, ◌≤◌, [], ◌∷◌, ◌++◌, ℕ, List, IfErr, OnOk, false, true};
 ghost use Rattle.std.specs.List.{list_all};
 ghost use Rattle.up_lines.specs.Lines.{newline};
-ghost use Rattle.up_lines.specs.Progress.{Grows, Refuses, Takes, Stops, is_inside};
-ghost use Rattle.up_lines.specs.Runs.{BlamesWriter};
+ghost use Rattle.up_lines.specs.Progress.{Grows, Refuses, Takes, Step, Stops, is_inside};
 
 use crate::ending::end_line;
 use crate::fault::ScriptCause;
@@ -48,14 +47,11 @@ pub(crate) fn take_line<S, I: Interpret<S>, W: Sink>(
 ) -> Result<(), ScriptCause>
     requires own { list_all is_inside part.now ≡ true }
     requires can_write { W.can_write writer.old }
-    ensures ok { OnOk result (Takes I.gives (part.now ++ newline ∷ []) progress.old (record { state = state.old; held = W.contents writer.old })
-        progress.new (record { state = state.new; held = W.contents writer.new })) }
-    ensures err { IfErr result (λ cause. (more : List ℕ) → Stops I.gives cause false (part.now ++ newline ∷ more)
+    ensures { Step (Takes I.gives (part.now ++ newline ∷ []))
+        (λ cause old before new after. (more : List ℕ) → Stops I.gives cause false (part.now ++ newline ∷ more) old before new after)
         progress.old (record { state = state.old; held = W.contents writer.old })
-        progress.new (record { state = state.new; held = W.contents writer.new })) }
-    ensures grows { progress.old.answered ≤ progress.new.answered }
-    ensures goes_on { OnOk result (W.can_write writer.new) }
-    ensures blames { IfErr result (λ cause. BlamesWriter cause (W.has_failed writer.new) (W.can_write writer.new)) }
+        progress.new (record { state = state.new; held = W.contents writer.new })
+        (W.has_failed writer.new) (W.can_write writer.new) result }
 {
     take_part(progress, part)?;
     if progress.counted == MOST_LINES {

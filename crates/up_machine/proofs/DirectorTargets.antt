@@ -37,7 +37,7 @@ fits ecu image h = hardware_first (hardware_fits image.hardware) _ _ h
 
 -- ---- no ECU stands twice
 
-abbrev named : List Assigned → List Name
+abbrev pub named : List Assigned → List Name
 named assigned = map (λ a. a.ecu) assigned
 
 abbrev ecu_for : Table ImageData → Assigned → Option Name
@@ -97,7 +97,7 @@ none_updated p (r ∷ set) h = let here = or_parts (p r.ecu) _ h in by_update r.
     by_update true here rest = rw (here, rest)
     by_update false here rest = rest
 
-updates_apart : (set : List Resulting) → Distinct (map (λ r. r.ecu) set) → Distinct (named (updates set))
+pub updates_apart : (set : List Resulting) → Distinct (map (λ r. r.ecu) set) → Distinct (named (updates set))
 updates_apart [] h = tt
 updates_apart (r ∷ set) h = by_update r.updated (updates_apart set h.1)
   where
@@ -106,7 +106,7 @@ updates_apart (r ∷ set) h = by_update r.updated (updates_apart set h.1)
     by_update true rest = (none_updated (bytes_eq r.ecu) set h.0, rest)
     by_update false rest = rest
 
-plan_apart : (all : List Assigned) (cause : Option Cause) → Distinct (named all) → Distinct (named (plan_with all cause).assigned)
+pub plan_apart : (all : List Assigned) (cause : Option Cause) → Distinct (named all) → Distinct (named (plan_with all cause).assigned)
 plan_apart [] cause h = tt
 plan_apart (a ∷ rest) None h = h
 plan_apart (a ∷ rest) (Some cause) h = tt

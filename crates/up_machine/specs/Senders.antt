@@ -1,8 +1,9 @@
 -- The decision on a manifest in steps: who sent it, whether it was there before, and what is new.
-use Rattle.std.specs.Prelude.{◌≡◌, ◌≤◌, List, true, Some, is_some, Result, Ok, Err, IsTrue}
+use Rattle.std.specs.Prelude.{◌≡◌, ◌≤◌, List, true, Option, Some, is_some, Result, Ok, Err, IfOk, IsTrue}
 use Rattle.std.specs.FinMap as table
 use Rattle.up_canon.specs.Names.{Table}
 use Rattle.up_canon.specs.declared.refusal.Refusal.{Refusal}
+use Rattle.up_canon.specs.declared.refusal.Refusal.TheVariants.{Memory}
 use Rattle.up_sign.specs.Schemes.{Rules}
 use Rattle.up_manifest.specs.declared.manifest.Incoming.{Incoming}
 use Rattle.up_manifest.specs.declared.manifest.Manifest.{Manifest}
@@ -49,6 +50,19 @@ pub record TakesMemory (k : Rules) (incoming : Incoming) (rows : DeliveryData) :
 pub record CanAnswer (k : Rules) (sender : SenderData) : Type 0 where
   pub keys : IsTrue (founding_fits k sender.founding)
   pub rows : IsTrue (rows_fit sender.vehicle)
+
+-- What the first step answers, given a founding's row and a vehicle's, where they are there.
+pub record DecidesSender (k : Rules) (incoming : Incoming) (row : Option Founding) (rows : Option VehicleRows) (r : Result SenderData Refusal) : Type 0 where
+  -- over the rows of a state it says who sent it, or the refusal that is due
+  pub from : (s : State) → row ≡ founding_row s → rows ≡ vehicle_rows s incoming.manifest.vehicle → GivesSender k s incoming r
+  -- the rest of the decision can be made of what it gives
+  pub can : IfOk r (CanAnswer k)
+  -- it takes no memory
+  pub memory : r ≡ Err Memory → ⊥
+  -- whom it gives has signed the manifest
+  pub passed : IfOk r (λ sender. check_primary k sender.vehicle incoming ≡ Ok tt)
+  -- it gives these very rows
+  pub given : IfOk r (λ sender. (row ≡ Some sender.founding) × (rows ≡ Some sender.vehicle))
 
 -- the images and items are those of the state that the plan for this manifest needs: the items offer what those of the state's
 -- campaigns for its vehicle do, and of the images those of the files that the latter and the reports name count alone

@@ -43,7 +43,8 @@ pub(crate) fn accepted_rows<K: Scheme>(
     requires version { rows.now.vehicle.version < max_count }
     requires moment { at ≤ last_command_moment }
     requires once { first_repeated (map (λ row. row.ecu) rows.now.ecus) ≡ None }
-    ensures { AreByFile images.now → IfOk result (λ accepted. accepted ≡ accepted_rows_of (K.rules scheme.now) founding.now rows.now at incoming.now images.now (map (λ i. i.now) items.now)) }
+    ensures { AreByFile images.now → IfOk result (λ accepted. accepted ≡ accepted_rows_of
+        (K.rules scheme.now) founding.now rows.now at incoming.now images.now (map (λ i. i.now) items.now)) }
 {
     let reports = incoming.manifest.reports.as_slice();
     let plan = plan_for(alloc, rows, reports, images, items)?;
@@ -73,7 +74,8 @@ fn plan_for(
     items: &[&Item],
 ) -> Result<Plan, AllocError>
     requires { first_repeated (map (λ row. row.ecu) rows.now.ecus) ≡ None }
-    ensures planned { AreByFile images.now → IfOk result (λ plan. plan ≡ plan_by_rows images.now (map (λ i. i.now) items.now) rows.now reports.now) }
+    ensures planned { AreByFile images.now
+        → IfOk result (λ plan. plan ≡ plan_by_rows images.now (map (λ i. i.now) items.now) rows.now reports.now) }
     ensures once { IfOk result (λ plan. first_repeated (map (λ a. a.ecu) plan.assigned) ≡ None) }
 {
     let fitted = fitted_ecus(alloc, rows.ecus.as_slice(), reports)?;
@@ -97,7 +99,8 @@ fn kept_row<K: Scheme>(
     requires version { row.now.version < max_count }
     requires moment { at ≤ last_command_moment }
     requires once { first_repeated (map (λ a. a.ecu) plan.assigned) ≡ None }
-    ensures { IfOk result (λ kept. kept ≡ kept_of (K.rules scheme.now) founding.now row.now at incoming.now images.now plan) }
+    ensures { IfOk result
+        (λ kept. kept ≡ kept_of (K.rules scheme.now) founding.now row.now at incoming.now images.now plan) }
 {
     let targets = targets_for(alloc, images, plan.assigned.as_slice())?;
     let reply = reply_text(alloc, scheme, at, founding, hashed, row, targets)?;

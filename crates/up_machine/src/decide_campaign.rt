@@ -38,10 +38,13 @@ pub fn decide_open(
     images: &Table<Image>,
 ) -> Result<Decision<Campaign>, Refusal>
     requires { at ≤ last_command_moment }
-    ensures memory { result ≡ Err Memory → (is_founded ≡ true) × (option_copied old.entry ≡ None) × (check_campaign known.now images.now campaign.now ≡ Ok tt) }
-    ensures decided { (s : State) → is_founded ≡ is_some (founding_row s) → option_copied old.entry ≡ table.get s.campaigns campaign.now.name
+    ensures memory { result ≡ Err Memory → (is_founded ≡ true) × (option_copied old.entry ≡ None)
+        × (check_campaign known.now images.now campaign.now ≡ Ok tt) }
+    ensures decided { (s : State) → is_founded ≡ is_some (founding_row s)
+        → option_copied old.entry ≡ table.get s.campaigns campaign.now.name
         → Knows s campaign.now known.now images.now
-        → GivesDecision (λ row. row ≡ campaign.now) s (with_campaign s campaign.now) result (decide_open_in s at campaign.now) }
+        → GivesDecision
+        (λ row. row ≡ campaign.now) s (with_campaign s campaign.now) result (decide_open_in s at campaign.now) }
 {
     check_founded(is_founded)?;
     match old {
@@ -65,7 +68,8 @@ fn decide_new(
 ) -> Result<Decision<Campaign>, Refusal>
     ensures memory { result ≡ Err Memory → check_campaign known.now images.now campaign.now ≡ Ok tt }
     ensures decided { (s : State) → Knows s campaign.now known.now images.now
-        → GivesDecision (λ row. row ≡ campaign.now) s (with_campaign s campaign.now) result (decide_new_campaign s campaign.now) }
+        → GivesDecision
+        (λ row. row ≡ campaign.now) s (with_campaign s campaign.now) result (decide_new_campaign s campaign.now) }
 {
     check_new(campaign, known, images)?;
     Ok(Decision::New(campaign.copy(alloc)?))
@@ -144,8 +148,10 @@ pub fn decide_close(
     campaign: Option<&Campaign>,
 ) -> Result<Decision<Campaign>, Refusal>
     requires { at ≤ last_command_moment }
-    ensures memory { result ≡ Err Memory → (is_founded ≡ true) × ((c : CampaignData) × (option_copied campaign.entry ≡ Some c) × (c.running ≡ true)) }
-    ensures decided { (s : State) → is_founded ≡ is_some (founding_row s) → option_copied campaign.entry ≡ table.get s.campaigns name.now
+    ensures memory { result ≡ Err Memory
+        → (is_founded ≡ true) × ((c : CampaignData) × (option_copied campaign.entry ≡ Some c) × (c.running ≡ true)) }
+    ensures decided { (s : State) → is_founded ≡ is_some (founding_row s)
+        → option_copied campaign.entry ≡ table.get s.campaigns name.now
         → GivesClosed s name.now result (decide_close_in s at name.now) }
 {
     check_founded(is_founded)?;

@@ -76,7 +76,8 @@ pub fn decide_manifest<K: Scheme>(
     requires keys { IfSome rows.now.founding (λ f. IsTrue (founding_fits (K.rules scheme.now) f)) }
     requires rows { IfSome rows.now.vehicle (λ v. IsTrue (rows_fit v)) }
     ensures memory { result ≡ Err Memory → TakesMemory (K.rules scheme.now) incoming.now rows.now }
-    ensures decided { (s : State) → IsSound (K.rules scheme.now) s → AreRowsFor (K.rules scheme.now) s incoming.now.manifest rows.now
+    ensures decided { (s : State) → IsSound (K.rules scheme.now) s
+        → AreRowsFor (K.rules scheme.now) s incoming.now.manifest rows.now
         → GivesDelivered (K.rules scheme.now) s incoming.now.manifest.vehicle result
         (decide_incoming (K.rules scheme.now) s at incoming.now) }
 {
@@ -111,7 +112,8 @@ pub fn decide_again(
     requires read { IsRead incoming.now }
     requires older { incoming.now.manifest.counter ≤ sender.now.vehicle.vehicle.last }
     ensures memory { result ≡ Err Memory → is_some (repeated_in incoming.now (option_copied kept.entry)) ≡ true }
-    ensures decided { (k : Rules) (s : State) (at : ℕ) → at ≤ last_command_moment → IsSound k s → IsSenderOf k s incoming.now sender.now
+    ensures decided { (k : Rules) (s : State) (at : ℕ) → at ≤ last_command_moment → IsSound k s
+        → IsSenderOf k s incoming.now sender.now
         → option_copied kept.entry ≡ kept_at k s incoming.now.manifest.vehicle incoming.now.manifest.counter
         → GivesDelivered k s incoming.now.manifest.vehicle result (decide_incoming k s at incoming.now) }
 {
@@ -142,8 +144,10 @@ pub fn decide_new<K: Scheme>(
     requires later { sender.now.vehicle.vehicle.last < incoming.now.manifest.counter }
     requires can { CanAnswer (K.rules scheme.now) sender.now }
     requires hashed { hashed.now ≡ hashed_roles_of (K.rules scheme.now) sender.now.founding.keys.director }
-    ensures { (s : State) → IsSound (K.rules scheme.now) s → IsSenderOf (K.rules scheme.now) s incoming.now sender.now → ArePlanned s incoming.now.manifest images.now (map (λ i. i.now) items.now)
-        → GivesDelivered (K.rules scheme.now) s incoming.now.manifest.vehicle result (decide_incoming (K.rules scheme.now) s at incoming.now) }
+    ensures { (s : State) → IsSound (K.rules scheme.now) s → IsSenderOf (K.rules scheme.now) s incoming.now sender.now
+        → ArePlanned s incoming.now.manifest images.now (map (λ i. i.now) items.now)
+        → GivesDelivered (K.rules scheme.now) s incoming.now.manifest.vehicle result
+        (decide_incoming (K.rules scheme.now) s at incoming.now) }
 {
     body_laws();
     other_images_change_nothing();

@@ -90,7 +90,8 @@ pub fn decide_refresh(
 ) -> Result<Founding, Refusal>
     requires { at ≤ last_command_moment }
     ensures decided { TellsRefresh at version founding result }
-    ensures fits { (k : Rules) → IfSome founding (λ f. IsTrue (founding_fits k f)) → IfOk result (λ new. CanMakeFiles k new) }
+    ensures fits { (k : Rules) → IfSome founding (λ f. IsTrue (founding_fits k f))
+        → IfOk result (λ new. CanMakeFiles k new) }
 {
     let Some(old) = founding else {
         return Err(Refusal::NotFounded);

@@ -39,10 +39,14 @@ pub fn decide_replace<K: Scheme>(
     is_taken_already: bool,
 ) -> Result<(), Refusal>
     requires { at ≤ last_command_moment }
-    ensures key { public_fits_in (K.rules scheme.now) replacement.now.ecu.public ≡ false → result ≡ Err (BadShape (codes "key")) }
-    ensures memory { result ≡ Err Memory → (is_founded ≡ true) × ((v : VehicleRowsData) × (option_copied vehicle.entry ≡ Some v) × (refusal_names_ecu replacement.now.old is_taken_already v ≡ true)) }
-    ensures decided { (s : State) → is_founded ≡ is_some (founding_row s) → option_copied vehicle.entry ≡ vehicle_rows s replacement.now.vehicle
-        → is_taken_already ≡ is_taken s replacement.now.ecu.ecu → GivesReplacement s replacement.now result (decide_replace_in (K.rules scheme.now) s at replacement.now) }
+    ensures key { public_fits_in (K.rules scheme.now) replacement.now.ecu.public ≡ false
+        → result ≡ Err (BadShape (codes "key")) }
+    ensures memory { result ≡ Err Memory → (is_founded ≡ true) × ((v : VehicleRowsData)
+        × (option_copied vehicle.entry ≡ Some v) × (refusal_names_ecu replacement.now.old is_taken_already v ≡ true)) }
+    ensures decided { (s : State) → is_founded ≡ is_some (founding_row s)
+        → option_copied vehicle.entry ≡ vehicle_rows s replacement.now.vehicle
+        → is_taken_already ≡ is_taken s replacement.now.ecu.ecu
+        → GivesReplacement s replacement.now result (decide_replace_in (K.rules scheme.now) s at replacement.now) }
 {
     if public_fits(scheme, replacement.ecu.public.as_slice()) {
         decide_fitting(alloc, replacement, is_founded, vehicle, is_taken_already)
@@ -60,10 +64,13 @@ fn decide_fitting(
     vehicle: Option<&VehicleRows>,
     is_taken_already: bool,
 ) -> Result<(), Refusal>
-    ensures memory { result ≡ Err Memory → (is_founded ≡ true) × ((v : VehicleRowsData) × (option_copied vehicle.entry ≡ Some v) × (refusal_names_ecu replacement.now.old is_taken_already v ≡ true)) }
-    ensures decided { (s : State) → is_founded ≡ is_some (founding_row s) → option_copied vehicle.entry ≡ vehicle_rows s replacement.now.vehicle
+    ensures memory { result ≡ Err Memory → (is_founded ≡ true) × ((v : VehicleRowsData)
+        × (option_copied vehicle.entry ≡ Some v) × (refusal_names_ecu replacement.now.old is_taken_already v ≡ true)) }
+    ensures decided { (s : State) → is_founded ≡ is_some (founding_row s)
+        → option_copied vehicle.entry ≡ vehicle_rows s replacement.now.vehicle
         → is_taken_already ≡ is_taken s replacement.now.ecu.ecu → GivesReplacement s replacement.now result
-        (and_then (check_founded_in s) (λ _. and_then (or_error UnknownVehicle (table.get s.vehicles replacement.now.vehicle)) (decide_replacement s replacement.now))) }
+        (and_then (check_founded_in s) (λ _. and_then (or_error UnknownVehicle
+        (table.get s.vehicles replacement.now.vehicle)) (decide_replacement s replacement.now))) }
 {
     check_founded(is_founded)?;
     decide_known(alloc, replacement, vehicle, is_taken_already)
@@ -76,10 +83,12 @@ fn decide_known(
     vehicle: Option<&VehicleRows>,
     is_taken_already: bool,
 ) -> Result<(), Refusal>
-    ensures memory { result ≡ Err Memory → (v : VehicleRowsData) × (option_copied vehicle.entry ≡ Some v) × (refusal_names_ecu replacement.now.old is_taken_already v ≡ true) }
+    ensures memory { result ≡ Err Memory → (v : VehicleRowsData) × (option_copied vehicle.entry ≡ Some v)
+        × (refusal_names_ecu replacement.now.old is_taken_already v ≡ true) }
     ensures decided { (s : State) → option_copied vehicle.entry ≡ vehicle_rows s replacement.now.vehicle
         → is_taken_already ≡ is_taken s replacement.now.ecu.ecu → GivesReplacement s replacement.now result
-        (and_then (or_error UnknownVehicle (table.get s.vehicles replacement.now.vehicle)) (decide_replacement s replacement.now)) }
+        (and_then (or_error UnknownVehicle (table.get s.vehicles replacement.now.vehicle))
+        (decide_replacement s replacement.now)) }
 {
     match vehicle {
         Some(rows) => decide_in(alloc, replacement, rows, is_taken_already),
@@ -95,8 +104,10 @@ fn decide_in(
     is_taken_already: bool,
 ) -> Result<(), Refusal>
     ensures memory { result ≡ Err Memory → refusal_names_ecu replacement.now.old is_taken_already rows.now ≡ true }
-    ensures decided { (s : State) (v : Vehicle) → table.get s.vehicles replacement.now.vehicle ≡ Some v → rows.now ≡ rows_of replacement.now.vehicle v
-        → is_taken_already ≡ is_taken s replacement.now.ecu.ecu → GivesReplacement s replacement.now result (decide_replacement s replacement.now v) }
+    ensures decided { (s : State) (v : Vehicle) → table.get s.vehicles replacement.now.vehicle ≡ Some v
+        → rows.now ≡ rows_of replacement.now.vehicle v
+        → is_taken_already ≡ is_taken s replacement.now.ecu.ecu
+        → GivesReplacement s replacement.now result (decide_replacement s replacement.now v) }
 {
     if !stands_in(&replacement.old, rows) {
         return Err(Refusal::UnknownEcu(replacement.old.copy(alloc)?));

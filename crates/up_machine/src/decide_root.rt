@@ -42,8 +42,10 @@ pub fn decide_found<K: Scheme>(
 
 /// The root version that is due of a founding with keys that fit; `AlreadyFounded`. It takes no memory.
 fn first_root(hashed: HashedKeySet, is_founded: bool) -> Result<NextRoot, Refusal>
-    ensures decided { (k : Rules) (at : ℕ) (keys : KeySetData) → at ≤ last_command_moment → check_keys_in k keys ≡ Ok tt → TellsFoundingOutright k at keys is_founded result }
-    ensures fits { (k : Rules) (at : ℕ) (keys : KeySetData) → at ≤ last_command_moment → check_keys_in k keys ≡ Ok tt → hashed ≡ hashed_key_set k keys
+    ensures decided { (k : Rules) (at : ℕ) (keys : KeySetData) → at ≤ last_command_moment → check_keys_in k keys ≡ Ok tt
+        → TellsFoundingOutright k at keys is_founded result }
+    ensures fits { (k : Rules) (at : ℕ) (keys : KeySetData) → at ≤ last_command_moment → check_keys_in k keys ≡ Ok tt
+        → hashed ≡ hashed_key_set k keys
         → IfOk result (λ new. CanMakeRoot k at keys new) }
 {
     if is_founded {
@@ -69,7 +71,8 @@ pub fn decide_rotate<K: Scheme>(
 ) -> Result<NextRoot, Refusal>
     requires { at ≤ last_command_moment }
     ensures decided { TellsRotation (K.rules scheme.now) at keys.now founding result }
-    ensures fits { IfSome founding (λ f. IsTrue (founding_fits (K.rules scheme.now) f)) → IfOk result (λ new. CanMakeRoot (K.rules scheme.now) at keys.now new) }
+    ensures fits { IfSome founding (λ f. IsTrue (founding_fits (K.rules scheme.now) f))
+        → IfOk result (λ new. CanMakeRoot (K.rules scheme.now) at keys.now new) }
 {
     let hashed = check_keys(alloc, scheme, keys)?;
     next_root(hashed, founding)
@@ -78,8 +81,10 @@ pub fn decide_rotate<K: Scheme>(
 /// The root version that is due of a rotation with keys that fit; `NotFounded`; `RootFull`; `VersionLimit`. It takes no
 /// memory.
 fn next_root(hashed: HashedKeySet, founding: Option<Founding>) -> Result<NextRoot, Refusal>
-    ensures decided { (k : Rules) (at : ℕ) (keys : KeySetData) → at ≤ last_command_moment → check_keys_in k keys ≡ Ok tt → TellsRotationOutright k at keys founding result }
-    ensures fits { (k : Rules) (at : ℕ) (keys : KeySetData) → at ≤ last_command_moment → check_keys_in k keys ≡ Ok tt → hashed ≡ hashed_key_set k keys
+    ensures decided { (k : Rules) (at : ℕ) (keys : KeySetData) → at ≤ last_command_moment → check_keys_in k keys ≡ Ok tt
+        → TellsRotationOutright k at keys founding result }
+    ensures fits { (k : Rules) (at : ℕ) (keys : KeySetData) → at ≤ last_command_moment → check_keys_in k keys ≡ Ok tt
+        → hashed ≡ hashed_key_set k keys
         → IfSome founding (λ f. IsTrue (founding_fits k f)) → IfOk result (λ new. CanMakeRoot k at keys new) }
 {
     let Some(old) = founding else {

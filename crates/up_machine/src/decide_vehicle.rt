@@ -43,10 +43,12 @@ pub fn decide_vehicle<K: Scheme>(
     taken: &[bool],
 ) -> Result<Decision<VehicleRows>, Refusal>
     requires { at ≤ last_command_moment }
-    ensures key { list_all (λ e. public_fits (K.rules scheme.now) e.public) new.now.ecus ≡ false → result ≡ Err (BadShape (codes "key")) }
+    ensures key { list_all (λ e. public_fits (K.rules scheme.now) e.public) new.now.ecus ≡ false
+        → result ≡ Err (BadShape (codes "key")) }
     ensures memory { result ≡ Err Memory → (is_founded ≡ true) × (option_copied old.entry ≡ None) }
     ensures decided { (s : State) → IsSound (K.rules scheme.now) s → is_founded ≡ is_some (founding_row s)
-        → option_copied old.entry ≡ vehicle_rows s new.now.vehicle → taken.now ≡ map (is_taken s) (ecu_names new.now.ecus)
+        → option_copied old.entry ≡ vehicle_rows s new.now.vehicle
+        → taken.now ≡ map (is_taken s) (ecu_names new.now.ecus)
         → GivesDecision (λ rows. rows ≡ rows_of new.now.vehicle (added new.now)) s (with_vehicle s new.now) result
         (decide_vehicle_in (K.rules scheme.now) s at new.now) }
 {
@@ -68,9 +70,11 @@ fn decide_fitting(
 ) -> Result<Decision<VehicleRows>, Refusal>
     ensures memory { result ≡ Err Memory → (is_founded ≡ true) × (option_copied old.entry ≡ None) }
     ensures decided { (s : State) → is_founded ≡ is_some (founding_row s)
-        → option_copied old.entry ≡ vehicle_rows s new.now.vehicle → taken.now ≡ map (is_taken s) (ecu_names new.now.ecus)
+        → option_copied old.entry ≡ vehicle_rows s new.now.vehicle
+        → taken.now ≡ map (is_taken s) (ecu_names new.now.ecus)
         → GivesDecision (λ rows. rows ≡ rows_of new.now.vehicle (added new.now)) s (with_vehicle s new.now) result
-        (and_then (check_founded_in s) (λ _. where_new s (same_vehicle_of new.now) VehicleTaken (table.get s.vehicles new.now.vehicle) (decide_new_vehicle s new.now))) }
+        (and_then (check_founded_in s) (λ _. where_new s (same_vehicle_of new.now) VehicleTaken
+        (table.get s.vehicles new.now.vehicle) (decide_new_vehicle s new.now))) }
 {
     check_founded(is_founded)?;
     decide_named(alloc, new, old, taken)
@@ -84,9 +88,11 @@ fn decide_named(
     taken: &[bool],
 ) -> Result<Decision<VehicleRows>, Refusal>
     ensures memory { result ≡ Err Memory → option_copied old.entry ≡ None }
-    ensures decided { (s : State) → option_copied old.entry ≡ vehicle_rows s new.now.vehicle → taken.now ≡ map (is_taken s) (ecu_names new.now.ecus)
+    ensures decided { (s : State) → option_copied old.entry ≡ vehicle_rows s new.now.vehicle
+        → taken.now ≡ map (is_taken s) (ecu_names new.now.ecus)
         → GivesDecision (λ rows. rows ≡ rows_of new.now.vehicle (added new.now)) s (with_vehicle s new.now) result
-        (where_new s (same_vehicle_of new.now) VehicleTaken (table.get s.vehicles new.now.vehicle) (decide_new_vehicle s new.now)) }
+        (where_new s (same_vehicle_of new.now) VehicleTaken (table.get s.vehicles new.now.vehicle)
+        (decide_new_vehicle s new.now)) }
 {
     match old {
         Some(rows) => {

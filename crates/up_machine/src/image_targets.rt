@@ -31,7 +31,8 @@ pub(crate) fn targets_with(
     images: &[Image],
     new: &Image,
 ) -> Result<Listed<Target>, AllocError>
-    ensures value { IfOk result (λ targets. targets ≡ map (target_of_image None) (insert images.now (place_in new.now.file images.now) new.now)) }
+    ensures value { IfOk result (λ targets. targets
+        ≡ map (target_of_image None) (insert images.now (place_in new.now.file images.now) new.now)) }
     ensures fit { IfOk result (λ targets. list_all (target_fits ImageRepository) targets ≡ true) }
 {
     let target = image_target(alloc, new)?;

@@ -24,7 +24,8 @@ pub fn reply_of(alloc: Global, row: &Kept) -> Result<Reply, AllocError>
 /// How many images a row's plan assigns. It takes no memory, and want of memory is answered just where they are more than
 /// 4294967295, which no state has.
 pub fn targets_in(row: &Kept) -> Result<u32, AllocError>
-    ensures { MatchResult result (λ targets. targets ≡ length row.now.plan.assigned) (λ _. u32.MAX < length row.now.plan.assigned) }
+    ensures { MatchResult result (λ targets. targets ≡ length row.now.plan.assigned)
+        (λ _. u32.MAX < length row.now.plan.assigned) }
 {
     match u32::try_from(row.plan.assigned.as_slice().len()) {
         Ok(targets) => Ok(targets),

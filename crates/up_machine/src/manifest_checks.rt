@@ -111,7 +111,8 @@ fn first_unsigned<'a, K: Scheme>(
     keys: &KeyCache,
     reports: &'a [SignedReport],
 ) -> Option<&'a SignedReport>
-    ensures { option_copied result ≡ find (λ r. not (is_signed_by_row (K.rules scheme.now) rows.now (report_name r) r.envelope)) reports.now }
+    ensures { option_copied result ≡ find
+        (λ r. not (is_signed_by_row (K.rules scheme.now) rows.now (report_name r) r.envelope)) reports.now }
 {
     reports.iter().find(|r| !is_signed(scheme, rows, keys, r))
 }

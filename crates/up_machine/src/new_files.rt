@@ -8,6 +8,7 @@ ghost use Rattle.up_roles.specs.Payload.{version_fits};
 ghost use Rattle.up_roles.specs.Targets.{target_fits, ecus_of};
 ghost use Rattle.up_metadata.specs.Files.{role_texts as role_texts_of, root_text as root_text_of, Root};
 ghost use Rattle.up_metadata.specs.Keys.{key_set_fits, hashed_key_set, all_can_sign};
+ghost use Rattle.up_metadata.specs.Writing.{metadata_set};
 ghost use Rattle.up_machine.specs.Due.{CanMakeFiles, CanMakeRoot};
 ghost use Rattle.up_machine.specs.Files.{target_of};
 ghost use Rattle.up_machine.specs.Registers.{place_among};
@@ -77,12 +78,14 @@ fn rows_of_root<K: Scheme>(
     requires number { IsTrue (version_fits number) }
     requires version { IsTrue (version_fits version) }
     requires moment { at ≤ last_command_moment }
-    ensures { (b : Option Root) → option_map (λ r. r.keys) b ≡ option_copied before.entry → IfOk result (λ rows. rows ≡ record {
-      founding = record { root = number; keys = keys.now; image_version = version; stamp = at };
-      director = root_text_of (K.rules scheme.now) Director number (record { keys = keys.now; at = at }) b;
-      image = root_text_of (K.rules scheme.now) ImageRepository number (record { keys = keys.now; at = at }) b;
-      files = role_texts_of (K.rules scheme.now) (record { repository = ImageRepository; keys = keys.now; vehicle = None; version = version; at = at; targets = map (target_of None) images.now });
-    }) }
+    ensures { (b : Option Root) → option_map (λ r. r.keys) b ≡ option_copied before.entry
+        → IfOk result (λ rows. rows ≡ record {
+          founding = record { root = number; keys = keys.now; image_version = version; stamp = at };
+          director = root_text_of (K.rules scheme.now) Director number (record { keys = keys.now; at = at }) b;
+          image = root_text_of (K.rules scheme.now) ImageRepository number (record { keys = keys.now; at = at }) b;
+          files = role_texts_of (K.rules scheme.now)
+              (metadata_set ImageRepository keys.now None version at (map (target_of None) images.now));
+        }) }
 {
     let targets = image_targets(alloc, images)?;
     let director = root_text(
@@ -131,7 +134,8 @@ fn founding_with(
     image_version: u64,
     stamp: Moment,
 ) -> Result<Founding, AllocError>
-    ensures { IfOk result (λ founding. founding ≡ record { root = root; keys = keys.now; image_version = image_version; stamp = stamp }) }
+    ensures { IfOk result
+        (λ founding. founding ≡ record { root = root; keys = keys.now; image_version = image_version; stamp = stamp }) }
 {
     Ok(Founding {
         root,
@@ -170,7 +174,8 @@ pub(crate) fn rows_with_targets<K: Scheme>(
     requires ecus { IsTrue (are_distinct (ecus_of targets)) }
     ensures { IfOk result (λ rows. rows ≡ record {
       founding = founding;
-      files = role_texts_of (K.rules scheme.now) (record { repository = ImageRepository; keys = founding.keys; vehicle = None; version = founding.image_version; at = founding.stamp; targets = targets });
+      files = role_texts_of (K.rules scheme.now)
+          (metadata_set ImageRepository founding.keys None founding.image_version founding.stamp targets);
     }) }
 {
     match image_files(alloc, scheme, &founding, targets) {
@@ -190,7 +195,9 @@ pub(crate) fn rows_with_image<K: Scheme>(
     requires { CanMakeFiles (K.rules scheme.now) founding }
     ensures { IfOk result (λ rows. rows ≡ record {
       founding = founding;
-      files = role_texts_of (K.rules scheme.now) (record { repository = ImageRepository; keys = founding.keys; vehicle = None; version = founding.image_version; at = founding.stamp; targets = map (target_of None) (insert images.now (place_among image.now.file images.now) image.now) });
+      files = role_texts_of (K.rules scheme.now)
+          (metadata_set ImageRepository founding.keys None founding.image_version founding.stamp
+          (map (target_of None) (insert images.now (place_among image.now.file images.now) image.now)));
     }) }
 {
     match targets_with(alloc, images, image) {
@@ -209,7 +216,8 @@ fn image_files<K: Scheme>(
     requires founding { CanMakeFiles (K.rules scheme.now) founding.now }
     requires targets { IsTrue (list_all (target_fits ImageRepository) targets) }
     requires ecus { IsTrue (are_distinct (ecus_of targets)) }
-    ensures { IfOk result (λ files. files ≡ role_texts_of (K.rules scheme.now) (record { repository = ImageRepository; keys = founding.now.keys; vehicle = None; version = founding.now.image_version; at = founding.now.stamp; targets = targets })) }
+    ensures { IfOk result (λ files. files ≡ role_texts_of (K.rules scheme.now)
+        (metadata_set ImageRepository founding.now.keys None founding.now.image_version founding.now.stamp targets)) }
 {
     let hashed = hashed_roles(alloc, scheme, &founding.keys.image)?;
     role_texts(

@@ -27,7 +27,8 @@ pub struct Primary {
 
 /// The Primary of a vehicle, copied from its rows. There is none where it is none of the vehicle's ECUs; that takes no memory.
 pub fn primary_in(alloc: Global, rows: &VehicleRows) -> Result<Option<Primary>, AllocError>
-    ensures { MatchResult result (λ found. (s : State) (name : Name) → vehicle_rows s name ≡ Some rows.now → found ≡ primary_of s name)
+    ensures { MatchResult result
+        (λ found. (s : State) (name : Name) → vehicle_rows s name ≡ Some rows.now → found ≡ primary_of s name)
         (λ _. is_some (row_in rows.now.ecus rows.now.vehicle.primary) ≡ true) }
 {
     let ecu = &rows.vehicle.primary;
@@ -49,7 +50,8 @@ pub fn decide_sent_by<K: Scheme>(
     keys: &KeyCache,
 ) -> Result<(), Refusal>
     ensures checked { result ≡ check_sent (K.rules scheme.now) primary.now incoming.now }
-    ensures sent { (s : State) (founding : Founding) → founding_row s ≡ Some founding → primary_of s incoming.now.manifest.vehicle ≡ Some primary.now
+    ensures sent { (s : State) (founding : Founding) → founding_row s ≡ Some founding
+        → primary_of s incoming.now.manifest.vehicle ≡ Some primary.now
         → GivesSent (K.rules scheme.now) s incoming.now result }
 {
     check_kept_primary(scheme, primary, keys, incoming)

@@ -1,11 +1,7 @@
 //! Who sent a manifest: the first step of the decision on it.
-ghost use Rattle.std.specs.Prelude.{◌≡◌, Some, Ok, Err, IfOk, IfSome, IsTrue, nat_lt, option_copied};
-ghost use Rattle.up_canon.specs.declared.refusal.Refusal.TheVariants.{Memory};
-ghost use Rattle.up_machine.specs.ManifestRows.{check_primary as check_primary_in};
-ghost use Rattle.up_machine.specs.Rows.{founding_row, vehicle_rows};
+ghost use Rattle.std.specs.Prelude.{◌≡◌, IfSome, IsTrue, nat_lt, option_copied};
 ghost use Rattle.up_machine.specs.RowsFit.{founding_fits, rows_fit};
-ghost use Rattle.up_machine.specs.Senders.{CanAnswer, GivesSender};
-ghost use Rattle.up_machine.specs.State.{State};
+ghost use Rattle.up_machine.specs.Senders.{DecidesSender};
 
 use crate::manifest_checks::check_primary;
 use crate::rows::{Founding, VehicleRows};
@@ -47,12 +43,8 @@ pub fn decide_sender<'a, K: Scheme>(
 ) -> Result<Sender<'a>, Refusal>
     requires keys { IfSome (option_copied founding) (λ f. IsTrue (founding_fits (K.rules scheme.now) f)) }
     requires rows { IfSome (option_copied vehicle) (λ v. IsTrue (rows_fit v)) }
-    ensures from { (s : State) → option_copied founding.entry ≡ founding_row s → option_copied vehicle.entry ≡ vehicle_rows s incoming.now.manifest.vehicle
-        → GivesSender (K.rules scheme.now) s incoming.now result }
-    ensures can { IfOk result (CanAnswer (K.rules scheme.now)) }
-    ensures memory { result ≡ Err Memory → ⊥ }
-    ensures passed { IfOk result (λ sender. check_primary_in (K.rules scheme.now) sender.vehicle incoming.now ≡ Ok tt) }
-    ensures given { IfOk result (λ sender. (option_copied founding.entry ≡ Some sender.founding) × (option_copied vehicle.entry ≡ Some sender.vehicle)) }
+    ensures { DecidesSender (K.rules scheme.now) incoming.now (option_copied founding.entry)
+        (option_copied vehicle.entry) result }
 {
     let Some(founding) = founding else {
         return Err(Refusal::NotFounded);

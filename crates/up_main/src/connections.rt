@@ -1,6 +1,6 @@
 //! Connections, served one after another.
-ghost use Rattle.std.specs.Prelude.{◌≡◌, ◌⊎◌, IfErr, OnOk};
-ghost use Rattle.up_lines.specs.Runs.{Blames};
+ghost use Rattle.std.specs.Prelude.{◌≡◌, ◌⊎◌, IfErr};
+ghost use Rattle.up_lines.specs.Runs.{EndsRun};
 ghost use Rattle.up_http.specs.Serving.{cause_of};
 
 use sqlite::Alter;
@@ -94,11 +94,9 @@ fn answer_requests<K: Scheme, D: Alter, R: Source, W: Sink>(
 ) -> Result<(), ScriptCause>
     requires can_read { R.can_read requests.old }
     requires can_write { W.can_write answers.old }
-    ensures read { OnOk result (R.can_read requests.new ⊎ R.has_ended requests.new) }
-    ensures written { OnOk result (W.can_write answers.new) }
-    ensures stopped { IfErr result (λ cause.
-        Blames cause (R.has_failed requests.new) (R.can_read requests.new ⊎ R.has_ended requests.new)
-        (W.has_failed answers.new) (W.can_write answers.new)) }
+    ensures { EndsRun (λ cause. cause) (R.can_read requests.new ⊎ R.has_ended requests.new)
+        (R.has_failed requests.new) (R.can_read requests.new ⊎ R.has_ended requests.new)
+        (W.has_failed answers.new) (W.can_write answers.new) result }
 {
     match serve_stream(alloc, desk, at, requests, answers) {
         Ok(_) => Ok(()),

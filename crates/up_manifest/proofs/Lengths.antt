@@ -32,16 +32,16 @@ escapes-length : (t : List ℕ) → length (flat_map escaped t) ≤ 2 * length t
 escapes-length [] = omega arith
 escapes-length (x ∷ t) = omega (arith, length-append (escaped x) (flat_map escaped t), escaped-length x, escapes-length t)
 
-quoted-length : (t : List ℕ) (n : ℕ) → length t ≤ n → length (quoted t) ≤ 2 * n + 2
+pub quoted-length : (t : List ℕ) (n : ℕ) → length t ≤ n → length (quoted t) ≤ 2 * n + 2
 quoted-length t n h = omega (arith, length-append (flat_map escaped t) (34 ∷ []), escapes-length t)
 
 hex-length : (xs : List ℕ) (n : ℕ) → length xs ≤ n → length (quoted (encode_lower xs)) ≤ 4 * n + 2
 hex-length xs n h = let size = length-encode_with lower_digits xs in let q = quoted-length (encode_lower xs) (2 * n) (omega arith) in omega (arith, q)
 
-count-length : (n : ℕ) → n ≤ max_count → length (decimal n) ≤ 16
+pub count-length : (n : ℕ) → n ≤ max_count → length (decimal n) ≤ 16
 count-length n h = length-decimal-le 16 n (lit< tt) (omega arith) (omega arith)
 
-short-length : (least most : ℕ) (t : List ℕ) → is_short_text least most t ≡ true → length t ≤ most
+pub short-length : (least most : ℕ) (t : List ℕ) → is_short_text least most t ≡ true → length t ≤ most
 short-length least most t h =
     let p = and_parts (is_from_to least most (length t)) _ h in
     (within least most (length t) p.0).1
@@ -52,10 +52,10 @@ signature-spelled : (s : Signature) → text (signature_value s) ≡ codes "{\"k
 unfolding signature_value
 signature-spelled s = refl
 
-sum-seven : (a b c d e f g : List ℕ) → length (a ++ (b ++ (c ++ (d ++ (e ++ (f ++ g)))))) ≡ length a + (length b + (length c + (length d + (length e + (length f + length g)))))
+pub sum-seven : (a b c d e f g : List ℕ) → length (a ++ (b ++ (c ++ (d ++ (e ++ (f ++ g)))))) ≡ length a + (length b + (length c + (length d + (length e + (length f + length g)))))
 sum-seven a b c d e f g = simp length-append
 
-signature-length : (s : Signature) → signature_fits s ≡ true → length (text (signature_value s)) ≤ 2500
+pub signature-length : (s : Signature) → signature_fits s ≡ true → length (text (signature_value s)) ≤ 2500
 signature-length s h =
     let p = and_parts (is_short_text 1 128 s.keyid) _ h in
     let q = and_parts (is_short_text 1 64 s.method) _ p.1 in
@@ -67,7 +67,7 @@ signature-length s h =
 
 -- ---- envelopes of one signature
 
-sum-five : (a b c d e : List ℕ) → length (a ++ b ++ c ++ d ++ e) ≡ length a + length b + length c + length d + length e
+pub sum-five : (a b c d e : List ℕ) → length (a ++ b ++ c ++ d ++ e) ≡ length a + length b + length c + length d + length e
 sum-five a b c d e = simp length-append
 
 one-signature : (ss : List Signature) → length ss ≡ 1 → list_all signature_fits ss ≡ true → length (text (list_with (map signature_value ss))) ≤ 2502
@@ -108,10 +108,10 @@ hash-length xs h =
     let plain = unescaped (encode_lower xs) (all-hex needs_none refl xs h) in
     omega (arith, length-append (flat_map escaped (encode_lower xs)) (34 ∷ []), plain, size)
 
-sum-nested : (a b c d e : List ℕ) → length (a ++ (b ++ (c ++ (d ++ e)))) ≡ length a + (length b + (length c + (length d + length e)))
+pub sum-nested : (a b c d e : List ℕ) → length (a ++ (b ++ (c ++ (d ++ e)))) ≡ length a + (length b + (length c + (length d + length e)))
 sum-nested a b c d e = simp length-append
 
-hashes-length : (xs : List ℕ) (o : Option (List ℕ)) → length xs ≡ 32 → list_all (λ x. nat_lt x 256) xs ≡ true → is_second_hash o ≡ true → length (text (hashes_value xs o)) ≤ 220
+pub hashes-length : (xs : List ℕ) (o : Option (List ℕ)) → length xs ≡ 32 → list_all (λ x. nat_lt x 256) xs ≡ true → is_second_hash o ≡ true → length (text (hashes_value xs o)) ≤ 220
 hashes-length xs None size bytes h =
     let hash = hash-length xs bytes in
     let spelled : text (hashes_value xs None) ≡ codes "{\"sha256\":" ++ (quoted (encode_lower xs) ++ codes "}") = refl in
@@ -140,7 +140,7 @@ pub report-spelled : (r : Report) → report_text r ≡ codes "{\"attack\":" ++ 
 unfolding report_text
 report-spelled r = refl
 
-sum-eleven : (a b c d e f g h i j k : List ℕ) → length (a ++ (b ++ (c ++ (d ++ (e ++ (f ++ (g ++ (h ++ (i ++ (j ++ k))))))))))
+pub sum-eleven : (a b c d e f g h i j k : List ℕ) → length (a ++ (b ++ (c ++ (d ++ (e ++ (f ++ (g ++ (h ++ (i ++ (j ++ k))))))))))
     ≡ length a + (length b + (length c + (length d + (length e + (length f + (length g + (length h + (length i + (length j + length k)))))))))
 sum-eleven a b c d e f g h i j k = simp length-append
 

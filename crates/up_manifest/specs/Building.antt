@@ -1,7 +1,8 @@
 -- Reports and manifests as they are written.
-use Rattle.std.specs.Prelude.{◌≡◌, ℕ, ◌≤◌, ◌++◌, List, [], ◌∷◌, IsTrue, length, map, codes, decimal, ⊤}
+use Rattle.std.specs.Prelude.{◌≡◌, ℕ, ◌≤◌, ◌++◌, List, [], ◌∷◌, Some, IsTrue, length, map, codes, decimal, ⊤, String, Result, IfOk, string_bytes}
 use Rattle.std.specs.List.{list_all, join_with_byte}
 use Rattle.serde_json.specs.Data.{Data, string}
+use Rattle.serde_json.specs.Read.{read}
 use Rattle.up_canon.specs.Build.{object_with, count_value, hashes_value}
 use Rattle.up_canon.specs.Canon.{max_count, text, quoted}
 use Rattle.up_canon.specs.HexText.{is_second_hash}
@@ -11,6 +12,8 @@ use Rattle.up_sign.specs.Envelopes.{sealed}
 use Rattle.up_sign.specs.Formats.{envelope_fits, has_bytes, envelope_text}
 use Rattle.up_sign.specs.Schemes.{Rules, is_byte}
 use Rattle.up_sign.specs.declared.envelope.Envelope.{Envelope}
+use Rattle.up_manifest.specs.Manifests.{most_reports}
+use Rattle.up_manifest.specs.Meaning.{MeansSignedReport, MeansBody}
 use Rattle.up_manifest.specs.declared.report.Installed.{Installed}
 use Rattle.up_manifest.specs.declared.report.Report.{Report}
 use Rattle.up_manifest.specs.declared.report.SignedReport.{SignedReport}
@@ -57,6 +60,13 @@ AreReportEnvelopes [] (r ∷ rs) = ⊥
 AreReportEnvelopes (e ∷ es) [] = ⊥
 AreReportEnvelopes (e ∷ es) (r ∷ rs) = IsReportEnvelope e r × AreReportEnvelopes es rs
 
+-- what builds a report answers: an envelope over the report's text, which is read again and means that report
+pub record BuildsReport {E : Type 0} (k : Rules) (secret : List ℕ) (report : Report) (r : Result Envelope E) : Type 0 where
+  pub value : IfOk r (λ e. e ≡ sealed k (secret ∷ []) (report_text report))
+  pub envelope : IfOk r (λ e. IsReportEnvelope e report)
+  pub limits : IfOk r (λ e. IsTrue (envelope_fits e))
+  pub means : IfOk r (λ e. (d : Data) × (read (envelope_text e) ≡ Some d) × MeansSignedReport d (record { report = report; envelope = e }))
+
 -- ---- manifests
 
 -- texts in a list, with commas between
@@ -89,3 +99,14 @@ built k secret vehicle primary counter rs es = record {
   manifest = record { vehicle = vehicle; primary = primary; counter = counter; reports = signed_reports rs es };
   envelope = sealed_manifest k secret vehicle primary counter es;
 }
+
+-- a counter from 1 on, and at most so many reports in envelopes that are within their limits
+pub record CanBuild (counter : ℕ) (reports : List Envelope) : Type 0 where
+  pub counter_fits : (1 ≤ counter) × (counter ≤ max_count)
+  pub number : length reports ≤ most_reports
+  pub limits : IsTrue (list_all envelope_fits reports)
+
+-- what builds a manifest answers: the text, which means the manifest where the envelopes are those of reports
+pub record BuildsManifest {A E : Type 0} (k : Rules) (secret vehicle primary : List ℕ) (counter : ℕ) (reports : List Envelope) (r : Result (String A) E) : Type 0 where
+  pub value : IfOk r (λ t. string_bytes t ≡ envelope_text (sealed_manifest k secret vehicle primary counter reports))
+  pub means : (rs : List Report) → AreReportEnvelopes reports rs → IfOk r (λ t. MeansBody (string_bytes t) (built k secret vehicle primary counter rs reports))

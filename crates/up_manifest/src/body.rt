@@ -31,7 +31,8 @@ impl Model for Body {
 impl Body {
     /// A body of so many bytes, of which none has come; none above 262,144 bytes. It takes no memory.
     pub fn new(alloc: Global, length: u64) -> Option<Body>
-        ensures { MatchOption result (largest_body < length) (λ body. (length ≤ largest_body) × (body ≡ record { size = length; bytes = [] })) }
+        ensures { MatchOption result (largest_body < length)
+            (λ body. (length ≤ largest_body) × (body ≡ record { size = length; bytes = [] })) }
     {
         if length > LARGEST_BODY as u64 {
             return None;
@@ -52,7 +53,8 @@ impl Body {
     /// Takes as many bytes as are missing, or all of the piece, and tells how many. An error takes nothing.
     pub fn feed(&mut self, piece: &[u8]) -> Result<usize, AllocError>
         ensures taken { IfOk result (λ n. n ≡ min (length piece.now) (self.old.size - length self.old.bytes)) }
-        ensures ok { IfOk result (λ _. self.new ≡ record { size = self.old.size; bytes = take self.old.size (self.old.bytes ++ piece.now) }) }
+        ensures ok { IfOk result (λ _. self.new
+            ≡ record { size = self.old.size; bytes = take self.old.size (self.old.bytes ++ piece.now) }) }
         ensures err { OnErr result (self.new ≡ self.old) }
     {
         let taken = piece.len().min(self.missing());

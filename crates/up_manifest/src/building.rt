@@ -1,15 +1,7 @@
 //! Building reports and manifests, as an ECU and a Primary send them.
-ghost use Rattle.std.specs.Prelude.{◌≡◌, ◌≤◌, ◌∷◌, [], List, Some, IsTrue, IfOk, length, string_bytes};
-ghost use Rattle.std.specs.List.{list_all};
-ghost use Rattle.serde_json.specs.Data.{Data};
-ghost use Rattle.serde_json.specs.Read.{read};
-ghost use Rattle.up_canon.specs.Canon.{max_count};
-ghost use Rattle.up_sign.specs.Envelopes.{key_block, sealed};
-ghost use Rattle.up_sign.specs.Formats.{envelope_fits, envelope_text};
-ghost use Rattle.up_manifest.specs.Building.{IsReportEnvelope, AreReportEnvelopes, report_text as report_text_of, sealed_manifest, built};
-ghost use Rattle.up_manifest.specs.Manifests.{most_reports};
-ghost use Rattle.up_manifest.specs.Meaning.{MeansSignedReport, MeansBody};
-ghost use Rattle.up_manifest.specs.declared.report.Report.{Report as ReportData};
+ghost use Rattle.std.specs.Prelude.{◌≡◌, IsTrue};
+ghost use Rattle.up_sign.specs.Envelopes.{key_block};
+ghost use Rattle.up_manifest.specs.Building.{BuildsReport, CanBuild, BuildsManifest};
 
 use crate::report::Report;
 use crate::writing::{keeps_limits, manifest_text, report_text};
@@ -30,10 +22,7 @@ pub fn build_report<K: Scheme>(
     report: &Report,
 ) -> Result<Envelope, AllocError>
     requires { IsTrue ((K.rules scheme.now).secret_fits secret.now) }
-    ensures value { IfOk result (λ e. e ≡ sealed (K.rules scheme.now) (secret.now ∷ []) (report_text_of report.now)) }
-    ensures envelope { IfOk result (λ e. IsReportEnvelope e report.now) }
-    ensures limits { IfOk result (λ e. IsTrue (envelope_fits e)) }
-    ensures means { IfOk result (λ e. (d : Data) × (read (envelope_text e) ≡ Some d) × MeansSignedReport d (record { report = report.now; envelope = e })) }
+    ensures { BuildsReport (K.rules scheme.now) secret.now report.now result }
 {
     let key = hashed_key_of(alloc, scheme, secret)?;
     build_report_by(alloc, scheme, secret, &key, report)
@@ -49,10 +38,7 @@ pub fn build_report_by<K: Scheme>(
 ) -> Result<Envelope, AllocError>
     requires fits { IsTrue ((K.rules scheme.now).secret_fits secret.now) }
     requires hashed { key.now ≡ key_block (K.rules scheme.now) secret.now }
-    ensures value { IfOk result (λ e. e ≡ sealed (K.rules scheme.now) (secret.now ∷ []) (report_text_of report.now)) }
-    ensures envelope { IfOk result (λ e. IsReportEnvelope e report.now) }
-    ensures limits { IfOk result (λ e. IsTrue (envelope_fits e)) }
-    ensures means { IfOk result (λ e. (d : Data) × (read (envelope_text e) ≡ Some d) × MeansSignedReport d (record { report = report.now; envelope = e })) }
+    ensures { BuildsReport (K.rules scheme.now) secret.now report.now result }
 {
     envelope_laws();
     moment_laws();
@@ -75,12 +61,8 @@ pub fn build_manifest<K: Scheme>(
     reports: &[Envelope],
 ) -> Result<String, AllocError>
     requires fits { IsTrue ((K.rules scheme.now).secret_fits secret.now) }
-    requires counter { (1 ≤ counter) × (counter ≤ max_count) }
-    requires number { length reports.now ≤ most_reports }
-    requires limits { IsTrue (list_all envelope_fits reports.now) }
-    ensures value { IfOk result (λ t. string_bytes t ≡ envelope_text (sealed_manifest (K.rules scheme.now) secret.now vehicle.now primary.now counter reports.now)) }
-    ensures means { (rs : List ReportData) → AreReportEnvelopes reports.now rs
-        → IfOk result (λ t. MeansBody (string_bytes t) (built (K.rules scheme.now) secret.now vehicle.now primary.now counter rs reports.now)) }
+    requires manifest { CanBuild counter reports.now }
+    ensures { BuildsManifest (K.rules scheme.now) secret.now vehicle.now primary.now counter reports.now result }
 {
     let key = hashed_key_of(alloc, scheme, secret)?;
     build_manifest_by(
@@ -101,12 +83,8 @@ pub fn build_manifest_by<K: Scheme>(
 ) -> Result<String, AllocError>
     requires fits { IsTrue ((K.rules scheme.now).secret_fits secret.now) }
     requires hashed { key.now ≡ key_block (K.rules scheme.now) secret.now }
-    requires counter { (1 ≤ counter) × (counter ≤ max_count) }
-    requires number { length reports.now ≤ most_reports }
-    requires limits { IsTrue (list_all envelope_fits reports.now) }
-    ensures value { IfOk result (λ t. string_bytes t ≡ envelope_text (sealed_manifest (K.rules scheme.now) secret.now vehicle.now primary.now counter reports.now)) }
-    ensures means { (rs : List ReportData) → AreReportEnvelopes reports.now rs
-        → IfOk result (λ t. MeansBody (string_bytes t) (built (K.rules scheme.now) secret.now vehicle.now primary.now counter rs reports.now)) }
+    requires manifest { CanBuild counter reports.now }
+    ensures { BuildsManifest (K.rules scheme.now) secret.now vehicle.now primary.now counter reports.now result }
 {
     envelope_laws();
     moment_laws();

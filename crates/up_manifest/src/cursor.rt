@@ -45,7 +45,8 @@ impl<'a> Cursor<'a> {
 
     /// Takes a piece, where it stands in front, and tells whether it does.
     pub fn takes(&mut self, piece: &str) -> bool
-        ensures { MatchBool result (self.old.rest.now ≡ piece.now ++ self.new.rest.now) (self.new.rest.now ≡ self.old.rest.now) }
+        ensures { MatchBool result (self.old.rest.now ≡ piece.now ++ self.new.rest.now)
+            (self.new.rest.now ≡ self.old.rest.now) }
     {
         match self.rest.strip_prefix(piece) {
             Some(rest) => {
@@ -126,7 +127,8 @@ impl<'a> Cursor<'a> {
 
     /// Takes bytes that stand for themselves.
     fn direct(&mut self) -> Result<&'a str, Unread>
-        ensures { IfOk result (λ t. (self.old.rest.now ≡ t.now ++ self.new.rest.now) × (list_all is_direct_of t.now ≡ true)) }
+        ensures { IfOk result
+            (λ t. (self.old.rest.now ≡ t.now ++ self.new.rest.now) × (list_all is_direct_of t.now ≡ true)) }
     {
         self.cut(direct_size(self.rest.as_bytes()))
     }
@@ -170,7 +172,8 @@ impl<'a> Cursor<'a> {
 
     /// Takes bytes in hexadecimal digits, in quotes and in lower case.
     pub fn bytes(&mut self, alloc: Global) -> Result<Vec<u8>, Unread>
-        ensures value { IfOk result (λ bytes. self.old.rest.now ≡ quoted (encode_lower bytes.items) ++ self.new.rest.now) }
+        ensures value { IfOk result
+            (λ bytes. self.old.rest.now ≡ quoted (encode_lower bytes.items) ++ self.new.rest.now) }
         ensures typed { IfOk result (λ bytes. IsTrue (list_all is_byte bytes.items)) }
     {
         let digits = self.lower_digits()?;
@@ -193,7 +196,8 @@ impl<'a> Cursor<'a> {
 
     /// Takes hexadecimal digits in lower case, without quotes.
     fn bare_digits(&mut self) -> Result<&'a str, Unread>
-        ensures { IfOk result (λ t. (self.old.rest.now ≡ t.now ++ self.new.rest.now) × (list_all is_lower_digit_of t.now ≡ true)) }
+        ensures { IfOk result
+            (λ t. (self.old.rest.now ≡ t.now ++ self.new.rest.now) × (list_all is_lower_digit_of t.now ≡ true)) }
     {
         self.cut(lower_size(self.rest.as_bytes()))
     }

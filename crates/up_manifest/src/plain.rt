@@ -56,7 +56,8 @@ fn incoming(alloc: Global, text: &str) -> Result<Incoming, Unread>
 
 /// Takes the text that a Primary signs.
 fn manifest(alloc: Global, cursor: &mut Cursor<'_>) -> Result<Manifest, Unread>
-    ensures text { IfOk result (λ m. cursor.old.rest.now ≡ manifest_text m.vehicle m.primary m.counter (map (λ r. r.envelope) m.reports) ++ cursor.new.rest.now) }
+    ensures text { IfOk result (λ m. cursor.old.rest.now
+        ≡ manifest_text m.vehicle m.primary m.counter (map (λ r. r.envelope) m.reports) ++ cursor.new.rest.now) }
     ensures fits { IfOk result (λ m. ManifestFits m) }
 {
     let counter = count_behind(cursor, "{\"counter\":")?;
@@ -82,7 +83,8 @@ fn manifest(alloc: Global, cursor: &mut Cursor<'_>) -> Result<Manifest, Unread>
 
 /// Takes the list of the reports' envelopes.
 fn reports(alloc: Global, cursor: &mut Cursor<'_>) -> Result<Listed<SignedReport>, Unread>
-    ensures text { IfOk result (λ rs. cursor.old.rest.now ≡ listed (map (λ r. envelope_text r.envelope) rs) ++ cursor.new.rest.now) }
+    ensures text { IfOk result
+        (λ rs. cursor.old.rest.now ≡ listed (map (λ r. envelope_text r.envelope) rs) ++ cursor.new.rest.now) }
     ensures fits { IfOk result (λ rs. AreReports rs) }
     ensures few { IfOk result (λ rs. length rs ≤ most_reports) }
 {

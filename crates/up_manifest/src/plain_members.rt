@@ -91,7 +91,8 @@ pub(crate) fn bytes_behind(
     key: &str,
     most: usize,
 ) -> Result<Bytes, Unread>
-    ensures value { IfOk result (λ b. cursor.old.rest.now ≡ key.now ++ (quoted (encode_lower b) ++ cursor.new.rest.now)) }
+    ensures value { IfOk result
+        (λ b. cursor.old.rest.now ≡ key.now ++ (quoted (encode_lower b) ++ cursor.new.rest.now)) }
     ensures fits { IfOk result (λ b. IsTrue (is_from_to 1 most (length b))) }
     ensures typed { IfOk result (λ b. IsTrue (list_all is_byte b)) }
 {

@@ -95,7 +95,8 @@ fn push_primary(out: &mut String, primary: &Ident, counter: u64) -> Result<(), A
 
 fn push_envelopes(alloc: Global, out: &mut String, envelopes: &[Envelope]) -> Result<(), AllocError>
     requires { IsTrue (list_all envelope_fits envelopes.now) }
-    ensures { IfOk result (λ _. string_bytes out.new ≡ string_bytes out.old ++ listed (map envelope_text envelopes.now)) }
+    ensures { IfOk result
+        (λ _. string_bytes out.new ≡ string_bytes out.old ++ listed (map envelope_text envelopes.now)) }
 {
     out.push('[')?;
     let mut separator = "";

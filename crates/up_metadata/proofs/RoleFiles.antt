@@ -8,6 +8,7 @@ use Rattle.up_sign.specs.Schemes.{Rules}
 use Rattle.up_roles.specs.declared.repository.Repository.{Repository}
 use Rattle.up_roles.specs.declared.repository.Repository.TheVariants.{Director, Image}
 use Rattle.up_roles.specs.Lifetimes.{lifetimes}
+use Rattle.up_roles.specs.Writing.{CanSeal}
 use Rattle.up_metadata.proofs.Lists.{and_left, and_right, all_weaker}
 use Rattle.up_metadata.specs.declared.keys.RoleSecrets.{RoleSecrets}
 use Rattle.up_metadata.specs.declared.keys.RepoKeys.{RepoKeys}
@@ -32,6 +33,10 @@ keys_are_few k role h =
 -- few enough for an envelope
 pub secrets_are_few : (k : Rules) (role : RoleSecrets) → IsTrue (can_sign k role) → (1 ≤ length role.keys) × (length role.keys ≤ 8)
 secrets_are_few k role h = let few = keys_are_few k role h in (few.0, omega (arith, few.1))
+
+-- so a role that can sign can seal
+pub secrets_seal : (k : Rules) (role : RoleSecrets) → IsTrue (can_sign k role) → CanSeal k role.keys
+secrets_seal k role h = record { fit = secrets_fit k role h; number = secrets_are_few k role h }
 
 -- what each role of a repository passes
 each_role : (p : RoleSecrets → Bool) (keys : RepoKeys) → (p keys.root && p keys.targets && p keys.snapshot && p keys.timestamp) ≡ true

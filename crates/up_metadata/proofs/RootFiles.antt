@@ -13,6 +13,7 @@ use Rattle.up_sign.specs.Laws.{SealedFits}
 use Rattle.up_roles.specs.declared.repository.Repository.{Repository}
 use Rattle.up_roles.specs.declared.root.RootKey.{RootKey}
 use Rattle.up_roles.specs.Payload.{version_fits}
+use Rattle.up_roles.specs.Writing.{CanSeal}
 use Rattle.up_roles.specs.Root.{key_fits, role_fits as root_role_fits, root_fits as root_file_fits, root_text_of}
 use Rattle.up_metadata.proofs.Lists.{and_left, and_right, all_weaker, all_of_filter}
 use Rattle.up_metadata.proofs.RoleFiles.{role_signs, secrets_fit, keys_are_few, roles_fit}
@@ -89,12 +90,12 @@ filter_is_shorter p (x ∷ xs) = by_test (p x) (filter_is_shorter p xs)
 abbrev pub others : List (List ℕ) → List (List ℕ) → List (List ℕ)
 others own old = filter (λ secret. not (list_any (bytes_eq secret) own)) old
 
-pub signers_fit : (k : Rules) (role : RoleSecrets) (old : List (List ℕ)) → IsTrue (role_fits k role) → AreFew k old → IsTrue (list_all k.secret_fits (role.keys ++ others role.keys old))
+signers_fit : (k : Rules) (role : RoleSecrets) (old : List (List ℕ)) → IsTrue (role_fits k role) → AreFew k old → IsTrue (list_all k.secret_fits (role.keys ++ others role.keys old))
 signers_fit k role old fits before =
     list_all-append k.secret_fits role.keys (others role.keys old)
     ∙ both _ _ (secrets_fit k role (role_signs k role fits)) (all_of_filter k.secret_fits (λ secret. not (list_any (bytes_eq secret) role.keys)) old before.fit)
 
-pub signers_are_few : (k : Rules) (role : RoleSecrets) (old : List (List ℕ)) → IsTrue (role_fits k role) → AreFew k old
+signers_are_few : (k : Rules) (role : RoleSecrets) (old : List (List ℕ)) → IsTrue (role_fits k role) → AreFew k old
     → (1 ≤ length (role.keys ++ others role.keys old)) × (length (role.keys ++ others role.keys old) ≤ 8)
 signers_are_few k role old fits before =
     let own = keys_are_few k role (role_signs k role fits) in
@@ -102,6 +103,9 @@ signers_are_few k role old fits before =
     let shorter = filter_is_shorter (λ secret. not (list_any (bytes_eq secret) role.keys)) old in
     let few = before.few in
     (omega (arith, own.0, own.1, size, shorter, few), omega (arith, own.0, own.1, size, shorter, few))
+
+pub signers_seal : (k : Rules) (role : RoleSecrets) (old : List (List ℕ)) → IsTrue (role_fits k role) → AreFew k old → CanSeal k (role.keys ++ others role.keys old)
+signers_seal k role old fits before = record { fit = signers_fit k role old fits before; number = signers_are_few k role old fits before }
 
 -- ---- the text
 

@@ -1,3 +1,4 @@
 pub mod Keys
 pub mod Files
+pub mod Writing
 pub mod Signed

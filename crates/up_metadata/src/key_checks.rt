@@ -86,7 +86,8 @@ fn has_distinct_identifiers<K: Scheme>(
     hashed: &[HashedKey],
 ) -> Result<bool, AllocError>
     requires { hashed.now ≡ map (key_block (K.rules scheme.now)) keys.now }
-    ensures { IfOk result (λ distinct. distinct ≡ is_none (first_repeated (map (identifier (K.rules scheme.now)) keys.now))) }
+    ensures { IfOk result
+        (λ distinct. distinct ≡ is_none (first_repeated (map (identifier (K.rules scheme.now)) keys.now))) }
 {
     let mut names = Vec::with_capacity(alloc, hashed.len())?;
     for i in 0..keys.len() {

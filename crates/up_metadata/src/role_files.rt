@@ -1,15 +1,13 @@
 //! Making the Targets, Snapshot and Timestamp files of one version.
-ghost use Rattle.std.specs.Prelude.{◌≡◌, ◌+◌, ◌≤◌, IsTrue, IfOk};
-ghost use Rattle.std.specs.List.{list_all};
+ghost use Rattle.std.specs.Prelude.{◌≡◌, ◌+◌, ◌≤◌, IsTrue};
 ghost use Rattle.up_canon.specs.Moments.{last_command_moment};
 ghost use Rattle.up_roles.specs.Lifetimes.{lifetimes};
-ghost use Rattle.up_canon.specs.Names.{are_distinct};
-ghost use Rattle.up_roles.specs.Payload.{version_fits, name_fits};
-ghost use Rattle.up_roles.specs.Targets.{targets_text_of, targets_fits, target_fits, ecus_of};
-ghost use Rattle.up_roles.specs.Snapshot.{snapshot_text_of, snapshot_fits};
-ghost use Rattle.up_roles.specs.Timestamp.{timestamp_text_of, timestamp_fits};
-ghost use Rattle.up_metadata.specs.Files.{keys_of as keys_in, role_texts as role_texts_of};
+ghost use Rattle.up_roles.specs.Targets.{targets_payload, targets_text_of, targets_fits, targets_is_typed};
+ghost use Rattle.up_roles.specs.Snapshot.{snapshot_payload, snapshot_text_of, snapshot_fits, snapshot_is_typed};
+ghost use Rattle.up_roles.specs.Timestamp.{timestamp_payload, timestamp_text_of, timestamp_fits, timestamp_is_typed};
+ghost use Rattle.up_metadata.specs.Files.{keys_of as keys_in};
 ghost use Rattle.up_metadata.specs.Keys.{hashed_role, hashed_roles, can_sign, roles_can_sign};
+ghost use Rattle.up_metadata.specs.Writing.{metadata_set, CanWriteFiles, WritesFile, WritesFiles};
 
 use crate::hashed_keys::HashedRoleKeys;
 use crate::keys::{KeySet, RepoKeys, RoleSecrets};
@@ -53,12 +51,9 @@ pub fn role_texts<K: Scheme>(
 ) -> Result<RoleTexts, AllocError>
     requires keys { IsTrue (roles_can_sign (K.rules scheme.now) (keys_in repository keys.now)) }
     requires hashed { hashed.now ≡ hashed_roles (K.rules scheme.now) (keys_in repository keys.now) }
-    requires version { IsTrue (version_fits version) }
-    requires moment { at ≤ last_command_moment }
-    requires vehicle { IsTrue (name_fits repository vehicle.now) }
-    requires targets { IsTrue (list_all (target_fits repository) targets) }
-    requires ecus { IsTrue (are_distinct (ecus_of targets)) }
-    ensures { IfOk result (λ texts. texts ≡ role_texts_of (K.rules scheme.now) (record { repository = repository; keys = keys.now; vehicle = vehicle.now; version = version; at = at; targets = targets })) }
+    requires files { CanWriteFiles (metadata_set repository keys.now vehicle.now version at targets) }
+    ensures { WritesFiles (K.rules scheme.now)
+        (metadata_set repository keys.now vehicle.now version at targets) result }
 {
     let keys = keys_of(repository, keys);
     let targets = TargetsFile {
@@ -107,7 +102,7 @@ pub(crate) fn keys_of(repository: Repository, keys: &KeySet) -> &RepoKeys
     }
 }
 
-#[tactic(auto, using(crate::proofs::RoleFiles::secrets_fit, crate::proofs::RoleFiles::secrets_are_few))]
+#[tactic(auto, using(crate::proofs::RoleFiles::secrets_seal))]
 fn signed_targets<K: Scheme>(
     alloc: Global,
     scheme: &K,
@@ -118,13 +113,14 @@ fn signed_targets<K: Scheme>(
     requires role { IsTrue (can_sign (K.rules scheme.now) role.now) }
     requires hashed { hashed.now ≡ hashed_role (K.rules scheme.now) role.now }
     requires limits { IsTrue (targets_fits file.now) }
-    ensures { IfOk result (λ t. t ≡ targets_text_of (K.rules scheme.now) role.now.keys file.now) }
+    ensures { WritesFile (targets_payload file.now) (targets_text_of (K.rules scheme.now) role.now.keys file.now)
+        (targets_is_typed file.now) result }
 {
     let secrets = role.keys.as_slice();
     Ok(Text::new(targets_text_by(alloc, scheme, secrets, hashed.as_slice(), file)?))
 }
 
-#[tactic(auto, using(crate::proofs::RoleFiles::secrets_fit, crate::proofs::RoleFiles::secrets_are_few))]
+#[tactic(auto, using(crate::proofs::RoleFiles::secrets_seal))]
 fn signed_snapshot<K: Scheme>(
     alloc: Global,
     scheme: &K,
@@ -135,13 +131,14 @@ fn signed_snapshot<K: Scheme>(
     requires role { IsTrue (can_sign (K.rules scheme.now) role.now) }
     requires hashed { hashed.now ≡ hashed_role (K.rules scheme.now) role.now }
     requires limits { IsTrue (snapshot_fits file.now) }
-    ensures { IfOk result (λ t. t ≡ snapshot_text_of (K.rules scheme.now) role.now.keys file.now) }
+    ensures { WritesFile (snapshot_payload file.now) (snapshot_text_of (K.rules scheme.now) role.now.keys file.now)
+        (snapshot_is_typed file.now) result }
 {
     let secrets = role.keys.as_slice();
     Ok(Text::new(snapshot_text_by(alloc, scheme, secrets, hashed.as_slice(), file)?))
 }
 
-#[tactic(auto, using(crate::proofs::RoleFiles::secrets_fit, crate::proofs::RoleFiles::secrets_are_few))]
+#[tactic(auto, using(crate::proofs::RoleFiles::secrets_seal))]
 fn signed_timestamp<K: Scheme>(
     alloc: Global,
     scheme: &K,
@@ -152,7 +149,8 @@ fn signed_timestamp<K: Scheme>(
     requires role { IsTrue (can_sign (K.rules scheme.now) role.now) }
     requires hashed { hashed.now ≡ hashed_role (K.rules scheme.now) role.now }
     requires limits { IsTrue (timestamp_fits file.now) }
-    ensures { IfOk result (λ t. t ≡ timestamp_text_of (K.rules scheme.now) role.now.keys file.now) }
+    ensures { WritesFile (timestamp_payload file.now) (timestamp_text_of (K.rules scheme.now) role.now.keys file.now)
+        (timestamp_is_typed file.now) result }
 {
     let secrets = role.keys.as_slice();
     Ok(Text::new(timestamp_text_by(alloc, scheme, secrets, hashed.as_slice(), file)?))

@@ -7,6 +7,7 @@ ghost use Rattle.up_roles.specs.Lifetimes.{lifetimes};
 ghost use Rattle.up_roles.specs.Payload.{version_fits};
 ghost use Rattle.up_metadata.specs.Files.{keys_of as keys_in, root_key as root_key_of, role_keys as role_keys_of, root_file as root_file_of, root_text as root_text_of, Root};
 ghost use Rattle.up_metadata.specs.Keys.{repository_fits, hashed_role, hashed_repo, can_sign};
+ghost use Rattle.up_metadata.specs.Writing.{CanWriteRoot, WritesRoot};
 
 use crate::hashed_keys::HashedRepoKeys;
 use crate::keys::{KeySet, RoleSecrets};
@@ -39,13 +40,12 @@ pub fn root_text<K: Scheme>(
     at: Moment,
     before: Option<&KeySet>,
 ) -> Result<Text, AllocError>
-    requires keys { IsTrue (repository_fits (K.rules scheme.now) (keys_in repository keys.now)) }
+    requires root { CanWriteRoot (K.rules scheme.now) repository number (record { keys = keys.now; at = at }) }
     requires hashed { hashed.now ≡ hashed_repo (K.rules scheme.now) (keys_in repository keys.now) }
-    requires before { MatchOption before ⊤ (λ b. IsTrue (can_sign (K.rules scheme.now) (keys_in repository b.now).root)) }
-    requires number { IsTrue (version_fits number) }
-    requires moment { at ≤ last_command_moment }
-    ensures { (b : Option Root) → option_map (λ r. r.keys) b ≡ option_copied before.entry
-        → IfOk result (λ text. text ≡ root_text_of (K.rules scheme.now) repository number (record { keys = keys.now; at = at }) b) }
+    requires before { MatchOption before ⊤
+        (λ b. IsTrue (can_sign (K.rules scheme.now) (keys_in repository b.now).root)) }
+    ensures { WritesRoot (K.rules scheme.now) repository number (record { keys = keys.now; at = at })
+        (option_copied before.entry) result }
 {
     envelope_laws();
     let signers = root_signers(alloc, scheme, repository, keys, hashed, before)?;
@@ -65,7 +65,8 @@ fn root_file<K: Scheme>(
 ) -> Result<RootFile, AllocError>
     requires hashed { hashed.now ≡ hashed_repo (K.rules scheme.now) (keys_in repository keys.now) }
     requires moment { at ≤ last_command_moment }
-    ensures { IfOk result (λ file. file ≡ root_file_of (K.rules scheme.now) repository number (record { keys = keys.now; at = at })) }
+    ensures { IfOk result
+        (λ file. file ≡ root_file_of (K.rules scheme.now) repository number (record { keys = keys.now; at = at })) }
 {
     let keys = keys_of(repository, keys);
     Ok(RootFile {
@@ -155,8 +156,10 @@ fn root_signers<K: Scheme>(
 ) -> Result<Signers, AllocError>
     requires { hashed.now.root ≡ hashed_role (K.rules scheme.now) (keys_in repository keys.now).root }
     ensures secrets { IfOk result (λ signers. signers.secrets.items ≡ (keys_in repository keys.now).root.keys
-        ++ filter (λ secret. not (list_any (bytes_eq secret) (keys_in repository keys.now).root.keys)) (unwrap_or (option_map (λ b. (keys_in repository b).root.keys) (option_copied before.entry)) [])) }
-    ensures hashed { IfOk result (λ signers. signers.hashed.items ≡ map (key_block (K.rules scheme.now)) signers.secrets.items) }
+        ++ filter (λ secret. not (list_any (bytes_eq secret) (keys_in repository keys.now).root.keys))
+        (unwrap_or (option_map (λ b. (keys_in repository b).root.keys) (option_copied before.entry)) [])) }
+    ensures hashed { IfOk result
+        (λ signers. signers.hashed.items ≡ map (key_block (K.rules scheme.now)) signers.secrets.items) }
 {
     let own = &keys_of(repository, keys).root.keys;
     let mut signers = Signers {
@@ -179,8 +182,10 @@ fn push_others<K: Scheme>(
     own: &[Bytes],
 ) -> Result<(), AllocError>
     requires { signers.old.hashed.items ≡ map (key_block (K.rules scheme.now)) signers.old.secrets.items }
-    ensures secrets { OnOk result (signers.new.secrets.items ≡ signers.old.secrets.items ++ filter (λ secret. not (list_any (bytes_eq secret) own.now)) old.now) }
-    ensures hashed { OnOk result (signers.new.hashed.items ≡ map (key_block (K.rules scheme.now)) signers.new.secrets.items) }
+    ensures secrets { OnOk result (signers.new.secrets.items ≡ signers.old.secrets.items ++ filter
+        (λ secret. not (list_any (bytes_eq secret) own.now)) old.now) }
+    ensures hashed { OnOk result
+        (signers.new.hashed.items ≡ map (key_block (K.rules scheme.now)) signers.new.secrets.items) }
 {
     for secret in old {
         if !is_among(secret.as_slice(), own) {

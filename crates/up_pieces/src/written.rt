@@ -1,7 +1,5 @@
 //! A text written whole, with nothing tried twice.
-ghost use Rattle.std.specs.Prelude.{ℕ, List, OnOk, OnErr};
-ghost use Rattle.std.specs.Io.KnownBytes.{Appends};
-ghost use Rattle.up_pieces.specs.Prefixes.{IsProperPrefix};
+ghost use Rattle.up_pieces.specs.Pieces.{WritesWhole};
 
 use crate::sink::Sink;
 
@@ -12,11 +10,8 @@ pub struct NotWritten;
 /// Writes a text, from where the writer stopped if it takes it in parts. Nothing is written after a failure.
 pub fn write_whole<W: Sink>(writer: &mut W, text: &[u8]) -> Result<(), NotWritten>
     requires { W.can_write writer.old }
-    ensures ok { OnOk result (Appends (W.contents writer.old) (W.contents writer.new) text.now) }
-    ensures err { OnErr result ((prefix : List ℕ) × IsProperPrefix prefix text.now
-        × Appends (W.contents writer.old) (W.contents writer.new) prefix) }
-    ensures goes_on { OnOk result (W.can_write writer.new) }
-    ensures failed { OnErr result (W.has_failed writer.new) }
+    ensures { WritesWhole text.now (W.contents writer.old) (W.contents writer.new)
+        (W.can_write writer.new) (W.has_failed writer.new) result }
 {
     let mut at = 0;
     while at < text.len() {

@@ -85,8 +85,14 @@ impl Campaign {
 
     /// The running campaign of these parts, or the name of the first member that breaks its limit: `vehicles` or `items`.
     pub fn new(name: Ident, reach: Reach, items: Vec<Item>) -> Result<Campaign, &'static str>
-        ensures { let given : CampaignData = record { name = name; reach = reach; items = items.items; running = true } in
-            MatchResult result (λ campaign. (campaign_fits given ≡ true) × (campaign ≡ given)) (λ fault. campaign_fault given ≡ Some fault.now) }
+        ensures { let given : CampaignData = record {
+          name = name;
+          reach = reach;
+          items = items.items;
+          running = true;
+        } in
+            MatchResult result (λ campaign. (campaign_fits given ≡ true) × (campaign ≡ given))
+            (λ fault. campaign_fault given ≡ Some fault.now) }
     {
         if !reach_fits(&reach) {
             return Err("vehicles");

@@ -69,8 +69,18 @@ impl Image {
         needs: Vec<Need>,
         conflicts: Vec<FileName>,
     ) -> Result<Image, &'static str>
-        ensures { let given : ImageData = record { file = file; length = length; sha256 = sha256; sha512 = sha512; hardware = hardware.items; release = release; needs = needs.items; conflicts = conflicts.items } in
-            MatchResult result (λ image. (image_fits given ≡ true) × (image ≡ given)) (λ fault. image_fault given ≡ Some fault.now) }
+        ensures { let given : ImageData = record {
+          file = file;
+          length = length;
+          sha256 = sha256;
+          sha512 = sha512;
+          hardware = hardware.items;
+          release = release;
+          needs = needs.items;
+          conflicts = conflicts.items;
+        } in
+            MatchResult result (λ image. (image_fits given ≡ true) × (image ≡ given))
+            (λ fault. image_fault given ≡ Some fault.now) }
     {
         if !hardware_fits(hardware.as_slice()) {
             return Err("hardware");

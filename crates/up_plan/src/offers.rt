@@ -77,7 +77,8 @@ fn greatest_by_file<'a>(
     alloc: Global,
     images: &'a [Image],
 ) -> Result<BTreeMap<&'a str, &'a Image>, AllocError>
-    ensures { IfOk result (λ files. (q : List ℕ) → option_copied (get_by (λ k. slice_cmp nat_cmp q k.now) files) ≡ greatest_of_file images.now q) }
+    ensures { IfOk result (λ files. (q : List ℕ)
+        → option_copied (get_by (λ k. slice_cmp nat_cmp q k.now) files) ≡ greatest_of_file images.now q) }
 {
     let mut files = BTreeMap::new(alloc);
     for image in images {

@@ -42,8 +42,10 @@ pub fn plan_over(
     items: &[&Item],
     fitted: &[Fitted],
 ) -> Result<Plan, AllocError>
-    ensures looked_up { IfOk result (λ p. p ≡ plan_from (resulting_at images.now (map (λ i. i.now) items.now) fitted.now)) }
-    ensures planned { AreByFile images.now → IfOk result (λ p. p ≡ plan_from (resulting (table.values images.now) (map (λ i. i.now) items.now) fitted.now)) }
+    ensures looked_up { IfOk result
+        (λ p. p ≡ plan_from (resulting_at images.now (map (λ i. i.now) items.now) fitted.now)) }
+    ensures planned { AreByFile images.now → IfOk result
+        (λ p. p ≡ plan_from (resulting (table.values images.now) (map (λ i. i.now) items.now) fitted.now)) }
 {
     let set = resulting_over(alloc, images, items, fitted)?;
     plan_for(alloc, set.as_slice())

@@ -61,7 +61,8 @@ impl Running {
     /// latter.
     pub fn new(alloc: Global, campaigns: Table<Campaign>) -> Result<Running, AllocError>
         ensures value { IfOk result (λ running. running ≡ campaigns) }
-        ensures none { count_by reaches_all_of (table.values campaigns) ≡ 0 → sum_by (λ c. length (vehicles_named c)) (table.values campaigns) ≡ 0
+        ensures none { count_by reaches_all_of (table.values campaigns) ≡ 0
+            → sum_by (λ c. length (vehicles_named c)) (table.values campaigns) ≡ 0
             → IsOk result }
     {
         let for_all = places_for_all(alloc, campaigns.values())?;
@@ -80,7 +81,8 @@ impl Running {
         alloc: Global,
         vehicle: &Ident,
     ) -> Result<Vec<&'a Item>, AllocError>
-        ensures value { IfOk result (λ items. OffersSame (map (λ i. i.now) items.items) (items_of (table.values self.now) vehicle.now)) }
+        ensures value { IfOk result
+            (λ items. OffersSame (map (λ i. i.now) items.items) (items_of (table.values self.now) vehicle.now)) }
         ensures none { items_of (table.values self.now) vehicle.now ≡ [] → IsOk result }
     {
         let campaigns = self.campaigns.values();
@@ -129,7 +131,8 @@ fn names_in_order(alloc: Global, campaigns: &[Campaign]) -> Result<Vec<NameAt>, 
     let mut names = names_of(alloc, campaigns)?;
     names.sort_unstable_by(
         |a: &NameAt, b: &NameAt| -> Ordering
-            ensures { result ≡ slice_cmp nat_cmp (name_at_place campaigns.entry.now a.now) (name_at_place campaigns.entry.now b.now) }
+            ensures { result ≡ slice_cmp nat_cmp (name_at_place campaigns.entry.now a.now)
+                (name_at_place campaigns.entry.now b.now) }
         { name_at(campaigns, a).cmp(name_at(campaigns, b)) },
     );
     Ok(names)
@@ -149,7 +152,8 @@ fn names_of(alloc: Global, campaigns: &[Campaign]) -> Result<Vec<NameAt>, AllocE
 
 /// How many names that are, where a `usize` holds the number.
 fn count_names(campaigns: &[Campaign]) -> Option<usize>
-    ensures { let count = sum_by (λ c. length (vehicles_named c)) campaigns.now in SomeIff result (count < 2 ^ 64) count }
+    ensures { let count = sum_by (λ c. length (vehicles_named c)) campaigns.now in
+        SomeIff result (count < 2 ^ 64) count }
 {
     let mut count: usize = 0;
     for campaign in campaigns {
@@ -161,8 +165,11 @@ fn count_names(campaigns: &[Campaign]) -> Option<usize>
 /// Adds the names of the campaign at the place, for which there is room.
 fn push_names(names: &mut Vec<NameAt>, place: usize, campaign: &Campaign)
     requires room { vec_len names.old + length (vehicles_named campaign.now) ≤ vec_capacity names.old }
-    ensures found { (campaigns : List CampaignData) (vehicle : Name) (test : CampaignData → Bool) → slice_get campaigns place ≡ Some campaign.now
-        → list_any (passes_named campaigns vehicle test) names.new.items ≡ (list_any (passes_named campaigns vehicle test) names.old.items || (reaches_by_name vehicle campaign.now && test campaign.now)) }
+    ensures found { (campaigns : List CampaignData) (vehicle : Name) (test : CampaignData → Bool)
+        → slice_get campaigns place ≡ Some campaign.now
+        → list_any (passes_named campaigns vehicle test) names.new.items
+        ≡ (list_any (passes_named campaigns vehicle test) names.old.items
+        || (reaches_by_name vehicle campaign.now && test campaign.now)) }
     ensures len { vec_len names.new ≡ vec_len names.old + length (vehicles_named campaign.now) }
     ensures capacity { vec_capacity names.old ≤ vec_capacity names.new }
 {
@@ -234,7 +241,8 @@ fn push_for_all<'a>(
     campaigns: &'a [Campaign],
     places: &[usize],
 ) -> Result<(), AllocError>
-    ensures value { IfOk result (λ _. map (λ i. i.now) items.new.items ≡ map (λ i. i.now) items.old.items ++ flat_map (items_at campaigns.now) places.now) }
+    ensures value { IfOk result (λ _. map (λ i. i.now) items.new.items ≡ map (λ i. i.now) items.old.items
+        ++ flat_map (items_at campaigns.now) places.now) }
     ensures none { flat_map (items_at campaigns.now) places.now ≡ [] → IsOk result }
 {
     for place in places {
@@ -248,7 +256,8 @@ fn push_named<'a>(
     campaigns: &'a [Campaign],
     names: &[NameAt],
 ) -> Result<(), AllocError>
-    ensures value { IfOk result (λ _. map (λ i. i.now) items.new.items ≡ map (λ i. i.now) items.old.items ++ flat_map (λ at. items_at campaigns.now at.campaign) names.now) }
+    ensures value { IfOk result (λ _. map (λ i. i.now) items.new.items ≡ map (λ i. i.now) items.old.items ++ flat_map
+        (λ at. items_at campaigns.now at.campaign) names.now) }
     ensures none { flat_map (λ at. items_at campaigns.now at.campaign) names.now ≡ [] → IsOk result }
 {
     for at in names {
@@ -262,7 +271,8 @@ fn push_at<'a>(
     campaigns: &'a [Campaign],
     place: usize,
 ) -> Result<(), AllocError>
-    ensures value { IfOk result (λ _. map (λ i. i.now) items.new.items ≡ map (λ i. i.now) items.old.items ++ items_at campaigns.now place) }
+    ensures value { IfOk result
+        (λ _. map (λ i. i.now) items.new.items ≡ map (λ i. i.now) items.old.items ++ items_at campaigns.now place) }
     ensures none { items_at campaigns.now place ≡ [] → IsOk result }
 {
     match campaigns.get(place) {

@@ -1,17 +1,18 @@
 -- What is sealed of a file of a role.
 use Rattle.std.proofs.Common.{◌≡◌, ℕ, List, Bool, true, Result, refl, ap, ◌∙◌, string_bytes}
-use Rattle.std.specs.Prelude.{String, IfOk, OnOk}
+use Rattle.std.specs.Prelude.{String, IfOk}
 use Rattle.std.proofs.lemmas.Result.{IfOk-weaker}
 use Rattle.serde_json.specs.Data.{Data}
 use Rattle.up_canon.specs.Canon.{has_canon, text}
 use Rattle.up_sign.specs.Envelopes.{sealed}
 use Rattle.up_sign.specs.Formats.{envelope_text}
 use Rattle.up_sign.specs.Schemes.{Rules}
-use Rattle.up_roles.specs.Payload.{IsCanonical, sealed_text}
+use Rattle.up_roles.specs.Payload.{sealed_text}
 use Rattle.up_roles.specs.Root.{root_payload, root_text_of, root_fits, root_is_typed}
 use Rattle.up_roles.specs.Snapshot.{snapshot_payload, snapshot_text_of, snapshot_fits, snapshot_is_typed}
 use Rattle.up_roles.specs.Targets.{targets_payload, targets_text_of, targets_fits, targets_is_typed}
 use Rattle.up_roles.specs.Timestamp.{timestamp_payload, timestamp_text_of, timestamp_fits, timestamp_is_typed}
+use Rattle.up_roles.specs.Writing.{IsWritten}
 use Rattle.up_roles.proofs.Oks.{on_ok}
 use Rattle.up_roles.proofs.PlainFiles.{canon_is, root-canon, targets-canon, snapshot-canon, timestamp-canon}
 
@@ -34,12 +35,6 @@ roles_write = record {
   snapshot = record { canon = snapshot-canon; text_is = λ k secrets file. refl };
   timestamp = record { canon = timestamp-canon; text_is = λ k secrets file. refl };
 }
-
--- what a writer answers: the file's text, of a canonical payload, and what the types of the file's fields keep
-pub record IsWritten {A E : Type 0} (payload : Data) (text : List ℕ) (kept : Bool) (r : Result (String A) E) : Type 0 where
-  pub value : IfOk r (λ t. string_bytes t ≡ text)
-  pub canonical : OnOk r (IsCanonical payload)
-  pub typed : OnOk r (kept ≡ true)
 
 module _ {F : Type 0} {payload : F → Data} {text_of : Rules → List (List ℕ) → F → List ℕ} {fits typed : F → Bool} (role : Writes payload text_of fits typed)
     (file : F) (within : fits file ≡ true) (kept : typed file ≡ true) where

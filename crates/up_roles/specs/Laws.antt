@@ -82,3 +82,14 @@ MeantSnapshotsFit = (d : Data) (file : SnapshotFile) → MeansSnapshot d file �
 
 abbrev pub MeantTimestampsFit : Type 0
 MeantTimestampsFit = (d : Data) (file : TimestampFile) → MeansTimestamp d file → IsTrue (timestamp_fits file) × IsTrue (timestamp_is_typed file)
+
+-- What bytes mean is just one file of each role or a first fault, and within the limits of the role.
+pub record MeaningLaws : Type 0 where
+  pub root : RootsMeanOneOrFail
+  pub targets : TargetsMeanOneOrFail
+  pub snapshot : SnapshotsMeanOneOrFail
+  pub timestamp : TimestampsMeanOneOrFail
+  pub root_fits : MeantRootsFit
+  pub targets_fit : MeantTargetsFit
+  pub snapshot_fits : MeantSnapshotsFit
+  pub timestamp_fits : MeantTimestampsFit

@@ -1,5 +1,6 @@
 pub mod Parts
 pub mod Payload
+pub mod Writing
 pub mod Root
 pub mod Targets
 pub mod Snapshot

@@ -1,5 +1,5 @@
 //! Laws of role files.
-ghost use Rattle.up_roles.specs.Laws.{RootsAreRead, TargetsAreRead, SnapshotsAreRead, TimestampsAreRead, RootsMeanOneOrFail, TargetsMeanOneOrFail, SnapshotsMeanOneOrFail, TimestampsMeanOneOrFail, MeantRootsFit, MeantTargetsFit, MeantSnapshotsFit, MeantTimestampsFit};
+ghost use Rattle.up_roles.specs.Laws.{RootsAreRead, TargetsAreRead, SnapshotsAreRead, TimestampsAreRead, MeaningLaws};
 
 use up_canon::moment::moment_laws;
 use up_sign::laws::envelope_laws;
@@ -20,14 +20,7 @@ pub fn role_laws()
 /// `read_root`, `read_targets`, `read_snapshot` and `read_timestamp` answer. What a payload means is within the limits of
 /// its role, so that a file that was read can be written again.
 pub fn meaning_laws()
-    ensures root { RootsMeanOneOrFail }
-    ensures targets { TargetsMeanOneOrFail }
-    ensures snapshot { SnapshotsMeanOneOrFail }
-    ensures timestamp { TimestampsMeanOneOrFail }
-    ensures root_fits { MeantRootsFit }
-    ensures targets_fit { MeantTargetsFit }
-    ensures snapshot_fits { MeantSnapshotsFit }
-    ensures timestamp_fits { MeantTimestampsFit }
+    ensures { MeaningLaws }
 {
     moment_laws();
 }

@@ -43,7 +43,8 @@ pub(crate) fn object_part<'a>(
     fault: &'static str,
 ) -> Result<&'a Map<String, Value>, &'static str>
     ensures { MatchResult result
-        (λ inner. object_part_of fault.now name.now (object_of_map map.now.entries) ≡ Ok (object_of_map inner.now.entries))
+        (λ inner. object_part_of fault.now name.now (object_of_map map.now.entries)
+        ≡ Ok (object_of_map inner.now.entries))
         (λ f. IsFault (object_part_of fault.now name.now (object_of_map map.now.entries)) fault.now f.now) }
 {
     object_of(part_at(map, name, fault)?, fault)
@@ -60,7 +61,8 @@ pub(crate) fn few_part<'a>(
 ) -> Result<&'a Vec<Value>, &'static str>
     ensures number { IfOk result (λ list. length list.now.items ≤ most) }
     ensures value { MatchResult result
-        (λ list. few_part_of least most fault.now name.now (object_of_map map.now.entries) ≡ Ok (values_of list.now.items))
+        (λ list. few_part_of least most fault.now name.now (object_of_map map.now.entries)
+        ≡ Ok (values_of list.now.items))
         (λ f. IsFault (few_part_of least most fault.now name.now (object_of_map map.now.entries)) fault.now f.now) }
 {
     let list = list_of(part_at(map, name, fault)?, fault)?;

@@ -13,7 +13,8 @@ use up_canon::writing::{push_ident, push_moment, push_number};
 
 /// Begins an object with the moment of expiry.
 pub(crate) fn push_expires(out: &mut String, expires: Moment) -> Result<(), AllocError>
-    ensures value { IfOk result (λ _. string_bytes out.new ≡ string_bytes out.old ++ (codes "{\"expires\":" ++ quoted (moment_text expires))) }
+    ensures value { IfOk result
+        (λ _. string_bytes out.new ≡ string_bytes out.old ++ (codes "{\"expires\":" ++ quoted (moment_text expires))) }
     ensures typed { is_moment expires ≡ true }
 {
     let second = expires.get();
@@ -25,7 +26,8 @@ pub(crate) fn push_expires(out: &mut String, expires: Moment) -> Result<(), Allo
 
 /// Appends the repository.
 pub(crate) fn push_repository(out: &mut String, repository: Repository) -> Result<(), AllocError>
-    ensures { IfOk result (λ _. string_bytes out.new ≡ string_bytes out.old ++ (codes ",\"repository\":" ++ quoted (repository_text repository))) }
+    ensures { IfOk result (λ _. string_bytes out.new ≡ string_bytes out.old
+        ++ (codes ",\"repository\":" ++ quoted (repository_text repository))) }
 {
     match repository {
         Repository::Director => out.push_str(",\"repository\":\"director\"")?,
@@ -41,7 +43,8 @@ pub(crate) fn push_end(
     version: u64,
 ) -> Result<(), AllocError>
     ensures value { IfOk result (λ _. string_bytes out.new ≡ string_bytes out.old
-        ++ (unwrap_or (option_map (λ name. codes ",\"vehicle\":" ++ quoted name) vehicle.now) [] ++ (codes ",\"version\":" ++ (decimal version ++ codes "}")))) }
+        ++ (unwrap_or (option_map (λ name. codes ",\"vehicle\":" ++ quoted name) vehicle.now) []
+        ++ (codes ",\"version\":" ++ (decimal version ++ codes "}")))) }
     ensures typed { OnOk result (is_named vehicle.now ≡ true) }
 {
     push_vehicle(out, vehicle)?;
@@ -52,7 +55,8 @@ pub(crate) fn push_end(
 }
 
 fn push_vehicle(out: &mut String, vehicle: &Option<Ident>) -> Result<(), AllocError>
-    ensures value { IfOk result (λ _. string_bytes out.new ≡ string_bytes out.old ++ unwrap_or (option_map (λ name. codes ",\"vehicle\":" ++ quoted name) vehicle.now) []) }
+    ensures value { IfOk result (λ _. string_bytes out.new ≡ string_bytes out.old
+        ++ unwrap_or (option_map (λ name. codes ",\"vehicle\":" ++ quoted name) vehicle.now) []) }
     ensures typed { OnOk result (is_named vehicle.now ≡ true) }
 {
     match vehicle {

@@ -7,8 +7,9 @@ ghost use Rattle.up_canon.specs.Build.{list_with, members_with, object_with};
 ghost use Rattle.up_canon.specs.Canon.{text};
 ghost use Rattle.up_canon.specs.Moments.{moment_text};
 ghost use Rattle.up_sign.specs.Envelopes.{key_block};
-ghost use Rattle.up_roles.specs.Payload.{IsCanonical, payload, repository_text, is_moment};
+ghost use Rattle.up_roles.specs.Payload.{payload, repository_text, is_moment};
 ghost use Rattle.up_roles.specs.Root.{all_keys, key_member, put_keys, role_value as role_value_of, roles_value as roles_value_of, root_more, root_payload, root_text_of, root_fits, root_is_typed};
+ghost use Rattle.up_roles.specs.Writing.{CanSeal, IsWritten};
 
 use crate::payload::Head;
 use crate::repository::Repository;
@@ -31,12 +32,10 @@ pub fn root_text<K: Scheme>(
     secrets: &[Bytes],
     file: &RootFile,
 ) -> Result<String, AllocError>
-    requires fit { IsTrue (list_all (K.rules scheme.now).secret_fits secrets.now) }
-    requires number { (1 ≤ length secrets.now) × (length secrets.now ≤ 8) }
+    requires signers { CanSeal (K.rules scheme.now) secrets.now }
     requires limits { IsTrue (root_fits file.now) }
-    ensures value { IfOk result (λ t. string_bytes t ≡ root_text_of (K.rules scheme.now) secrets.now file.now) }
-    ensures canonical { OnOk result (IsCanonical (root_payload file.now)) }
-    ensures typed { OnOk result (root_is_typed file.now ≡ true) }
+    ensures { IsWritten (root_payload file.now) (root_text_of (K.rules scheme.now) secrets.now file.now)
+        (root_is_typed file.now) result }
 {
     let keys = hashed_keys(alloc, scheme, secrets)?;
     root_text_by(alloc, scheme, secrets, keys.as_slice(), file)
@@ -50,13 +49,11 @@ pub fn root_text_by<K: Scheme>(
     keys: &[HashedKey],
     file: &RootFile,
 ) -> Result<String, AllocError>
-    requires fit { IsTrue (list_all (K.rules scheme.now).secret_fits secrets.now) }
-    requires number { (1 ≤ length secrets.now) × (length secrets.now ≤ 8) }
+    requires signers { CanSeal (K.rules scheme.now) secrets.now }
     requires hashed { keys.now ≡ map (key_block (K.rules scheme.now)) secrets.now }
     requires limits { IsTrue (root_fits file.now) }
-    ensures value { IfOk result (λ t. string_bytes t ≡ root_text_of (K.rules scheme.now) secrets.now file.now) }
-    ensures canonical { OnOk result (IsCanonical (root_payload file.now)) }
-    ensures typed { OnOk result (root_is_typed file.now ≡ true) }
+    ensures { IsWritten (root_payload file.now) (root_text_of (K.rules scheme.now) secrets.now file.now)
+        (root_is_typed file.now) result }
 {
     let signed = root_signed(alloc, file)?;
     sealed_text(alloc, scheme, secrets, keys, signed)

@@ -1,8 +1,8 @@
 //! The texts of files: envelopes over payloads.
-ghost use Rattle.std.specs.Prelude.{◌≡◌, ◌≤◌, IsTrue, IfOk, length, map, string_bytes};
-ghost use Rattle.std.specs.List.{list_all};
+ghost use Rattle.std.specs.Prelude.{◌≡◌, IfOk, map, string_bytes};
 ghost use Rattle.up_sign.specs.Envelopes.{key_block, sealed};
 ghost use Rattle.up_sign.specs.Formats.{envelope_text};
+ghost use Rattle.up_roles.specs.Writing.{CanSeal};
 
 use std::alloc::{AllocError, Global};
 use up_canon::bytes::Bytes;
@@ -18,10 +18,10 @@ pub(crate) fn sealed_text<K: Scheme>(
     keys: &[HashedKey],
     signed: String,
 ) -> Result<String, AllocError>
-    requires fit { IsTrue (list_all (K.rules scheme.now).secret_fits secrets.now) }
-    requires number { (1 ≤ length secrets.now) × (length secrets.now ≤ 8) }
+    requires signers { CanSeal (K.rules scheme.now) secrets.now }
     requires hashed { keys.now ≡ map (key_block (K.rules scheme.now)) secrets.now }
-    ensures { IfOk result (λ t. string_bytes t ≡ envelope_text (sealed (K.rules scheme.now) secrets.now (string_bytes signed))) }
+    ensures { IfOk result (λ t. string_bytes t ≡ envelope_text
+        (sealed (K.rules scheme.now) secrets.now (string_bytes signed))) }
 {
     seal_by(alloc, scheme, secrets, keys, signed)?.text(alloc)
 }

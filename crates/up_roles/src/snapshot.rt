@@ -6,8 +6,9 @@ ghost use Rattle.up_canon.specs.Members.{IsFault, object_of_map};
 ghost use Rattle.up_canon.specs.Refusals.{Gives};
 ghost use Rattle.up_canon.specs.declared.refusal.Refusal.TheVariants.{TooLarge};
 ghost use Rattle.up_sign.specs.Envelopes.{key_block};
-ghost use Rattle.up_roles.specs.Payload.{largest_file, IsCanonical};
+ghost use Rattle.up_roles.specs.Payload.{largest_file};
 ghost use Rattle.up_roles.specs.Snapshot.{snapshot_meta, snapshot_payload, snapshot_text_of, snapshot_fits, snapshot_is_typed, snapshot_in, snapshot_of, snapshot_entry_in};
+ghost use Rattle.up_roles.specs.Writing.{CanSeal, IsWritten};
 
 use crate::file::{RoleFile, read_file};
 use crate::parts::{object_part, positive_part};
@@ -112,12 +113,10 @@ pub fn snapshot_text<K: Scheme>(
     secrets: &[Bytes],
     file: &SnapshotFile,
 ) -> Result<String, AllocError>
-    requires fit { IsTrue (list_all (K.rules scheme.now).secret_fits secrets.now) }
-    requires number { (1 ≤ length secrets.now) × (length secrets.now ≤ 8) }
+    requires signers { CanSeal (K.rules scheme.now) secrets.now }
     requires limits { IsTrue (snapshot_fits file.now) }
-    ensures value { IfOk result (λ t. string_bytes t ≡ snapshot_text_of (K.rules scheme.now) secrets.now file.now) }
-    ensures canonical { OnOk result (IsCanonical (snapshot_payload file.now)) }
-    ensures typed { OnOk result (snapshot_is_typed file.now ≡ true) }
+    ensures { IsWritten (snapshot_payload file.now) (snapshot_text_of (K.rules scheme.now) secrets.now file.now)
+        (snapshot_is_typed file.now) result }
 {
     let keys = hashed_keys(alloc, scheme, secrets)?;
     snapshot_text_by(alloc, scheme, secrets, keys.as_slice(), file)
@@ -131,13 +130,11 @@ pub fn snapshot_text_by<K: Scheme>(
     keys: &[HashedKey],
     file: &SnapshotFile,
 ) -> Result<String, AllocError>
-    requires fit { IsTrue (list_all (K.rules scheme.now).secret_fits secrets.now) }
-    requires number { (1 ≤ length secrets.now) × (length secrets.now ≤ 8) }
+    requires signers { CanSeal (K.rules scheme.now) secrets.now }
     requires hashed { keys.now ≡ map (key_block (K.rules scheme.now)) secrets.now }
     requires limits { IsTrue (snapshot_fits file.now) }
-    ensures value { IfOk result (λ t. string_bytes t ≡ snapshot_text_of (K.rules scheme.now) secrets.now file.now) }
-    ensures canonical { OnOk result (IsCanonical (snapshot_payload file.now)) }
-    ensures typed { OnOk result (snapshot_is_typed file.now ≡ true) }
+    ensures { IsWritten (snapshot_payload file.now) (snapshot_text_of (K.rules scheme.now) secrets.now file.now)
+        (snapshot_is_typed file.now) result }
 {
     let signed = snapshot_signed(alloc, file)?;
     sealed_text(alloc, scheme, secrets, keys, signed)
@@ -159,7 +156,8 @@ fn snapshot_signed(alloc: Global, file: &SnapshotFile) -> Result<String, AllocEr
 
 /// Appends the entry of the Targets file.
 fn push_meta(out: &mut String, file: &SnapshotFile) -> Result<(), AllocError>
-    ensures { IfOk result (λ _. string_bytes out.new ≡ string_bytes out.old ++ (codes ",\"meta\":" ++ text (snapshot_meta file.now))) }
+    ensures { IfOk result
+        (λ _. string_bytes out.new ≡ string_bytes out.old ++ (codes ",\"meta\":" ++ text (snapshot_meta file.now))) }
 {
     out.push_str(",\"meta\":{\"targets.json\":{\"version\":")?;
     push_number(out, file.targets_version)?;

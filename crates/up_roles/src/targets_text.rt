@@ -6,8 +6,9 @@ ghost use Rattle.up_canon.specs.Build.{list_with};
 ghost use Rattle.up_canon.specs.Canon.{quoted, text};
 ghost use Rattle.up_canon.specs.Names.{is_ident};
 ghost use Rattle.up_sign.specs.Envelopes.{key_block};
-ghost use Rattle.up_roles.specs.Payload.{IsCanonical, is_named};
+ghost use Rattle.up_roles.specs.Payload.{is_named};
 ghost use Rattle.up_roles.specs.Targets.{target_value, targets_payload, targets_text_of, targets_fits, target_is_typed, targets_is_typed};
+ghost use Rattle.up_roles.specs.Writing.{CanSeal, IsWritten};
 
 use crate::pieces::{push_end, push_expires, push_name, push_repository};
 use crate::sealing::sealed_text;
@@ -34,12 +35,10 @@ pub fn targets_text<K: Scheme>(
     secrets: &[Bytes],
     file: &TargetsFile,
 ) -> Result<String, AllocError>
-    requires fit { IsTrue (list_all (K.rules scheme.now).secret_fits secrets.now) }
-    requires number { (1 ≤ length secrets.now) × (length secrets.now ≤ 8) }
+    requires signers { CanSeal (K.rules scheme.now) secrets.now }
     requires limits { IsTrue (targets_fits file.now) }
-    ensures value { IfOk result (λ t. string_bytes t ≡ targets_text_of (K.rules scheme.now) secrets.now file.now) }
-    ensures canonical { OnOk result (IsCanonical (targets_payload file.now)) }
-    ensures typed { OnOk result (targets_is_typed file.now ≡ true) }
+    ensures { IsWritten (targets_payload file.now) (targets_text_of (K.rules scheme.now) secrets.now file.now)
+        (targets_is_typed file.now) result }
 {
     let keys = hashed_keys(alloc, scheme, secrets)?;
     targets_text_by(alloc, scheme, secrets, keys.as_slice(), file)
@@ -53,13 +52,11 @@ pub fn targets_text_by<K: Scheme>(
     keys: &[HashedKey],
     file: &TargetsFile,
 ) -> Result<String, AllocError>
-    requires fit { IsTrue (list_all (K.rules scheme.now).secret_fits secrets.now) }
-    requires number { (1 ≤ length secrets.now) × (length secrets.now ≤ 8) }
+    requires signers { CanSeal (K.rules scheme.now) secrets.now }
     requires hashed { keys.now ≡ map (key_block (K.rules scheme.now)) secrets.now }
     requires limits { IsTrue (targets_fits file.now) }
-    ensures value { IfOk result (λ t. string_bytes t ≡ targets_text_of (K.rules scheme.now) secrets.now file.now) }
-    ensures canonical { OnOk result (IsCanonical (targets_payload file.now)) }
-    ensures typed { OnOk result (targets_is_typed file.now ≡ true) }
+    ensures { IsWritten (targets_payload file.now) (targets_text_of (K.rules scheme.now) secrets.now file.now)
+        (targets_is_typed file.now) result }
 {
     let signed = targets_signed(alloc, file)?;
     sealed_text(alloc, scheme, secrets, keys, signed)
@@ -84,7 +81,8 @@ fn targets_signed(alloc: Global, file: &TargetsFile) -> Result<String, AllocErro
 
 /// Appends the list of the targets.
 fn push_targets(alloc: Global, out: &mut String, targets: &[Target]) -> Result<(), AllocError>
-    ensures value { IfOk result (λ _. string_bytes out.new ≡ string_bytes out.old ++ text (list_with (map target_value targets.now))) }
+    ensures value { IfOk result
+        (λ _. string_bytes out.new ≡ string_bytes out.old ++ text (list_with (map target_value targets.now))) }
     ensures typed { OnOk result (list_all target_is_typed targets.now ≡ true) }
 {
     out.push('[')?;
@@ -137,7 +135,8 @@ fn push_ecu(out: &mut String, ecu: &Option<Ident>) -> Result<(), AllocError>
 
 /// Appends the list of the names.
 fn push_names(out: &mut String, names: &[Ident]) -> Result<(), AllocError>
-    ensures value { IfOk result (λ _. string_bytes out.new ≡ string_bytes out.old ++ text (list_with (map string names.now))) }
+    ensures value { IfOk result
+        (λ _. string_bytes out.new ≡ string_bytes out.old ++ text (list_with (map string names.now))) }
     ensures typed { OnOk result (list_all is_ident names.now ≡ true) }
 {
     out.push('[')?;

@@ -7,8 +7,9 @@ ghost use Rattle.up_canon.specs.Members.{IsFault, object_of_map};
 ghost use Rattle.up_canon.specs.Refusals.{Gives};
 ghost use Rattle.up_canon.specs.declared.refusal.Refusal.TheVariants.{TooLarge};
 ghost use Rattle.up_sign.specs.Envelopes.{key_block};
-ghost use Rattle.up_roles.specs.Payload.{largest_file, IsCanonical};
+ghost use Rattle.up_roles.specs.Payload.{largest_file};
 ghost use Rattle.up_roles.specs.Timestamp.{timestamp_meta, timestamp_payload, timestamp_text_of, timestamp_fits, timestamp_is_typed, timestamp_in, timestamp_of, timestamp_entry_in};
+ghost use Rattle.up_roles.specs.Writing.{CanSeal, IsWritten};
 
 use crate::file::{RoleFile, read_file};
 use crate::parts::{object_part, positive_part, sha256_part};
@@ -116,12 +117,10 @@ pub fn timestamp_text<K: Scheme>(
     secrets: &[Bytes],
     file: &TimestampFile,
 ) -> Result<String, AllocError>
-    requires fit { IsTrue (list_all (K.rules scheme.now).secret_fits secrets.now) }
-    requires number { (1 ≤ length secrets.now) × (length secrets.now ≤ 8) }
+    requires signers { CanSeal (K.rules scheme.now) secrets.now }
     requires limits { IsTrue (timestamp_fits file.now) }
-    ensures value { IfOk result (λ t. string_bytes t ≡ timestamp_text_of (K.rules scheme.now) secrets.now file.now) }
-    ensures canonical { OnOk result (IsCanonical (timestamp_payload file.now)) }
-    ensures typed { OnOk result (timestamp_is_typed file.now ≡ true) }
+    ensures { IsWritten (timestamp_payload file.now) (timestamp_text_of (K.rules scheme.now) secrets.now file.now)
+        (timestamp_is_typed file.now) result }
 {
     let keys = hashed_keys(alloc, scheme, secrets)?;
     timestamp_text_by(alloc, scheme, secrets, keys.as_slice(), file)
@@ -135,13 +134,11 @@ pub fn timestamp_text_by<K: Scheme>(
     keys: &[HashedKey],
     file: &TimestampFile,
 ) -> Result<String, AllocError>
-    requires fit { IsTrue (list_all (K.rules scheme.now).secret_fits secrets.now) }
-    requires number { (1 ≤ length secrets.now) × (length secrets.now ≤ 8) }
+    requires signers { CanSeal (K.rules scheme.now) secrets.now }
     requires hashed { keys.now ≡ map (key_block (K.rules scheme.now)) secrets.now }
     requires limits { IsTrue (timestamp_fits file.now) }
-    ensures value { IfOk result (λ t. string_bytes t ≡ timestamp_text_of (K.rules scheme.now) secrets.now file.now) }
-    ensures canonical { OnOk result (IsCanonical (timestamp_payload file.now)) }
-    ensures typed { OnOk result (timestamp_is_typed file.now ≡ true) }
+    ensures { IsWritten (timestamp_payload file.now) (timestamp_text_of (K.rules scheme.now) secrets.now file.now)
+        (timestamp_is_typed file.now) result }
 {
     let signed = timestamp_signed(alloc, file)?;
     sealed_text(alloc, scheme, secrets, keys, signed)
@@ -163,7 +160,8 @@ fn timestamp_signed(alloc: Global, file: &TimestampFile) -> Result<String, Alloc
 
 /// Appends the entry of the Snapshot file.
 fn push_meta(alloc: Global, out: &mut String, file: &TimestampFile) -> Result<(), AllocError>
-    ensures value { IfOk result (λ _. string_bytes out.new ≡ string_bytes out.old ++ (codes ",\"meta\":" ++ text (timestamp_meta file.now))) }
+    ensures value { IfOk result
+        (λ _. string_bytes out.new ≡ string_bytes out.old ++ (codes ",\"meta\":" ++ text (timestamp_meta file.now))) }
     ensures typed { OnOk result (is_hash file.now.snapshot_sha256 ≡ true) }
 {
     out.push_str(",\"meta\":{\"snapshot.json\":{\"hashes\":")?;

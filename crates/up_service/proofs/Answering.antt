@@ -1,7 +1,6 @@
 -- What a line or a request is answered where memory or the database may refuse.
-use Rattle.std.proofs.Common.{◌≡◌, inl, inr, ℕ, List, Bool, true, false, Option, Result, Ok, Err, Some, refl, sym, subst, ap, ◌∙◌, arith}
+use Rattle.std.proofs.Common.{◌≡◌, inl, inr, ℕ, List, Bool, true, false, Result, Ok, Err, Some, refl, sym, subst, ap, ◌∙◌, arith}
 use Rattle.std.specs.Prelude.{◌⊎◌, ⊤, IsTrue, MatchBool, OnErr}
-use Rattle.sqlite.specs.Effect.{Database}
 use Rattle.sqlite.specs.Tree.{Trees}
 use Rattle.sqlite_trees.specs.declared.store.Store.{Ghosts}
 use Rattle.up_canon.specs.Names.{Name}
@@ -16,16 +15,19 @@ use Rattle.up_machine.specs.Deciding.{Outcome}
 use Rattle.up_machine.specs.Repeats.{serve}
 use Rattle.up_machine.specs.Sound.{IsSound}
 use Rattle.up_machine.specs.State.{State}
-use Rattle.up_desk.specs.Serving.{Becomes, is_fault, is_failed, DiskFailed, IsCommit}
-use Rattle.up_desk.specs.Standing.{DeskView, Standing, HasCleanDisk, IfClean, KeepsState, Survives, state}
+use Rattle.up_desk.specs.Serving.{is_failed, IsCommit}
+use Rattle.up_records.specs.Connected.{is_fault}
+use Rattle.up_records.specs.Reads.{DiskFailed}
+use Rattle.up_records.specs.Standing.{Standing, HasCleanDisk, IfClean, ShowsState, Survives, state}
+use Rattle.up_desk.specs.Desks.{DeskView}
 use Rattle.up_script.specs.AskedLines.{asked_in}
 use Rattle.up_script.specs.declared.asked.Asked.{Asked}
 use Rattle.up_script.specs.declared.asked.What.{What}
 use Rattle.up_script.specs.declared.asked.What.TheVariants.{Call, Show}
 use Rattle.up_script.specs.PrintedLines.{answer_text, refused_text}
 use Rattle.up_heads.specs.Responses.{refusal_response_of}
-use Rattle.up_service.specs.Answers.{answered_as, HoldsNext, IsCommitted, IsAnswerOrFailed, IsMadeOrFailed, AnswersAs}
-use Rattle.up_service.specs.Desks.{IsCalled}
+use Rattle.up_service.specs.Answers.{answered_as, HoldsNext, IsCommitted, IsAnswerOrFailed, AnswersAs}
+use Rattle.up_desk.specs.Calls.{IsCalled}
 use Rattle.up_service.specs.LineAnswers.{line_answer, answer_to, carried_out, command_answer, viewed, shown_in, shown_text, AnswersLine, IsViewText, IsTextOf, IsReadAs, Prints, Lines}
 use Rattle.up_service.specs.Responses.{answer_response, AnswersCall}
 use Rattle.up_service.proofs.Showing.{Sees}
@@ -66,21 +68,6 @@ store_answered tell tell_answer same apart true (Reply r) old new o is h other t
 store_answered tell tell_answer same apart true (File f) old new o is h other told = absurd (cc)
 store_answered tell tell_answer same apart true (Refused r) old new o is h other told = ap Refused (store_of tell r apart is (sym (same r) ∙ told))
 
--- what a call made of the database is what its text tells
-made_by_loss : (tell : Refusal → List ℕ) (tell_answer : Answer → List ℕ) → ((r : Refusal) → tell_answer (Refused r) ≡ tell r) → (k : Rules) (lost : Bool) (a : Answer) (old new : State) (o : Outcome) (limit : Option ℕ) (db after : Database)
-    → is_failed a ≡ lost → MatchBool lost (new ≡ old) ((a ≡ o.answer) × (new ≡ o.next)) → Becomes k old a o.next limit db after
-    → IsMadeOrFailed tell k old (record { text = tell_answer o.answer; called = Some o.answer; next = o.next }) (tell_answer a) limit db after
-made_by_loss tell tell_answer same k false a old new o limit db after is h made = inl (ap tell_answer h.0, subst (λ b. Becomes k old b o.next limit db after) h.0 made)
-made_by_loss tell tell_answer same k true a old new o limit db after is h made = inr (failed_answer tell tell_answer same a (tell_answer a) is refl, stays a is made)
-  where
-    stays : (a : Answer) → is_failed a ≡ true → Becomes k old a o.next limit db after → after ≡ db
-    stays (Refused r) is (inl made) = absurd made.0
-    stays (Refused r) is (inr made) = made.1
-    stays Done is made = cc
-    stays Already is made = cc
-    stays (Reply r) is made = cc
-    stays (File f) is made = cc
-
 -- what is told of what the desk answered a command
 called : (tell : Refusal → List ℕ) (tell_answer : Answer → List ℕ) → ((r : Refusal) → tell_answer (Refused r) ≡ tell r) → AreApart tell tell_answer → TellsApart tell
     → (k : Rules) (at : ℕ) (c : Command) (a : Answer) (t : List ℕ) (old new : Standing) → IsCalled k at c a old new
@@ -97,10 +84,6 @@ called tell tell_answer same apart faults_apart k at c a t old new it is = recor
       it.blame now
       (store_answered tell tell_answer same faults_apart (is_failed a) a s to.0 (serve k s at c) refl to.1 (λ due. other (is ∙ due)) (sym is ∙ store))
       s sound was;
-  made = λ now s sound was still.
-      let to = it.served now s sound was in
-      subst (λ text. IsMadeOrFailed tell k s (answered_as tell_answer k s at c) text old.connection.step_limit old.connection.now new.connection.now) (sym is)
-      (made_by_loss tell tell_answer same k (is_failed a) a s to.0 (serve k s at c) old.connection.step_limit old.connection.now new.connection.now refl to.1 (it.made now s sound was still));
 }
 
 -- as a line
@@ -146,7 +129,6 @@ refused_line rules g line r t desk read is = (
     crash = λ q sound was. survives_same (HoldsNext k (answer_to k q (asked_in k line)).called (answer_to k q (asked_in k line)).next) (state g desk.store);
     durable = λ q sound was told commit. absurd (not_durable q (is_memory r) refl read.0 told commit);
     blame = λ now q sound was other store. absurd (not_blamed q (is_memory r) refl read.0 other store);
-    made = λ now q sound was still. made_by q (is_memory r) refl read.0 (state g desk.store).connection.step_limit (state g desk.store).connection.now;
   },
 )
   where
@@ -156,10 +138,6 @@ refused_line rules g line r t desk read is = (
     answer_by : (q : State) (b : Bool) → is_memory r ≡ b → MatchBool b ⊤ (asked_in k line ≡ Err r) → IsAnswerOrFailed refused_text (answer_to k q (asked_in k line)) q t q
     answer_by q true same due = inr (inl (is ∙ ap refused_text (memory_by r same)), refl)
     answer_by q false same due = inl (is ∙ sym (ap (λ a. (answer_to k q a).text) due), sym (ap (λ a. (answer_to k q a).next) due))
-
-    made_by : (q : State) (b : Bool) → is_memory r ≡ b → MatchBool b ⊤ (asked_in k line ≡ Err r) → (limit : Option ℕ) (db : Database) → IsMadeOrFailed refused_text k q (answer_to k q (asked_in k line)) t limit db db
-    made_by q true same due limit db = inr (inl (is ∙ ap refused_text (memory_by r same)), refl)
-    made_by q false same due limit db = subst (λ a. IsMadeOrFailed refused_text k q (answer_to k q a) t limit db db) (sym due) (inl (is, refl))
 
     not_durable : (q : State) (b : Bool) → is_memory r ≡ b → MatchBool b ⊤ (asked_in k line ≡ Err r) → t ≡ (answer_to k q (asked_in k line)).text
         → IsCommitted q (answer_to k q (asked_in k line)).called (answer_to k q (asked_in k line)).next → ⊥
@@ -193,11 +171,10 @@ told_view k vehicle t old new sees = record {
   crash = λ s sound was. sees.crash;
   durable = λ s sound was told commit. absurd commit;
   blame = λ now s sound was other store. absurd (other (sym (ap shown_text (sees.seen now k s sound was).0)));
-  made = λ now s sound was still. let it = sees.seen now k s sound was in inl (sym (ap shown_text it.0), (it.2 still).1);
 }
 
 pub told_refusal : (k : Rules) (vehicle : Name) (r : Refusal) (t : List ℕ) (old new : Standing) → Sees (λ s. MatchBool (is_fault r) ⊤ (shown_in s vehicle ≡ Err r)) old new → t ≡ refused_text r
-    → (r ≡ Store → HasCleanDisk new → (s : State) → IsSound k s → IfClean (KeepsState k s) old → DiskFailed old.connection new.connection)
+    → (r ≡ Store → HasCleanDisk new → (s : State) → IsSound k s → IfClean (ShowsState k s) old → DiskFailed old new)
     → AnswersLine (λ s. viewed s vehicle) k t old new
 told_refusal k vehicle r t old new sees is blame = record {
   clean = sees.clean;
@@ -205,18 +182,11 @@ told_refusal k vehicle r t old new sees is blame = record {
   crash = λ s sound was. sees.crash;
   durable = λ s sound was told commit. absurd commit;
   blame = λ now s sound was other store. blame (store_by s (is_fault r) refl (sees.seen now k s sound was).0 other store) now s sound was;
-  made = λ now s sound was still.
-      let it = sees.seen now k s sound was in
-      made_by s (is_fault r) refl it.0 old.connection.step_limit old.connection.now new.connection.now (it.2 still).1;
 }
   where
     by_loss_of : (s : State) (b : Bool) → is_fault r ≡ b → MatchBool b ⊤ (shown_in s vehicle ≡ Err r) → IsAnswerOrFailed refused_text (viewed s vehicle) s t s
     by_loss_of s true same due = inr (failed_refusal refused_text r t same is, refl)
     by_loss_of s false same due = inl (is ∙ sym (ap shown_text due), refl)
-
-    made_by : (s : State) (b : Bool) → is_fault r ≡ b → MatchBool b ⊤ (shown_in s vehicle ≡ Err r) → (limit : Option ℕ) (db after : Database) → after ≡ db → IsMadeOrFailed refused_text k s (viewed s vehicle) t limit db after
-    made_by s true same due limit db after stays = inr (failed_refusal refused_text r t same is, stays)
-    made_by s false same due limit db after stays = inl (is ∙ sym (ap shown_text due), stays)
 
     store_by : (s : State) (b : Bool) → is_fault r ≡ b → MatchBool b ⊤ (shown_in s vehicle ≡ Err r) → (t ≡ shown_text (shown_in s vehicle) → ⊥) → t ≡ refused_text Store → r ≡ Store
     store_by s true same due other store = store_of refused_text r lines_tell_apart same (sym is ∙ store)

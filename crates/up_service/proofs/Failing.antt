@@ -8,7 +8,8 @@ use Rattle.up_machine.specs.declared.answer.Answer.{Answer}
 use Rattle.up_machine.specs.declared.answer.Answer.TheVariants.{Done, Already, Reply as Replied, File, Refused}
 use Rattle.up_machine.specs.declared.answer.Reply.{Reply}
 use Rattle.up_machine.specs.State.{State}
-use Rattle.up_desk.specs.Serving.{is_fault, is_failed, IsCommit}
+use Rattle.up_desk.specs.Serving.{is_failed, IsCommit}
+use Rattle.up_records.specs.Connected.{is_fault}
 use Rattle.up_script.specs.PrintedLines.{answer_text, refused_text}
 use Rattle.up_heads.specs.Responses.{response_of, error_body, refusal_response_of}
 use Rattle.up_service.specs.Answers.{IsFailed}

@@ -1,25 +1,21 @@
 -- What a whole run comes to, item by item.
 use Rattle.std.proofs.Common.{◌≡◌, inl, inr, ℕ, zero, suc, List, [], ◌∷◌, ◌++◌, Bool, true, false, Option, Some, None, length, length-append, refl, sym, subst, ap, ◌∙◌, arith}
-use Rattle.std.specs.Prelude.{◌⊎◌, ◌||◌, IsTrue, MatchBool, if◌then◌else◌, bytes_eq}
+use Rattle.std.specs.Prelude.{◌⊎◌, ◌||◌, IsTrue, if◌then◌else◌, bytes_eq}
 use Rattle.std.specs.Cmp.Lexicographic.{bytes_decides}
-use Rattle.sqlite_disk.specs.Disk.{MoreFaults}
 use Rattle.sqlite_trees.specs.View.{doubt}
-use Rattle.sqlite.specs.Effect.{Database}
 use Rattle.sqlite.specs.Tree.{Trees}
 use Rattle.sqlite_trees.specs.declared.store.Store.{Ghosts}
 use Rattle.sqlite.proofs.StateLemmas.{survives_then}
 use Rattle.up_canon.specs.declared.refusal.Refusal.TheVariants.{Memory, Store}
-use Rattle.up_sign.specs.Schemes.{Rules}
-use Rattle.up_machine.specs.declared.answer.Answer.{Answer}
-use Rattle.up_machine.specs.Deciding.{Outcome}
 use Rattle.up_machine.specs.Sound.{IsSound}
 use Rattle.up_machine.specs.State.{State}
-use Rattle.up_desk.specs.Serving.{HoldsState, RefusesOutcome}
-use Rattle.up_desk.specs.Standing.{DeskView, Standing, HasCleanDisk, IfClean, KeepsState, Survives, LeavesOnly, state}
+use Rattle.up_records.specs.Standing.{HoldsState}
+use Rattle.up_records.specs.Standing.{Standing, HasCleanDisk, IfClean, ShowsState, Survives, LeavesOnly, state}
+use Rattle.up_desk.specs.Desks.{DeskView}
 use Rattle.up_lines.specs.Runs.{Run, Breaks}
 use Rattle.up_lines.specs.declared.fault.ScriptCause.{ScriptCause}
-use Rattle.up_service.specs.Answers.{Answered, BecomesFor, IsBlamedFor, IsCommitted, IsFailed, IsAnswerOrFailed, IsMadeOrFailed, RefusesFor, AnswersAs}
-use Rattle.up_service.specs.Runs.{Service, Told, told, tells_fault, behind, after, AreDue, AreBlamed, BecomesBy, IsBehind, HoldsMade, HoldsSome, IsAnsweredCommit, Lasts, HandsOn, RunsLast}
+use Rattle.up_service.specs.Answers.{Answered, IsCommitted, IsFailed, IsAnswerOrFailed, AnswersAs}
+use Rattle.up_service.specs.Runs.{Service, Told, told, tells_fault, behind, after, AreDue, IsBehind, HoldsMade, HoldsSome, IsAnsweredCommit, Lasts, HandsOn, RunsLast}
 use Rattle.up_service.proofs.Answering.{survives_same}
 
 -- ---- one item
@@ -62,10 +58,10 @@ behind_is v calm s next m (inr failed) = failed.1 ∙ sym (ap (λ b. if b then s
 record Between {I : Type 0} (v : Service I) (s : State) (m : Told I) (mid : Standing) : Type 0 where
   at : State
   sound : IsSound v.rules at
-  shown : IfClean (KeepsState v.rules at) mid
+  shown : IfClean (ShowsState v.rules at) mid
   here : HasCleanDisk mid → at ≡ behind v s m
 
-between : {I : Type 0} (v : Service I) → FaultsChangeNothing v → (s : State) (m : Told I) (old mid : Standing) → Answers v m.item m.text old mid → IsSound v.rules s → IfClean (KeepsState v.rules s) old
+between : {I : Type 0} (v : Service I) → FaultsChangeNothing v → (s : State) (m : Told I) (old mid : Standing) → Answers v m.item m.text old mid → IsSound v.rules s → IfClean (ShowsState v.rules s) old
     → Between v s m mid
 between v calm s m old mid step sound was = by_disk (doubt mid.connection.is_clean) refl
   where
@@ -75,81 +71,27 @@ between v calm s m old mid step sound was = by_disk (doubt mid.connection.is_cle
         record { at = it.0; sound = it.2; shown = λ _. it.3; here = λ _. behind_is v calm s it.0 m it.1 }
     by_disk (suc d) other = record { at = s; sound = sound; shown = λ now. absurd (omega (arith, now, other)); here = λ now. absurd (omega (arith, now, other)) }
 
--- ---- what an item makes of the database
-
-stays_for : (k : Rules) (s next : State) (called : Option Answer) (limit : Option ℕ) (db now : Database) → (IsCommitted s called next → ⊥) → BecomesFor k s called next limit db now → now ≡ db
-stays_for k s next None limit db now none made = made
-stays_for k s next (Some answer) limit db now none (inl made) = absurd (none made.0)
-stays_for k s next (Some answer) limit db now none (inr made) = made.1
-
-becomes_by : {I : Type 0} (v : Service I) → FaultsChangeNothing v → (s : State) (m : Told I) (db now : Database) → IsMadeOrFailed (v.tell m.item) v.rules s (v.answer s m.item) m.text None db now → BecomesBy v s m db now
-becomes_by v calm s m db now (inl told) = by_fault (tells_fault v m) refl
-  where
-    by_fault : (b : Bool) → tells_fault v m ≡ b → MatchBool b (now ≡ db) (BecomesFor v.rules s (v.answer s m.item).called (v.answer s m.item).next None db now)
-    by_fault true same =
-        stays_for v.rules s (v.answer s m.item).next (v.answer s m.item).called None db now
-        (calm s m.item (subst (λ t. tells_fault v (record { item = m.item; text = t }) ≡ true) told.0 same)).1 told.1
-    by_fault false same = told.1
-becomes_by v calm s m db now (inr failed) =
-    subst (λ b. MatchBool b (now ≡ db) (BecomesFor v.rules s (v.answer s m.item).called (v.answer s m.item).next None db now)) (sym (failed_tells v m failed.0)) failed.1
-
--- where the disk counted no fault, the database refuses what the item comes to
-refuses_for : (k : Rules) (s next : State) (called : Option Answer) (old new : Standing) → IsTrue old.connection.is_open → old.connection.step_limit ≡ None
-    → (MoreFaults old.connection.faults new.connection.faults → ⊥) → IsBlamedFor k s old new called next → RefusesFor k s called next None old.connection.now
-refuses_for k s next None old new is_open unlimited fewer blamed = absurd (fewer (blamed is_open unlimited))
-refuses_for k s next (Some answer) old new is_open unlimited fewer blamed = by_cause (blamed is_open unlimited)
-  where
-    o : Outcome
-    o = record { answer = answer; next = next }
-
-    by_cause : MoreFaults old.connection.faults new.connection.faults ⊎ RefusesOutcome k s old.connection.step_limit old.connection.now o → RefusesOutcome k s None old.connection.now o
-    by_cause (inl more) = absurd (fewer more)
-    by_cause (inr refuses) = subst (λ (limit : Option ℕ). RefusesOutcome k s limit old.connection.now o) unlimited refuses
-
--- where the disk counted no fault, the connection stays open
-still_open : {P : Trees → Type 0} (old new : Standing) → Survives old new P → HasCleanDisk new → IsTrue old.connection.is_open → (MoreFaults old.connection.faults new.connection.faults → ⊥) → IsTrue new.connection.is_open
-still_open old new it clean is_open fewer = by_fault (it.closes clean is_open)
-  where
-    by_fault : IsTrue new.connection.is_open ⊎ MoreFaults old.connection.faults new.connection.faults → IsTrue new.connection.is_open
-    by_fault (inl still) = still
-    by_fault (inr more) = absurd (fewer more)
-
--- what was made of the database on a connection with no limit
-made_unlimited : {I : Type 0} (v : Service I) (s : State) (item : I) (text : List ℕ) (old new : Standing) → Answers v item text old new → IsSound v.rules s → IfClean (KeepsState v.rules s) old → HasCleanDisk new
-    → IsTrue old.connection.is_open → old.connection.step_limit ≡ None → (MoreFaults old.connection.faults new.connection.faults → ⊥)
-    → IsMadeOrFailed (v.tell item) v.rules s (v.answer s item) text None old.connection.now new.connection.now
-made_unlimited v s item text old new step sound was clean is_open unlimited fewer =
-    subst (λ (limit : Option ℕ). IsMadeOrFailed (v.tell item) v.rules s (v.answer s item) text limit old.connection.now new.connection.now) unlimited
-    (step.made clean s sound was (still_open old new (step.crash s sound was) clean is_open fewer))
-
 -- ---- runs
 
 -- nothing was handed on
-lasts_none : {I : Type 0} (v : Service I) (s : State) (now : Standing) → IsSound v.rules s → IfClean (KeepsState v.rules s) now → Lasts v s [] None now now
+lasts_none : {I : Type 0} (v : Service I) (s : State) (now : Standing) → IsSound v.rules s → IfClean (ShowsState v.rules s) now → Lasts v s [] None now now
 lasts_none v s now sound was = record {
   due = λ clean. tt;
   shown = λ clean. (s, refl, sound, was clean);
   crash = survives_same (HoldsSome v s [] None) now;
   durable = λ before rest m made. absurd (omega (arith, ap length made.list, length-append before (m ∷ rest)));
-  blame = λ clean is_open unlimited fewer. ((was clean).tables.here is_open, refl);
 }
 
 -- an item for which no text was written whole
-lasts_last : {I : Type 0} (v : Service I) (s : State) (item : I) (text : List ℕ) (old new : Standing) → Answers v item text old new → IsSound v.rules s → IfClean (KeepsState v.rules s) old
+lasts_last : {I : Type 0} (v : Service I) (s : State) (item : I) (text : List ℕ) (old new : Standing) → Answers v item text old new → IsSound v.rules s → IfClean (ShowsState v.rules s) old
     → Lasts v s [] (Some item) old new
 lasts_last v s item text old new step sound was = record {
   due = λ clean. tt;
   shown = λ clean. let it = step.answered clean s sound was in (it.0, by_answer it.0 it.1, it.2, it.3);
   crash = step.crash s sound was;
   durable = λ before rest m made. absurd (omega (arith, ap length made.list, length-append before (m ∷ rest)));
-  blame = λ clean is_open unlimited fewer. ((was (step.clean clean)).tables.here is_open, by_made (made_unlimited v s item text old new step sound was clean is_open unlimited fewer));
 }
   where
-    by_made : IsMadeOrFailed (v.tell item) v.rules s (v.answer s item) text None old.connection.now new.connection.now
-        → (new.connection.now ≡ old.connection.now) ⊎ BecomesFor v.rules s (v.answer s item).called (v.answer s item).next None old.connection.now new.connection.now
-    by_made (inl told) = inr told.1
-    by_made (inr failed) = inl failed.1
-
     by_answer : (next : State) → IsAnswerOrFailed (v.tell item) (v.answer s item) s text next → IsBehind v s (Some item) next
     by_answer next (inl told) = inr told.1
     by_answer next (inr failed) = inl failed.1
@@ -160,7 +102,7 @@ shifted v s t ms next trees same h = subst (λ q. HoldsSome v q ms next trees) s
 
 -- a commit that was answered, and what follows it
 commit_stays : {I : Type 0} (v : Service I) → FaultsChangeNothing v → (s : State) (m : Told I) (rest : List (Told I)) (next : Option I) (old mid new : Standing) → Answers v m.item m.text old mid
-    → IsSound v.rules s → IfClean (KeepsState v.rules s) old → tells_fault v m ≡ false → IsCommitted s (v.answer s m.item).called (v.answer s m.item).next
+    → IsSound v.rules s → IfClean (ShowsState v.rules s) old → tells_fault v m ≡ false → IsCommitted s (v.answer s m.item).called (v.answer s m.item).next
     → Survives mid new (HoldsSome v (behind v s m) rest next) → HasCleanDisk mid → HasCleanDisk new
     → LeavesOnly (λ trees. HoldsState v.rules (behind v s m) trees ⊎ HoldsSome v (behind v s m) rest next trees) new
 commit_stays v calm s m rest next old mid new step sound was answered commit after clean now = by_answer (step.answered clean s sound was).1
@@ -179,15 +121,14 @@ commit_stays v calm s m rest next old mid new step sound was answered commit aft
 
 -- an item, and those that follow
 lasts_next : {I : Type 0} (v : Service I) → FaultsChangeNothing v → (s : State) (m : Told I) (ms : List (Told I)) (next : Option I) (old mid new : Standing) → Answers v m.item m.text old mid
-    → ((t : State) → IsSound v.rules t → IfClean (KeepsState v.rules t) mid → Lasts v t ms next mid new)
-    → IsSound v.rules s → IfClean (KeepsState v.rules s) old → Lasts v s (m ∷ ms) next old new
+    → ((t : State) → IsSound v.rules t → IfClean (ShowsState v.rules t) mid → Lasts v t ms next mid new)
+    → IsSound v.rules s → IfClean (ShowsState v.rules s) old → Lasts v s (m ∷ ms) next old new
 lasts_next {I} v calm s m ms next old mid new step rest sound was = record {
   due = λ now. (due v s (step.answered (clean now) s sound was).0 m (step.answered (clean now) s sound was).1, subst (λ t. AreDue v t ms) (b.here (clean now)) (it.due now));
   shown = λ now. let at = it.shown now in (at.0, subst (λ t. IsBehind v (after v t ms) next at.0) (b.here (clean now)) at.1, at.2, at.3);
   crash = survives_then old.connection mid.connection new.connection (HoldsMade v s m.item) (HoldsSome v b.at ms next) (HoldsSome v s (m ∷ ms) next)
       (λ now trees made. inl made) (λ now trees made. inr (shifted v b.at (behind v s m) ms next trees (b.here (clean now)) made)) (step.crash s sound was) it.crash;
   durable = stays;
-  blame = blamed;
 }
   where
     b : Between v s m mid
@@ -198,23 +139,6 @@ lasts_next {I} v calm s m ms next old mid new step rest sound was = record {
 
     clean : HasCleanDisk new → HasCleanDisk mid
     clean now = let before : HasCleanDisk mid = omega (arith, it.crash.clean, now) in before
-
-    blamed : HasCleanDisk new → IsTrue old.connection.is_open → old.connection.step_limit ≡ None → (MoreFaults old.connection.faults new.connection.faults → ⊥)
-        → AreBlamed v s old.connection.now (m ∷ ms) next new.connection.now
-    blamed now is_open unlimited fewer =
-        let first = step.crash s sound was in
-        let none : MoreFaults old.connection.faults mid.connection.faults → ⊥ = λ more. fewer (omega (arith, it.crash.counts, more)) in
-        let later : MoreFaults mid.connection.faults new.connection.faults → ⊥ = λ more. fewer (omega (arith, first.counts, more)) in
-        let a = v.answer s m.item in (
-          (was (step.clean (clean now))).tables.here is_open,
-          λ told. refuses_for v.rules s a.next a.called old mid is_open unlimited none (step.blame (clean now) s sound was told.0 told.1),
-          (
-            mid.connection.now,
-            becomes_by v calm s m old.connection.now mid.connection.now (made_unlimited v s m.item m.text old mid step sound was (clean now) is_open unlimited none),
-            subst (λ t. AreBlamed v t mid.connection.now ms next new.connection.now) (b.here (clean now))
-                (it.blame now (still_open old mid first (clean now) is_open none) (first.limit ∙ unlimited) later),
-          ),
-        )
 
     stays : (before after_it : List (Told I)) (n : Told I) → IsAnsweredCommit v s (m ∷ ms) before after_it n
         → IfClean (LeavesOnly (λ trees. HoldsState v.rules (behind v (after v s before) n) trees ⊎ HoldsSome v (behind v (after v s before) n) after_it next trees)) new
@@ -248,7 +172,7 @@ Ends v g None old new = new ≡ old
 Ends v g (Some item) old new = (text : List ℕ) × AnswersBy v g old item text new
 
 lasts_run : {K D I : Type 0} (v : Service I) → FaultsChangeNothing v → (g : Ghosts D) (items : List I) (texts : List (List ℕ)) (next : Option I) (old last new : DeskView K D)
-    → Run (AnswersBy v g) old items texts last → Ends v g next last new → (s : State) → IsSound v.rules s → IfClean (KeepsState v.rules s) (state g old.store)
+    → Run (AnswersBy v g) old items texts last → Ends v g next last new → (s : State) → IsSound v.rules s → IfClean (ShowsState v.rules s) (state g old.store)
     → Lasts v s (told items texts) next (state g old.store) (state g new.store)
 lasts_run v calm g [] [] None old last new run ends s sound was =
     subst (λ d. Lasts v s [] None (state g old.store) (state g d.store)) (sym (ends ∙ run)) (lasts_none v s (state g old.store) sound was)

@@ -18,19 +18,20 @@ use Rattle.up_script.specs.declared.asked.Asked.{Asked}
 use Rattle.up_script.specs.declared.asked.What.{What}
 use Rattle.up_script.specs.declared.asked.What.TheVariants.{Call, Show}
 use Rattle.up_heads.specs.Responses.{check_response_of, refusal_response_of}
-use Rattle.up_http.specs.Serving.{RanRequests, FinishedRequests, Stopped, cause_of, plain}
+use Rattle.up_http.specs.Serving.{RanRequests, RunsRequests, FinishedRequests, Stopped, cause_of, plain}
 use Rattle.up_http.specs.Serving as serving
 use Rattle.up_http.specs.declared.asked.What.{What as Requested}
 use Rattle.up_http.specs.declared.asked.What.TheVariants.{Call as Request, Fixed}
 use Rattle.up_http.specs.declared.fault.ServeFault.{ServeFault}
 use Rattle.up_http.specs.declared.served.Served.{Served}
-use Rattle.up_lines.specs.LineRuns.{RanLines, FinishedLines, Stopped as StoppedLines, print}
+use Rattle.up_lines.specs.LineRuns.{RanLines, RunsLines, FinishedLines, Stopped as StoppedLines, print}
 use Rattle.up_lines.specs.Lines as lines
 use Rattle.up_lines.specs.LineRuns as line_runs
 use Rattle.up_lines.specs.Runs.{At, LastRead}
 use Rattle.up_lines.specs.declared.fault.ScriptFault.{ScriptFault}
-use Rattle.up_desk.specs.Serving.{is_fault}
-use Rattle.up_desk.specs.Standing.{DeskView, Standing, state}
+use Rattle.up_records.specs.Connected.{is_fault}
+use Rattle.up_records.specs.Standing.{Standing, state}
+use Rattle.up_desk.specs.Desks.{DeskView}
 use Rattle.up_service.specs.Answers.{answered_as, AnswersAs, HoldsNext}
 use Rattle.up_service.specs.LineAnswers.{Lines, line_answer, answer_to, carried_out}
 use Rattle.up_service.specs.Responses.{Responses, IsResponseTo, answer_response}
@@ -102,7 +103,6 @@ fixed_answers tell k fixed text now is = record {
   crash = λ s sound was. survives_same (HoldsNext k None s) now;
   durable = λ s sound was same commit. absurd commit;
   blame = λ clean s sound was other same. absurd (other is);
-  made = λ clean s sound was still. inl (is, refl);
 }
 
 requests_serve : {K D : Type 0} (rules : K → Rules) (g : Ghosts D) (at : ℕ) → Serves (λ q. request_service (rules q) at) g (Responses rules g at)
@@ -124,7 +124,7 @@ requests_serve {K} {D} rules g at old new next text h = by_what next.what h
 pub lines_last : {K D : Type 0} → RefusalsChangeNothing → (rules : K → Rules) (g : Ghosts D) → LinesLast rules g
 lines_last law rules g = runs_last (λ q. line_service (rules q)) g (Lines rules g) (λ q. lines_calm law (rules q)) (lines_serve rules g)
 
-pub script_lasts : {K D : Type 0} (rules : K → Rules) (g : Ghosts D) → LinesLast rules g → (had has : Option (List ℕ)) (first now : At (DeskView K D)) (result : Result ℕ ScriptFault)
+script_lasts : {K D : Type 0} (rules : K → Rules) (g : Ghosts D) → LinesLast rules g → (had has : Option (List ℕ)) (first now : At (DeskView K D)) (result : Result ℕ ScriptFault)
     → RanLines (Lines rules g) had has first now result → ScriptLasts rules g had has first now result
 script_lasts rules g law had has first now result ran = record {
   came = ran.came;
@@ -148,12 +148,16 @@ script_lasts rules g law had has first now result ran = record {
     by_result (Ok answered) h = (h.0, finished answered h.1)
     by_result (Err fault) h = stopped fault h.0
 
+pub runs_script : {K D : Type 0} (rules : K → Rules) (g : Ghosts D) → LinesLast rules g → (had has : Option (List ℕ)) (first now : At (DeskView K D)) (result : Result ℕ ScriptFault)
+    → RunsLines (Lines rules g) had has first now result → script.RunsScript rules g had has first now result
+runs_script rules g law had has first now result runs = record { lines = runs; lasts = script_lasts rules g law had has first now result runs.ran }
+
 -- ---- streams
 
 pub requests_last : {K D : Type 0} → RefusalsChangeNothing → (rules : K → Rules) (g : Ghosts D) → RequestsLast rules g
 requests_last law rules g at = runs_last (λ q. request_service (rules q) at) g (Responses rules g at) (λ q. requests_calm law (rules q) at) (requests_serve rules g at)
 
-pub stream_lasts : {K D : Type 0} (rules : K → Rules) (g : Ghosts D) (at : ℕ) → RequestsLast rules g → (had has : Option (List ℕ)) (first now : At (DeskView K D)) (result : Result Served ServeFault)
+stream_lasts : {K D : Type 0} (rules : K → Rules) (g : Ghosts D) (at : ℕ) → RequestsLast rules g → (had has : Option (List ℕ)) (first now : At (DeskView K D)) (result : Result Served ServeFault)
     → RanRequests (Responses rules g at) had has first now result → StreamLasts rules g at had has first now result
 stream_lasts rules g at law had has first now result ran = record {
   came = ran.came;
@@ -181,3 +185,7 @@ stream_lasts rules g at law had has first now result ran = record {
         (λ fault. stream.StoppedLast rules g at ran.came ran.ended fault first now)
     by_result (Ok served) h = λ more ended. finished (ran.came ++ more) served.requests (h.0 more ended)
     by_result (Err fault) h = stopped fault h.0
+
+pub runs_stream : {K D : Type 0} (rules : K → Rules) (g : Ghosts D) (at : ℕ) → RequestsLast rules g → (had has : Option (List ℕ)) (first now : At (DeskView K D)) (result : Result Served ServeFault)
+    → RunsRequests (Responses rules g at) had has first now result → stream.RunsStream rules g at had has first now result
+runs_stream rules g at law had has first now result runs = record { requests = runs; lasts = stream_lasts rules g at law had has first now result runs.ran }

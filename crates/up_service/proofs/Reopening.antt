@@ -8,7 +8,7 @@ use Rattle.up_sign.specs.Schemes.{Rules}
 use Rattle.up_machine.specs.declared.answer.Answer.{Answer}
 use Rattle.up_machine.specs.State.{State}
 use Rattle.up_rows.specs.StateRows.{rows_of_state}
-use Rattle.up_desk.specs.Serving.{HoldsState}
+use Rattle.up_records.specs.Standing.{HoldsState}
 use Rattle.up_service.specs.Answers.{HoldsNext}
 use Rattle.up_service.specs.Runs.{Service, Told, behind, after, HoldsSome, IsMadeBySome, ReopenedLast}
 

@@ -1,5 +1,5 @@
 -- A view, step by step.
-use Rattle.std.proofs.Common.{◌≡◌, ℕ, List, ◌++◌, Bool, true, false, Option, Some, None, Result, Ok, Err, refl, sym, subst, ap, ap₂, ◌∙◌, arith, take, map, length, get_or, ◌<◌, ◌+◌, [], ◌∷◌}
+use Rattle.std.proofs.Common.{◌≡◌, ℕ, List, ◌++◌, Bool, true, false, Option, Some, None, Result, Ok, Err, refl, sym, ap, ap₂, ◌∙◌, take, map, length, get_or, ◌<◌, ◌+◌, [], ◌∷◌}
 use Rattle.std.specs.Prelude.{◌||◌, ⊤, IsTrue, IfOk, bytes_eq, flat_map, option_map, MatchBool}
 use Rattle.std.specs.List.{AllByRecursion}
 use Rattle.std.specs.FinMap as table
@@ -22,11 +22,13 @@ use Rattle.up_machine.specs.Rows.{ecu_row, rows_of, vehicle_rows}
 use Rattle.up_machine.specs.Sound.{IsSound}
 use Rattle.up_machine.specs.State.{State, Vehicle, version}
 use Rattle.up_machine.specs.Vehicles.{has_ecu, ecu_names}
-use Rattle.up_rows.specs.StateRows.{rows_of_state}
 use Rattle.up_tables.specs.declared.values.StoreFault.{StoreFault}
 use Rattle.up_tables.specs.declared.values.StoreFault.TheVariants as fault
-use Rattle.up_desk.specs.Serving.{SeesSame, is_fault, refusal_told}
-use Rattle.up_desk.specs.Standing.{Standing, HasCleanDisk, IfClean, KeepsState, Survives, Fits, Reads, Tells}
+use Rattle.up_records.specs.Connected.{is_fault, refusal_told}
+use Rattle.up_records.specs.Reads.{SeesSame}
+use Rattle.up_records.specs.Standing.{Standing, HasCleanDisk, IfClean, ShowsState, Survives}
+use Rattle.up_records.specs.Reads.{ReadsState}
+use Rattle.up_desk.proofs.Standings.{clean_before}
 use Rattle.up_script.specs.PrintedLines.{ecu_text, vehicle_text}
 use Rattle.up_service.specs.LineAnswers.{ecus_text, row_text, rows_text, line_of, shown_in, shown_with}
 
@@ -41,39 +43,25 @@ GivesShown (Err r) computed = MatchBool (is_fault r) ⊤ (computed ≡ Err r)
 -- on showing it, and an open connection sees what it saw; a crash leaves what it could leave before
 pub record Sees (holds : State → Type 0) (old new : Standing) : Type 0 where
   pub clean : HasCleanDisk new → HasCleanDisk old
-  pub seen : HasCleanDisk new → (k : Rules) (s : State) → IsSound k s → IfClean (KeepsState k s) old → holds s × KeepsState k s new × SeesSame old.connection new.connection
+  pub seen : HasCleanDisk new → (k : Rules) (s : State) → IsSound k s → IfClean (ShowsState k s) old → holds s × ShowsState k s new × SeesSame old new
   pub crash : Survives old new (λ trees. ⊥)
 
 -- ---- steps
 
-clean_at : (old new : Standing) → Reads old new → HasCleanDisk new → HasCleanDisk old
-clean_at old new reads now = let before : HasCleanDisk old = omega (arith, reads.tables.survives.clean) in before
-
--- what was shown before a read is shown after it
-pub seen_on : (k : Rules) (s : State) (old new : Standing) → Reads old new → IfClean (KeepsState k s) old → HasCleanDisk new → KeepsState k s new
-seen_on k s old new reads was now = record {
-  tables = reads.tables.kept (rows_of_state k s) (λ before. (was before).tables) now;
-  memory = subst (Fits s) (sym reads.memory) (was (clean_at old new reads now)).memory;
-}
-
--- an open connection sees what it saw
-seen_same : (k : Rules) (s : State) (old new : Standing) → Reads old new → IfClean (KeepsState k s) old → HasCleanDisk new → SeesSame old.connection new.connection
-seen_same k s old new reads was now = reads.tables.same (rows_of_state k s) (λ before. (was before).tables) now
-
 -- what the desk tells by reading
-pub seen_by : {A E : Type 0} (f : State → A) (result : Result A E) (old new : Standing) → Tells (λ k s. f s) old new result → Reads old new → Sees (λ s. IfOk result (λ found. found ≡ f s)) old new
-seen_by f result old new told reads = record {
-  clean = clean_at old new reads;
-  seen = λ now k s sound was. (IfOk-weaker result _ _ (λ found is. is k s (λ before. (was before).tables)) (told now), seen_on k s old new reads was now, seen_same k s old new reads was now);
-  crash = reads.tables.survives;
+pub seen_by : {A : Type 0} {f : State → A} {result : Result A StoreFault} {old new : Standing} (rules : Rules) → ((k : Rules) → ReadsState k f old new result) → Sees (λ s. IfOk result (λ found. found ≡ f s)) old new
+seen_by {A} {f} {result} {old} {new} rules read = record {
+  clean = λ now. clean_before (read rules).reads now;
+  seen = λ now k s sound was. (IfOk-weaker result _ _ (λ found is. is s was) ((read k).told now), (read k).reads.keeps s was now, (read k).reads.same s was now);
+  crash = (read rules).reads.survives;
 }
 
 -- the database refused
-pub seen_in_fault : (P : State → Type 0) (old new : Standing) → Reads old new → ((s : State) → P s) → Sees P old new
-seen_in_fault P old new reads holds = record {
-  clean = clean_at old new reads;
-  seen = λ now k s sound was. (holds s, seen_on k s old new reads was now, seen_same k s old new reads was now);
-  crash = reads.tables.survives;
+pub seen_in_fault : {A : Type 0} {f : State → A} {result : Result A StoreFault} {old new : Standing} (rules : Rules) (P : State → Type 0) → ((k : Rules) → ReadsState k f old new result) → ((s : State) → P s) → Sees P old new
+seen_in_fault {A} {f} {result} {old} {new} rules P read holds = record {
+  clean = λ now. clean_before (read rules).reads now;
+  seen = λ now k s sound was. (holds s, (read k).reads.keeps s was now, (read k).reads.same s was now);
+  crash = (read rules).reads.survives;
 }
 
 -- one step after another

@@ -1,6 +1,8 @@
 -- What a run leaves where each item has such an answer, it leaves where each has one of which less is said.
 use Rattle.std.proofs.Common.{◌≡◌, ℕ, List, [], ◌∷◌, Option, Some, None, Result, Ok, Err, true}
 use Rattle.std.specs.Prelude.{◌++◌, MatchResult}
+use Rattle.std.proofs.lemmas.Option.{IfSome_then}
+use Rattle.std.proofs.lemmas.Result.{IfOk-weaker, IfErr-weaker}
 use Rattle.up_http.specs.Serving as serving
 use Rattle.up_http.specs.declared.fault.ServeFault.{ServeFault}
 use Rattle.up_http.specs.declared.served.Served.{Served}
@@ -25,7 +27,7 @@ breaks_weaker : {S I : Type 0} (P Q : S → I → List ℕ → S → Type 0) →
 breaks_weaker P Q weaker print cause None old new prefix breaks = breaks
 breaks_weaker P Q weaker print cause (Some item) old new prefix breaks = (breaks.0, weaker old new item breaks.0 breaks.1, breaks.2)
 
-pub finished_weaker : {S I : Type 0} (P Q : S → I → List ℕ → S → Type 0) → IsWeaker P Q → (print : List ℕ → List ℕ) (AreAll : List I → Type 0) (first now : At S) (answered : ℕ)
+finished_weaker : {S I : Type 0} (P Q : S → I → List ℕ → S → Type 0) → IsWeaker P Q → (print : List ℕ → List ℕ) (AreAll : List I → Type 0) (first now : At S) (answered : ℕ)
     → Finished P print AreAll first answered now → Finished Q print AreAll first answered now
 finished_weaker P Q weaker print AreAll first now answered h = record {
   items = h.items;
@@ -36,7 +38,7 @@ finished_weaker P Q weaker print AreAll first now answered h = record {
   wrote = h.wrote;
 }
 
-pub up_to_weaker : {S I : Type 0} (P Q : S → I → List ℕ → S → Type 0) → IsWeaker P Q → (print : List ℕ → List ℕ) (AreFirst : List I → Option I → Type 0) (cause : ScriptCause) (first now : At S) (answered : ℕ)
+up_to_weaker : {S I : Type 0} (P Q : S → I → List ℕ → S → Type 0) → IsWeaker P Q → (print : List ℕ → List ℕ) (AreFirst : List I → Option I → Type 0) (cause : ScriptCause) (first now : At S) (answered : ℕ)
     → AnswersUpTo P print AreFirst cause first answered now → AnswersUpTo Q print AreFirst cause first answered now
 up_to_weaker P Q weaker print AreFirst cause first now answered h = record {
   done = h.done;
@@ -53,7 +55,7 @@ up_to_weaker P Q weaker print AreFirst cause first now answered h = record {
 
 -- ---- over a reader and a writer
 
-pub lines_weaker : {S : Type 0} (P Q : lines.Gives S) → IsWeaker P Q → (had has : Option (List ℕ)) (first now : At S) (result : Result ℕ ScriptFault)
+lines_weaker : {S : Type 0} (P Q : lines.Gives S) → IsWeaker P Q → (had has : Option (List ℕ)) (first now : At S) (result : Result ℕ ScriptFault)
     → lines.RanLines P had has first now result → lines.RanLines Q had has first now result
 lines_weaker P Q weaker had has first now result ran = record {
   came = ran.came;
@@ -72,7 +74,16 @@ lines_weaker P Q weaker had has first now result ran = record {
     by_result (Ok answered) h = (h.0, finished_weaker P Q weaker lines.print (lines.AreAll ran.came) first now answered h.1)
     by_result (Err fault) h = (up_to_weaker P Q weaker lines.print _ fault.cause first now fault.lines h.0, h.1)
 
-pub requests_weaker : {S : Type 0} (P Q : serving.Gives S) → IsWeaker P Q → (had has : Option (List ℕ)) (first now : At S) (result : Result Served ServeFault)
+pub runs_lines : {S : Type 0} (P Q : lines.Gives S) → IsWeaker P Q → (had has : Option (List ℕ)) (first now : At S) (result : Result ℕ ScriptFault)
+    → lines.RunsLines P had has first now result → lines.RunsLines Q had has first now result
+runs_lines P Q weaker had has first now result h = record {
+  ran = lines_weaker P Q weaker had has first now result h.ran;
+  whole = IfOk-weaker result _ _ (λ answered known. IfSome_then had known (λ input run. finished_weaker P Q weaker lines.print _ first now answered run)) h.whole;
+  prefix = IfErr-weaker result _ _ (λ fault known. IfSome_then had known (λ input run. up_to_weaker P Q weaker lines.print _ fault.cause first now fault.lines run)) h.prefix;
+  too_long = h.too_long;
+}
+
+requests_weaker : {S : Type 0} (P Q : serving.Gives S) → IsWeaker P Q → (had has : Option (List ℕ)) (first now : At S) (result : Result Served ServeFault)
     → serving.RanRequests P had has first now result → serving.RanRequests Q had has first now result
 requests_weaker P Q weaker had has first now result ran = record {
   came = ran.came;
@@ -92,3 +103,11 @@ requests_weaker P Q weaker had has first now result ran = record {
         (λ fault. serving.Stopped Q ran.came ran.ended fault first now × LastRead serving.piece_bytes (serving.WantsMore fault.answered) ran.came ran.ended)
     by_result (Ok served) h = (λ more ended. finished_weaker P Q weaker serving.plain _ first now served.requests (h.0 more ended), h.1)
     by_result (Err fault) h = (up_to_weaker P Q weaker serving.plain _ (serving.cause_of fault.cause) first now fault.answered h.0, h.1)
+
+pub runs_requests : {S : Type 0} (P Q : serving.Gives S) → IsWeaker P Q → (had has : Option (List ℕ)) (first now : At S) (result : Result Served ServeFault)
+    → serving.RunsRequests P had has first now result → serving.RunsRequests Q had has first now result
+runs_requests P Q weaker had has first now result h = record {
+  ran = requests_weaker P Q weaker had has first now result h.ran;
+  whole = IfOk-weaker result _ _ (λ served known. IfSome_then had known (λ input run. finished_weaker P Q weaker serving.plain _ first now served.requests run)) h.whole;
+  prefix = IfErr-weaker result _ _ (λ fault known. IfSome_then had known (λ input run. up_to_weaker P Q weaker serving.plain _ (serving.cause_of fault.cause) first now fault.answered run)) h.prefix;
+}

@@ -1,7 +1,6 @@
 -- What is told of an answer, the state that it leaves, and what a crash leaves then; or that memory or the database refused, and when
 -- that of the database may be told.
-use Rattle.std.specs.Prelude.{◌≡◌, ◌⊎◌, ℕ, List, Option, Some, None, IsTrue}
-use Rattle.sqlite.specs.Effect.{Database}
+use Rattle.std.specs.Prelude.{◌≡◌, ◌⊎◌, ℕ, List, Option, Some, None}
 use Rattle.sqlite.specs.Tree.{Trees}
 use Rattle.up_canon.specs.declared.refusal.Refusal.{Refusal}
 use Rattle.up_canon.specs.declared.refusal.Refusal.TheVariants.{Memory, Store}
@@ -11,8 +10,10 @@ use Rattle.up_machine.specs.declared.command.Command.{Command}
 use Rattle.up_machine.specs.Repeats.{serve}
 use Rattle.up_machine.specs.Sound.{IsSound}
 use Rattle.up_machine.specs.State.{State}
-use Rattle.up_desk.specs.Serving.{Becomes, DiskFailed, HoldsState, IsBlamed, IsCommit, RefusesOutcome}
-use Rattle.up_desk.specs.Standing.{Standing, HasCleanDisk, IfClean, KeepsState, Survives, LeavesOnly}
+use Rattle.up_desk.specs.Serving.{IsBlamed, IsCommit}
+use Rattle.up_records.specs.Reads.{DiskFailed}
+use Rattle.up_records.specs.Standing.{HoldsState}
+use Rattle.up_records.specs.Standing.{Standing, HasCleanDisk, IfClean, ShowsState, Survives, LeavesOnly}
 
 -- the text, the desk's answer if a command was called, and the state after it
 pub record Answered : Type 0 where
@@ -37,17 +38,7 @@ IsCommitted s None next = ⊥
 -- the disk counted a fault; or a command was called, and the database refuses to write what it comes to
 abbrev pub IsBlamedFor : Rules → State → Standing → Standing → Option Answer → State → Type 0
 IsBlamedFor k s old new (Some answer) next = IsBlamed k s old.connection new.connection (record { answer = answer; next = next })
-IsBlamedFor k s old new None next = DiskFailed old.connection new.connection
-
--- the database refuses what the command comes to that was called
-abbrev pub RefusesFor : Rules → State → Option Answer → State → Option ℕ → Database → Type 0
-RefusesFor k s (Some answer) next limit db = RefusesOutcome k s limit db (record { answer = answer; next = next })
-RefusesFor k s None next limit db = ⊥
-
--- what is made of a database that shows the state: what the command makes of it that was called; without one it stays
-abbrev pub BecomesFor : Rules → State → Option Answer → State → Option ℕ → Database → Database → Type 0
-BecomesFor k s (Some answer) next limit db after = Becomes k s answer next limit db after
-BecomesFor k s None next limit db after = after ≡ db
+IsBlamedFor k s old new None next = DiskFailed old new
 
 -- the text tells, as refusals are told, that memory or the database refused
 abbrev pub IsFailed : (Refusal → List ℕ) → List ℕ → Type 0
@@ -57,23 +48,16 @@ IsFailed tell text = (text ≡ tell Memory) ⊎ (text ≡ tell Store)
 abbrev pub IsAnswerOrFailed : (Refusal → List ℕ) → Answered → State → List ℕ → State → Type 0
 IsAnswerOrFailed tell a old text new = ((text ≡ a.text) × (new ≡ a.next)) ⊎ (IsFailed tell text × (new ≡ old))
 
--- it is answered so, which makes this of the database; or it failed, and the database stays
-abbrev pub IsMadeOrFailed : (Refusal → List ℕ) → Rules → State → Answered → List ℕ → Option ℕ → Database → Database → Type 0
-IsMadeOrFailed tell k s a text limit db after =
-    ((text ≡ a.text) × BecomesFor k s a.called a.next limit db after) ⊎ (IsFailed tell text × (after ≡ db))
-
 -- Of each state that the tables show, over a disk that has returned what was written so far: the text is its answer or tells that it
 -- failed, and the tables show the next state. Whatever is told, a crash leaves what it could leave before, or that which a command
 -- makes of the state; where the answer is told and is a commit, that alone. A text other than the answer tells `Store` only where the
--- disk or the database is to blame. What the connection sees is what was made of what it saw.
+-- disk or the database is to blame.
 pub record AnswersAs (tell : Refusal → List ℕ) (answer : State → Answered) (k : Rules) (text : List ℕ) (old new : Standing) : Type 0 where
   pub clean : HasCleanDisk new → HasCleanDisk old
-  pub answered : HasCleanDisk new → (s : State) → IsSound k s → IfClean (KeepsState k s) old
-      → (next : State) × IsAnswerOrFailed tell (answer s) s text next × IsSound k next × KeepsState k next new
-  pub crash : (s : State) → IsSound k s → IfClean (KeepsState k s) old → Survives old new (HoldsNext k (answer s).called (answer s).next)
-  pub durable : (s : State) → IsSound k s → IfClean (KeepsState k s) old → text ≡ (answer s).text → IsCommitted s (answer s).called (answer s).next
+  pub answered : HasCleanDisk new → (s : State) → IsSound k s → IfClean (ShowsState k s) old
+      → (next : State) × IsAnswerOrFailed tell (answer s) s text next × IsSound k next × ShowsState k next new
+  pub crash : (s : State) → IsSound k s → IfClean (ShowsState k s) old → Survives old new (HoldsNext k (answer s).called (answer s).next)
+  pub durable : (s : State) → IsSound k s → IfClean (ShowsState k s) old → text ≡ (answer s).text → IsCommitted s (answer s).called (answer s).next
       → IfClean (LeavesOnly (HoldsState k (answer s).next)) new
-  pub blame : HasCleanDisk new → (s : State) → IsSound k s → IfClean (KeepsState k s) old → (text ≡ (answer s).text → ⊥) → text ≡ tell Store
+  pub blame : HasCleanDisk new → (s : State) → IsSound k s → IfClean (ShowsState k s) old → (text ≡ (answer s).text → ⊥) → text ≡ tell Store
       → IsBlamedFor k s old new (answer s).called (answer s).next
-  pub made : HasCleanDisk new → (s : State) → IsSound k s → IfClean (KeepsState k s) old → IsTrue new.connection.is_open
-      → IsMadeOrFailed tell k s (answer s) text old.connection.step_limit old.connection.now new.connection.now

@@ -16,7 +16,8 @@ use Rattle.up_machine.specs.declared.rows.VehicleRows.{VehicleRows}
 use Rattle.up_machine.specs.Reads.{ecus_of, version_of, installed, assigned_to}
 use Rattle.up_machine.specs.State.{State}
 use Rattle.up_desk.specs.Serving.{outright}
-use Rattle.up_desk.specs.Standing.{DeskView, Standing, state}
+use Rattle.up_records.specs.Standing.{Standing, state}
+use Rattle.up_desk.specs.Desks.{DeskView}
 use Rattle.up_script.specs.AskedLines.{asked_in}
 use Rattle.up_script.specs.PrintedLines.{answer_text, refused_text, vehicle_text, ecu_text}
 use Rattle.up_script.specs.declared.asked.Asked.{Asked}

@@ -9,7 +9,8 @@ use Rattle.up_heads.specs.Responses.{response_of, check_response_of, refusal_res
 use Rattle.up_http.specs.declared.asked.Next.{Next}
 use Rattle.up_http.specs.declared.asked.What.{What}
 use Rattle.up_http.specs.declared.asked.What.TheVariants.{Call, Fixed}
-use Rattle.up_desk.specs.Standing.{DeskView, Standing, state}
+use Rattle.up_records.specs.Standing.{Standing, state}
+use Rattle.up_desk.specs.Desks.{DeskView}
 use Rattle.up_desk.specs.Serving.{outright}
 use Rattle.up_service.specs.Answers.{AnswersAs, answered_as}
 

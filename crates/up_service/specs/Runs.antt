@@ -1,13 +1,11 @@
 -- What a whole run over lines or over requests comes to: its answers, the state that the tables show then, and what a crash leaves.
-use Rattle.std.specs.Prelude.{◌≡◌, ◌≢◌, ◌⊎◌, ◌||◌, ◌++◌, ℕ, Bool, false, ⊤, List, [], ◌∷◌, Option, Some, None}
-use Rattle.std.specs.Prelude.{MatchBool, IsTrue, IsSome, if◌then◌else◌, bytes_eq}
-use Rattle.sqlite_disk.specs.Disk.{MoreFaults}
+use Rattle.std.specs.Prelude.{◌≡◌, ◌⊎◌, ◌||◌, ◌++◌, ℕ, Bool, false, ⊤, List, [], ◌∷◌, Option, Some, None}
+use Rattle.std.specs.Prelude.{IsTrue, IsSome, if◌then◌else◌, bytes_eq}
 use Rattle.sqlite_disk.specs.declared.Disk.{Ghosts as DiskGhosts}
 use Rattle.sqlite_wal.specs.Recovery.{Image}
 use Rattle.sqlite_store.specs.declared.store.FileStore.{FileStore}
 use Rattle.sqlite_store.specs.FileStore.{view}
 use Rattle.sqlite_store.specs.FileStore as files
-use Rattle.sqlite.specs.Effect.{Database}
 use Rattle.sqlite.specs.Files.{over_files, file_state, IsOpened}
 use Rattle.sqlite.specs.Held.{Held}
 use Rattle.sqlite.specs.Start.{FindsIn}
@@ -21,9 +19,10 @@ use Rattle.up_machine.specs.State.{State}
 use Rattle.up_lines.specs.Runs.{Run}
 use Rattle.up_store.specs.Connections as connections
 use Rattle.up_store.specs.Stopped.{AreFoundAgain}
-use Rattle.up_desk.specs.Serving.{HoldsState, ShowsState}
-use Rattle.up_desk.specs.Standing.{DeskView, Stored, Standing, HasCleanDisk, IfClean, KeepsState, Survives, LeavesOnly, state}
-use Rattle.up_service.specs.Answers.{Answered, BecomesFor, HoldsNext, IsCommitted, RefusesFor}
+use Rattle.up_records.specs.Standing.{HoldsState}
+use Rattle.up_records.specs.Standing.{Stored, Standing, HasCleanDisk, IfClean, ShowsState, Survives, LeavesOnly, state}
+use Rattle.up_desk.specs.Desks.{DeskView}
+use Rattle.up_service.specs.Answers.{Answered, HoldsNext, IsCommitted}
 
 -- ---- items, answered one after another
 
@@ -85,45 +84,24 @@ pub record IsAnsweredCommit {I : Type 0} (v : Service I) (s : State) (ms before 
   pub answered : tells_fault v m ≡ false
   pub commit : IsCommitted (after v s before) (v.answer (after v s before) m.item).called (v.answer (after v s before) m.item).next
 
--- ---- what a run makes of the database, and when it tells `Store`
-
--- the text tells `Store`, and isn't the answer that is due
-abbrev pub TellsStore : {I : Type 0} → Service I → State → Told I → Type 0
-TellsStore v s m = (m.text ≢ (v.answer s m.item).text) × (m.text ≡ v.tell m.item Store)
-
--- what an item makes of a database that shows the state: nothing where its text tells a fault
-abbrev pub BecomesBy : {I : Type 0} → Service I → State → Told I → Database → Database → Type 0
-BecomesBy v s m db after = let a = v.answer s m.item in MatchBool (tells_fault v m) (after ≡ db) (BecomesFor v.rules s a.called a.next None db after)
-
--- Each database shows the state that it is met in: from this one each item makes the next, and the last of them is this; one more item may have
--- been handed on behind them. Where a text tells `Store` that isn't due, the database refuses what its item comes to, as the items before made it.
-abbrev pub AreBlamed : {I : Type 0} → Service I → State → Database → List (Told I) → Option I → Database → Type 0
-AreBlamed v s db [] None last = ShowsState v.rules s db × (last ≡ db)
-AreBlamed v s db [] (Some item) last = let a = v.answer s item in
-    ShowsState v.rules s db × ((last ≡ db) ⊎ BecomesFor v.rules s a.called a.next None db last)
-AreBlamed v s db (m ∷ ms) next last = let a = v.answer s m.item in
-    ShowsState v.rules s db × (TellsStore v s m → RefusesFor v.rules s a.called a.next None db)
-    × ((after : Database) × BecomesBy v s m db after × AreBlamed v (behind v s m) after ms next last)
+-- ---- what a run comes to
 
 -- What a run comes to from a state. Over a disk that has returned what was written so far each text is due, and the tables show the state
 -- behind the items. Only a fault of the disk shuts the connection, and a crash leaves what it could leave before, or what one of the items
 -- makes of the state behind those before it. What was answered stays: behind each commit that was answered a crash leaves the state behind
--- it, or what one of the items that follow makes from there on. Where the disk counted no fault, on a connection that was open, with no limit on
--- the steps of a query, `Store` is told only where the database refused.
+-- it, or what one of the items that follow makes from there on.
 pub record Lasts {I : Type 0} (v : Service I) (s : State) (ms : List (Told I)) (next : Option I) (old new : Standing) : Type 0 where
   pub due : HasCleanDisk new → AreDue v s ms
-  pub shown : HasCleanDisk new → (at : State) × IsBehind v (after v s ms) next at × IsSound v.rules at × KeepsState v.rules at new
+  pub shown : HasCleanDisk new → (at : State) × IsBehind v (after v s ms) next at × IsSound v.rules at × ShowsState v.rules at new
   pub crash : Survives old new (HoldsSome v s ms next)
   pub durable : (before rest : List (Told I)) (m : Told I) → IsAnsweredCommit v s ms before rest m
       → IfClean (LeavesOnly (λ trees. HoldsState v.rules (behind v (after v s before) m) trees
       ⊎ HoldsSome v (behind v (after v s before) m) rest next trees)) new
-  pub blame : HasCleanDisk new → IsTrue old.connection.is_open → old.connection.step_limit ≡ None
-      → (MoreFaults old.connection.faults new.connection.faults → ⊥) → AreBlamed v s old.connection.now ms next new.connection.now
 
 -- so from each sound state that the tables showed before the run
 abbrev pub LastsFrom : {K D I : Type 0} → (K → Service I) → Ghosts D → DeskView K D → List I → List (List ℕ) → Option I → DeskView K D → Type 0
 LastsFrom u g old items texts next new =
-    (s : State) → IsSound (u old.scheme).rules s → IfClean (KeepsState (u old.scheme).rules s) (state g old.store)
+    (s : State) → IsSound (u old.scheme).rules s → IfClean (ShowsState (u old.scheme).rules s) (state g old.store)
     → Lasts (u old.scheme) s (told items texts) next (state g old.store) (state g new.store)
 
 -- behind a run one more item was handed on and answered, whatever was written of it; or none was

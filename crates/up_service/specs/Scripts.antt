@@ -4,10 +4,10 @@ use Rattle.sqlite_trees.specs.declared.store.Store.{Ghosts}
 use Rattle.up_sign.specs.Schemes.{Rules}
 use Rattle.up_script.specs.PrintedLines.{refused_text}
 use Rattle.up_lines.specs.Lines.{most_bytes}
-use Rattle.up_lines.specs.LineRuns.{FinishedLines, Stopped}
+use Rattle.up_lines.specs.LineRuns.{FinishedLines, RunsLines, Stopped}
 use Rattle.up_lines.specs.Runs.{At, Ran}
 use Rattle.up_lines.specs.declared.fault.ScriptFault.{ScriptFault}
-use Rattle.up_desk.specs.Standing.{DeskView}
+use Rattle.up_desk.specs.Desks.{DeskView}
 use Rattle.up_service.specs.LineAnswers.{Lines, line_answer}
 use Rattle.up_service.specs.Runs.{Service, LastsFrom, RunsLast}
 
@@ -37,3 +37,11 @@ abbrev pub ScriptLasts : {K D : Type 0} → (K → Rules) → Ghosts D → Optio
 ScriptLasts rules g had has first now result =
     Ran most_bytes (λ came ended answered. (ended ≡ true) × FinishedLast rules g came answered first now)
     (λ came ended fault. StoppedLast rules g came ended fault first now) had has result
+
+-- a script over a reader and a writer
+pub record RunsScript {K D : Type 0} (rules : K → Rules) (g : Ghosts D) (had has : Option (List ℕ)) (first now : At (DeskView K D)) (result : Result ℕ ScriptFault) : Type 0 where
+  -- its lines are answered and written, each as the desk may answer it
+  pub lines : RunsLines (Lines rules g) had has first now result
+  -- from each state that the tables showed: each answer is due, the tables show the state behind the lines, and a crash loses nothing that
+  -- was answered
+  pub lasts : ScriptLasts rules g had has first now result

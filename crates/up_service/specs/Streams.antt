@@ -4,14 +4,14 @@ use Rattle.sqlite_trees.specs.declared.store.Store.{Ghosts}
 use Rattle.up_sign.specs.Schemes.{Rules}
 use Rattle.up_machine.specs.State.{State}
 use Rattle.up_heads.specs.Responses.{check_response_of, refusal_response_of}
-use Rattle.up_http.specs.Serving.{most_bytes, FinishedRequests, Stopped}
+use Rattle.up_http.specs.Serving.{most_bytes, FinishedRequests, RunsRequests, Stopped}
 use Rattle.up_http.specs.declared.asked.Next.{Next}
 use Rattle.up_http.specs.declared.asked.What.{What}
 use Rattle.up_http.specs.declared.asked.What.TheVariants.{Call, Fixed}
 use Rattle.up_http.specs.declared.fault.ServeFault.{ServeFault}
 use Rattle.up_http.specs.declared.served.Served.{Served}
 use Rattle.up_lines.specs.Runs.{At, Ran}
-use Rattle.up_desk.specs.Standing.{DeskView}
+use Rattle.up_desk.specs.Desks.{DeskView}
 use Rattle.up_service.specs.Answers.{Answered, answered_as}
 use Rattle.up_service.specs.Responses.{Responses, answer_response}
 use Rattle.up_service.specs.Runs.{Service, LastsFrom, RunsLast}
@@ -52,3 +52,11 @@ StreamLasts rules g at had has first now result =
     Ran most_bytes (λ came ended served. (more : List ℕ) → (ended ≡ true → more ≡ [])
     → FinishedLast rules g at (came ++ more) served.requests first now)
     (λ came ended fault. StoppedLast rules g at came ended fault first now) had has result
+
+-- a stream over a reader and a writer
+pub record RunsStream {K D : Type 0} (rules : K → Rules) (g : Ghosts D) (at : ℕ) (had has : Option (List ℕ)) (first now : At (DeskView K D)) (result : Result Served ServeFault) : Type 0 where
+  -- its requests are answered and written, each as the desk may answer it
+  pub requests : RunsRequests (Responses rules g at) had has first now result
+  -- from each state that the tables showed: each answer is due, the tables show the state behind the requests, and a crash loses nothing
+  -- that was answered
+  pub lasts : StreamLasts rules g at had has first now result

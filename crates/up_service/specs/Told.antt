@@ -8,7 +8,7 @@ use Rattle.up_machine.specs.declared.answer.Answer.{Answer}
 use Rattle.up_machine.specs.declared.command.Command.{Command}
 use Rattle.up_machine.specs.declared.rows.VehicleRows.{VehicleRows}
 use Rattle.up_tables.specs.declared.values.StoreFault.{StoreFault}
-use Rattle.up_desk.specs.Serving.{refusal_told}
+use Rattle.up_records.specs.Connected.{refusal_told}
 use Rattle.up_script.specs.PrintedLines.{answer_text, refused_text}
 use Rattle.up_script.specs.declared.asked.Asked.{Asked}
 use Rattle.up_script.specs.declared.asked.What.{What}

@@ -1,8 +1,5 @@
 //! The length and the digests of a stream.
-ghost use Rattle.std.specs.Prelude.{◌≡◌, ◌<◌, IfOk, IfErr, IfSome, OnOk, length};
-ghost use Rattle.sha2.specs.Sha256.{sha256};
-ghost use Rattle.sha2.specs.Sha512.{sha512};
-ghost use Rattle.up_service.specs.Digests.{BlamesReader, Digested, most_bytes};
+ghost use Rattle.up_service.specs.Digests.{EndsReading, TellsDigests};
 
 use sha2::{Digest, Sha256, Sha512};
 use up_pieces::read_piece;
@@ -28,17 +25,8 @@ pub enum DigestFault {
 /// `Read` is told only where the reader failed. Takes no memory.
 pub fn digest_stream<R: Source>(reader: &mut R) -> Result<(u64, [u8; 32], [u8; 64]), DigestFault>
     requires { R.can_read reader.old }
-    // For any reader: the bytes that came, and what is said of them.
-    ensures digested { Digested (R.remaining reader.old) (R.remaining reader.new) result }
-
-    // A fault is told of the reader as it is, and one that didn't end isn't taken for one that did.
-    ensures blames { IfErr result (λ fault. BlamesReader fault (R.has_failed reader.new) (R.can_read reader.new)) }
-    ensures ended { OnOk result (R.has_ended reader.new) }
-
-    // Where it is known what the reader has.
-    ensures whole { IfOk result (λ told. IfSome (R.remaining reader.old) (λ input.
-        (told.0 ≡ length input) × (told.1 ≡ sha256 input) × (told.2 ≡ sha512 input))) }
-    ensures too_long { IfErr result (λ fault. fault ≡ DigestFault.TooLong → IfSome (R.remaining reader.old) (λ input. most_bytes < length input)) }
+    ensures digests { TellsDigests (R.remaining reader.old) (R.remaining reader.new) result }
+    ensures ends { EndsReading (R.has_ended reader.new) (R.has_failed reader.new) (R.can_read reader.new) result }
 {
     let mut buffer = [0; PIECE_BYTES];
     let mut shorter = Sha256::new();

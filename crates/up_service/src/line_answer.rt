@@ -1,16 +1,13 @@
 //! The answer to a line of a script.
 ghost use Rattle.std.specs.Prelude.{List, ℕ, IsTrue, IfOk, OnErr, string_bytes};
-ghost use Rattle.up_machine.specs.Commands.{opens_running};
 ghost use Rattle.up_script.specs.AskedLines.{asks_running};
-ghost use Rattle.up_script.specs.PrintedLines.{answer_text};
-ghost use Rattle.up_service.specs.Told.{TellsCall, TellsLine, TellsView, TellsWhat};
+ghost use Rattle.up_service.specs.Told.{TellsLine, TellsView, TellsWhat};
 
 use crate::desk::{Asks, Called, Viewed};
 use crate::show::shown;
 use std::alloc::{AllocError, Global};
 use up_canon::ident::Ident;
 use up_lines::interpret::Interpret;
-use up_machine::command::Command;
 use up_script::asked::{Asked, What};
 use up_script::printed::{answer_text, refused_text};
 
@@ -37,8 +34,10 @@ fn line_text<C: Called + Asks + Viewed>(
     desk: &mut C,
     line: &[u8],
 ) -> Result<String, AllocError>
-    ensures ok { IfOk result (λ t. TellsLine C.asks C.gives C.finds C.finds_plan desk.old line.now (string_bytes t) desk.new) }
-    ensures err { OnErr result ((text : List ℕ) × TellsLine C.asks C.gives C.finds C.finds_plan desk.old line.now text desk.new) }
+    ensures ok { IfOk result
+        (λ t. TellsLine C.asks C.gives C.finds C.finds_plan desk.old line.now (string_bytes t) desk.new) }
+    ensures err { OnErr result
+        ((text : List ℕ) × TellsLine C.asks C.gives C.finds C.finds_plan desk.old line.now text desk.new) }
 {
     match desk.asked(alloc, line) {
         Ok(asked) => carry_out(alloc, desk, &asked),
@@ -53,28 +52,18 @@ fn carry_out<C: Called + Viewed>(
     asked: &Asked,
 ) -> Result<String, AllocError>
     requires { IsTrue (asks_running asked.now.what) }
-    ensures ok { IfOk result (λ t. TellsWhat C.gives C.finds C.finds_plan desk.old asked.now.at asked.now.what (string_bytes t) desk.new) }
-    ensures err { OnErr result ((text : List ℕ) × TellsWhat C.gives C.finds C.finds_plan desk.old asked.now.at asked.now.what text desk.new) }
+    ensures ok { IfOk result
+        (λ t. TellsWhat C.gives C.finds C.finds_plan desk.old asked.now.at asked.now.what (string_bytes t) desk.new) }
+    ensures err { OnErr result
+        ((text : List ℕ) × TellsWhat C.gives C.finds C.finds_plan desk.old asked.now.at asked.now.what text desk.new) }
 {
     match &asked.what {
-        What::Call(command) => called_text(alloc, desk, asked.at.get(), command),
+        What::Call(command) => {
+            let answer = desk.call(alloc, asked.at.get(), command);
+            answer_text(alloc, &answer)
+        }
         What::Show(vehicle) => shown_text(alloc, desk, vehicle),
     }
-}
-
-/// The line that answers a command.
-fn called_text<C: Called>(
-    alloc: Global,
-    desk: &mut C,
-    at: u64,
-    command: &Command,
-) -> Result<String, AllocError>
-    requires { IsTrue (opens_running command.now) }
-    ensures ok { IfOk result (λ t. TellsCall C.gives answer_text desk.old at command.now (string_bytes t) desk.new) }
-    ensures err { OnErr result ((text : List ℕ) × TellsCall C.gives answer_text desk.old at command.now text desk.new) }
-{
-    let answer = desk.call(alloc, at, command);
-    answer_text(alloc, &answer)
 }
 
 /// The line that shows a vehicle, or its refusal.

@@ -61,7 +61,8 @@ fn called_response<C: Called>(
 ) -> Result<String, AllocError>
     requires { IsTrue (opens_running command.now) }
     ensures ok { IfOk result (λ t.
-        TellsCall C.gives (λ answer. answer_response_of answer last head) desk.old at command.now (string_bytes t) desk.new) }
+        TellsCall C.gives (λ answer. answer_response_of answer last head) desk.old at command.now (string_bytes t)
+        desk.new) }
     ensures err { OnErr result ((text : List ℕ)
         × TellsCall C.gives (λ answer. answer_response_of answer last head) desk.old at command.now text desk.new) }
 {

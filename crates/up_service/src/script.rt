@@ -1,10 +1,7 @@
 //! Scripts: lines that are read, carried out at a desk, and answered.
-ghost use Rattle.std.specs.Prelude.{◌≡◌, ◌⊎◌, IfOk, IfErr, IfSome, OnOk, true, false};
-ghost use Rattle.up_lines.specs.LineRuns.{RanLines, FinishedLines, AnswersFirst};
-ghost use Rattle.up_lines.specs.Lines.{lines_of, fits};
-ghost use Rattle.up_lines.specs.Runs.{Blames};
-ghost use Rattle.up_service.specs.LineAnswers.{Lines};
-ghost use Rattle.up_service.specs.Scripts.{ScriptLasts};
+ghost use Rattle.std.specs.Prelude.{◌⊎◌};
+ghost use Rattle.up_lines.specs.Runs.{EndsRun};
+ghost use Rattle.up_service.specs.Scripts.{RunsScript};
 
 use crate::laws::scripts_outlast_crashes;
 use crate::line_answer::Scripter;
@@ -27,8 +24,7 @@ use up_sign::scheme::Scheme;
 /// of a line that was carried out, or before the first, where no room for lines could be made.
 ///
 /// However it ended, a crash behind it leaves what could be left before, or the state behind some line; and none before the last
-/// line that was answered `done`, or got the reply to a new manifest. So nothing that was answered is lost. Where the disk counted no
-/// fault, a line tells a fault of the database only where the database, as the lines before it made it, refuses what it comes to.
+/// line that was answered `done`, or got the reply to a new manifest. So nothing that was answered is lost.
 pub fn run_script<K: Scheme, D: Alter, R: Source, W: Sink>(
     alloc: Global,
     desk: &mut Desk<K, D>,
@@ -38,34 +34,15 @@ pub fn run_script<K: Scheme, D: Alter, R: Source, W: Sink>(
     requires can_read { R.can_read reader.old }
     requires can_write { W.can_write writer.old }
 
-    // For any reader and writer: the bytes that came, what was answered of them, and what was written.
-    ensures ran { RanLines (Lines (K.rules) D.Store) (R.remaining reader.old) (R.remaining reader.new)
+    // What was answered of the bytes that came, what was written, and what stands of it.
+    ensures runs { RunsScript (K.rules) D.Store (R.remaining reader.old) (R.remaining reader.new)
         (record { state = desk.old; held = W.contents writer.old })
         (record { state = desk.new; held = W.contents writer.new }) result }
 
-    // From each state that the tables showed: each answer is due, the tables show the state behind the lines, a crash loses nothing
-    // that was answered, and the database refuses what is told as a fault of it.
-    ensures lasts { ScriptLasts (K.rules) D.Store (R.remaining reader.old) (R.remaining reader.new)
-        (record { state = desk.old; held = W.contents writer.old })
-        (record { state = desk.new; held = W.contents writer.new }) result }
-
-    // Where it is known what the reader has, by its lines.
-    ensures whole { IfOk result (λ answered. IfSome (R.remaining reader.old) (λ input.
-        FinishedLines (Lines (K.rules) D.Store) input answered (record { state = desk.old; held = W.contents writer.old })
-        (record { state = desk.new; held = W.contents writer.new }))) }
-    ensures too_long { IfErr result (λ fault. fault.cause ≡ ScriptCause.TooLong → IfSome (R.remaining reader.old) (λ input.
-        fits (lines_of true input) ≡ false)) }
-    ensures prefix { IfErr result (λ fault. IfSome (R.remaining reader.old) (λ input.
-        AnswersFirst (Lines (K.rules) D.Store) input fault (record { state = desk.old; held = W.contents writer.old })
-        (record { state = desk.new; held = W.contents writer.new }))) }
-
-    // Nothing was tried twice: where it ended well the writer may be written again.
-    ensures goes_on { OnOk result (W.can_write writer.new) }
-
-    // What ended it is told of the part that failed, and a reader that didn't end isn't taken for one that did.
-    ensures blames { IfErr result (λ fault. Blames fault.cause (R.has_failed reader.new) (R.can_read reader.new ⊎ R.has_ended reader.new)
-        (W.has_failed writer.new) (W.can_write writer.new)) }
-    ensures ended { OnOk result (R.has_ended reader.new) }
+    // How it ended: nothing was tried twice, and what failed is told.
+    ensures ends { EndsRun (λ fault. fault.cause) (R.has_ended reader.new)
+        (R.has_failed reader.new) (R.can_read reader.new ⊎ R.has_ended reader.new)
+        (W.has_failed writer.new) (W.can_write writer.new) result }
 {
     vehicles_stand_apart();
     scripts_outlast_crashes::<K, D>();

@@ -19,7 +19,8 @@ pub(crate) fn shown<V: Viewed>(
     desk: &mut V,
     vehicle: &Ident,
 ) -> Result<String, Refusal>
-    ensures line { IfOk result (λ line. Shows V.finds V.finds_plan desk.old vehicle.now (Ok (string_bytes line)) desk.new) }
+    ensures line { IfOk result
+        (λ line. Shows V.finds V.finds_plan desk.old vehicle.now (Ok (string_bytes line)) desk.new) }
     ensures refused { IfErr result (λ r. Shows V.finds V.finds_plan desk.old vehicle.now (Err r) desk.new) }
 {
     match desk.vehicle(alloc, vehicle) {

@@ -1,9 +1,8 @@
 //! Streams of HTTP requests: read, carried out at a desk, and answered.
-ghost use Rattle.std.specs.Prelude.{◌≡◌, ◌⊎◌, IfOk, IfErr, IfSome, OnOk};
-ghost use Rattle.up_lines.specs.Runs.{Blames};
-ghost use Rattle.up_http.specs.Serving.{RanRequests, FinishedRequests, AnswersFirst, cause_of};
-ghost use Rattle.up_service.specs.Responses.{Responses};
-ghost use Rattle.up_service.specs.Streams.{StreamLasts};
+ghost use Rattle.std.specs.Prelude.{◌⊎◌};
+ghost use Rattle.up_lines.specs.Runs.{EndsRun};
+ghost use Rattle.up_http.specs.Serving.{cause_of};
+ghost use Rattle.up_service.specs.Streams.{RunsStream};
 
 use crate::laws::streams_outlast_crashes;
 use crate::response::Responder;
@@ -26,8 +25,7 @@ use up_sign::scheme::Scheme;
 /// only where the reader failed; `Write` only where the writer failed, or took no byte; and `Memory` only where neither did.
 ///
 /// However it ended, a crash behind it leaves what could be left before, or the state behind some request; and none before the
-/// last that got the reply to a new manifest. So nothing that was answered is lost. Where the disk counted no fault, a request is told
-/// a fault of the database only where the database, as the requests before it made it, refuses what it comes to.
+/// last that got the reply to a new manifest. So nothing that was answered is lost.
 pub fn serve_stream<K: Scheme, D: Alter, R: Source, W: Sink>(
     alloc: Global,
     desk: &mut Desk<K, D>,
@@ -38,32 +36,15 @@ pub fn serve_stream<K: Scheme, D: Alter, R: Source, W: Sink>(
     requires can_read { R.can_read reader.old }
     requires can_write { W.can_write writer.old }
 
-    // For any reader and writer: the bytes that came, what was answered of them, and what was written.
-    ensures ran { RanRequests (Responses (K.rules) D.Store at) (R.remaining reader.old) (R.remaining reader.new)
+    // What was answered of the bytes that came, what was written, and what stands of it.
+    ensures runs { RunsStream (K.rules) D.Store at (R.remaining reader.old) (R.remaining reader.new)
         (record { state = desk.old; held = W.contents writer.old })
         (record { state = desk.new; held = W.contents writer.new }) result }
 
-    // From each state that the tables showed: each answer is due, the tables show the state behind the requests, a crash loses
-    // nothing that was answered, and the database refuses what is told as a fault of it.
-    ensures lasts { StreamLasts (K.rules) D.Store at (R.remaining reader.old) (R.remaining reader.new)
-        (record { state = desk.old; held = W.contents writer.old })
-        (record { state = desk.new; held = W.contents writer.new }) result }
-
-    // Where it is known what the reader has, by its requests.
-    ensures whole { IfOk result (λ served. IfSome (R.remaining reader.old) (λ input.
-        FinishedRequests (Responses (K.rules) D.Store at) input served.requests (record { state = desk.old; held = W.contents writer.old })
-        (record { state = desk.new; held = W.contents writer.new }))) }
-    ensures prefix { IfErr result (λ fault. IfSome (R.remaining reader.old) (λ input.
-        AnswersFirst (Responses (K.rules) D.Store at) input fault (record { state = desk.old; held = W.contents writer.old })
-        (record { state = desk.new; held = W.contents writer.new }))) }
-
-    // Nothing was tried twice: where it ended well the writer may be written again.
-    ensures goes_on { OnOk result (W.can_write writer.new) }
-
-    // What ended it is told of the part that failed, and a read that failed isn't taken for the stream's end.
-    ensures blames { IfErr result (λ fault. Blames (cause_of fault.cause) (R.has_failed reader.new) (R.can_read reader.new ⊎ R.has_ended reader.new)
-        (W.has_failed writer.new) (W.can_write writer.new)) }
-    ensures stands { OnOk result (R.can_read reader.new ⊎ R.has_ended reader.new) }
+    // How it ended: nothing was tried twice, and what failed is told.
+    ensures ends { EndsRun (λ fault. cause_of fault.cause) (R.can_read reader.new ⊎ R.has_ended reader.new)
+        (R.has_failed reader.new) (R.can_read reader.new ⊎ R.has_ended reader.new)
+        (W.has_failed writer.new) (W.can_write writer.new) result }
 {
     streams_outlast_crashes::<K, D>();
     serve(alloc, &Responder { at }, desk, reader, writer)

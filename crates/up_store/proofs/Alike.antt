@@ -1,10 +1,8 @@
 -- A table lists what is the same, name by name.
 use Rattle.std.proofs.Common.{◌≡◌, ℕ, List, ◌∙◌}
-use Rattle.sqlite.specs.Order.{Row}
-use Rattle.sqlite.specs.State.{State}
 use Rattle.sqlite.specs.Table.{Table}
-use Rattle.up_tables.specs.Stands.{Lists, ListsPairs, Alters}
 use Rattle.up_tables.proofs.OthersLemmas.{alters_to}
+use Rattle.up_store.proofs.Common.{Row, State, Lists, ListsPairs, Alters}
 
 pub lists_as : (at : ℕ) (old new : List ℕ → List Row) (rows : List Row) → ((name : List ℕ) → old name ≡ new name) → Lists at old rows → Lists at new rows
 lists_as at old new rows same lists = record { shaped = lists.shaped; parts = λ name. lists.parts name ∙ same name }

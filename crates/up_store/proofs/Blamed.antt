@@ -1,19 +1,7 @@
 -- Why a read tells `Store`: each of its statements does so only where the disk counted a fault, and what is read into values tells `Memory`
 -- alone.
-use Rattle.std.proofs.Common.{◌≡◌, List, [], ◌∷◌, Bool, true, false, cond, filter, Option, Some, None, IfSome, Ok, Err, Result, IfErr, refl, sym, subst, ◌∙◌, arith}
-use Rattle.std.specs.Prelude.{⊤}
-use Rattle.std.specs.List.{AllByRecursion}
-use Rattle.sqlite.specs.Held.{Held, state}
-use Rattle.sqlite.specs.State.{State as Connected, HasCleanDisk, Survives}
-use Rattle.sqlite_trees.specs.declared.store.Store.{Ghosts}
-use Rattle.up_rows.specs.StateRows.{StateRows}
-use Rattle.up_tables.specs.Stands.{IsWithin, Reads, Steps}
-use Rattle.up_tables.specs.Statements.{BlamesDisk}
-use Rattle.up_tables.specs.Tables.{up_schema}
-use Rattle.up_tables.specs.declared.values.StoreFault.{StoreFault}
-use Rattle.up_tables.specs.declared.values.StoreFault.TheVariants.{Memory, Store}
-use Rattle.up_store.specs.Connections.{Blames, BlamesWithin}
-use Rattle.up_store.specs.Listing.{ListsRows}
+use Rattle.std.proofs.Common.{◌≡◌, List, [], ◌∷◌, Bool, true, false, cond, filter, Ok, Err, Result, IfErr, sym, ◌∙◌, arith}
+use Rattle.up_store.proofs.Common.{⊤, AllByRecursion, Connected, HasCleanDisk, StateRows, IsWithin, Reads, Steps, BlamesDisk, up_schema, StoreFault, Memory, Store, BlamesWithin, ListsRows}
 use Rattle.up_store.proofs.ColumnFound.{within_read}
 
 -- what holds of all rows holds of those that are shown
@@ -24,14 +12,6 @@ all_filtered {X} P test (x ∷ rows) all = by_test (test x) (all_filtered P test
     by_test : (b : Bool) → AllByRecursion P (filter test rows) → AllByRecursion P (cond b (x ∷ filter test rows) (filter test rows))
     by_test true rest = (all.0, rest)
     by_test false rest = rest
-
-pub if_some : {X : Type 0} {P : X → Type 0} (o : Option X) → ((x : X) → o ≡ Some x → P x) → IfSome o P
-if_some None each = tt
-if_some (Some x) each = each x refl
-
-pub if_err : {A E : Type 0} {P Q : E → Type 0} (r : Result A E) → IfErr r P → ((e : E) → P e → Q e) → IfErr r Q
-if_err (Ok x) h f = tt
-if_err (Err e) h f = f e h
 
 module _ (fits : StateRows → Type 0) where
   -- a fault of a statement, whose table has the rows that it shows
@@ -64,17 +44,3 @@ module _ {A : Type 0} (fits : StateRows → Type 0) where
       → (HasCleanDisk new → (rows : StateRows) → IsWithin up_schema (ListsRows rows) old → fits rows → IfErr r (λ fault. fault ≡ Memory)) → BlamesWithin fits old new r
   memory_blames old new (Ok x) memory clean = tt
   memory_blames old new (Err f) memory clean = λ is is_open unlimited rows within fit. absurd (let no : Memory ≡ Store = sym (memory clean rows within fit) ∙ is in cc)
-
--- a read from the start of its transaction to its end
-module _ {A : Type 0} where
-  pub read_blames : {S : Type 0} (g : Ghosts S) {viewed : Held S} (old first mid last : Held S) (r : Result A StoreFault) → viewed ≡ old → first ≡ record viewed { in_transaction = true }
-      → Steps (state g first) (state g mid) → BlamesWithin (λ _. ⊤) (state g first) (state g mid) r → Survives (state g mid) (state g last) (λ _. ⊥) → Blames (state g old) (state g last) r
-  read_blames g old first mid last (Ok x) same started steps blame ends clean = tt
-  read_blames {S} g old first mid last (Err f) same started steps blame ends clean = λ is is_open unlimited rows keeps.
-      let begun : first ≡ record old { in_transaction = true } = subst (λ h. first ≡ record h { in_transaction = true }) same started in
-      let now : HasCleanDisk (state g mid) = omega (arith, ends.clean) in
-      let went : Steps (state g (record old { in_transaction = true })) (state g mid) = subst (λ h. Steps (state g h) (state g mid)) begun steps in
-      let told : BlamesWithin {A = A} (λ _. ⊤) (state g (record old { in_transaction = true })) (state g mid) (Err f) = subst (λ h. BlamesWithin {A = A} (λ _. ⊤) (state g h) (state g mid) (Err f)) begun blame in
-      let before : HasCleanDisk (state g old) = omega (arith, went.survives.clean) in
-      let fault = told now is is_open unlimited rows (record { mode = refl; here = (keeps before).here }) tt in
-      omega (arith, ends.counts, fault)

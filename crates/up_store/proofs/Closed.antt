@@ -1,25 +1,8 @@
 -- The tables list a campaign that was closed.
 use Rattle.std.proofs.Common.{◌≡◌, ℕ, ℤ, pos, List, [], ◌∷◌, Bool, true, false, cond, if◌then◌else◌, Some, Option, Ok, Err, Result, OnOk, IsTrue, refl, sym, ap, subst, ◌∙◌, bytes_eq}
 use Rattle.std.specs.FinMap as table
-use Rattle.sqlite.specs.Order.{Row}
-use Rattle.sqlite.specs.State.{State as Connected}
-use Rattle.up_canon.specs.Names.{Name, Table}
-use Rattle.up_plan.specs.Campaigns.{CampaignData}
-use Rattle.up_machine.proofs.Tables.{get_new}
-use Rattle.up_columns.specs.CampaignColumns.{reach_column, items_column}
-use Rattle.up_rows.specs.StateRows.{StateRows}
-use Rattle.up_rows.specs.Changes.{with_campaign_row}
 use Rattle.up_rows.proofs.Vehicles.{same_test}
-use Rattle.up_tables.specs.declared.values.StoreFault.{StoreFault}
-use Rattle.up_tables.specs.Lines.{campaign_line, yes_or_no}
-use Rattle.up_tables.specs.Rows.{with_only}
-use Rattle.up_tables.specs.Stands.{IsWithin, GoesOn, Alters, HasTables, Lists}
-use Rattle.up_tables.specs.Tables.{up_schema, campaign_table}
-use Rattle.up_store.specs.Fitting.{IsClosing}
-use Rattle.up_store.specs.Lines.{campaign_lines}
-use Rattle.up_store.specs.Listing.{ListsRows, table_rows}
-use Rattle.up_store.specs.Typed.{AreTyped, IsTypedCampaign}
-use Rattle.up_tables.proofs.ListedLemmas.{goes_on, lists_campaigns}
+use Rattle.up_store.proofs.Common.{Row, Connected, Name, Table, CampaignData, get_new, reach_column, items_column, StateRows, with_campaign_row, StoreFault, campaign_line, yes_or_no, with_only, IsWithin, GoesOn, Alters, HasTables, Lists, up_schema, campaign_table, IsClosing, campaign_lines, ListsRows, table_rows, AreTyped, IsTypedCampaign, goes_on, lists_campaigns}
 use Rattle.up_store.proofs.Alike.{lists_as, alters_as}
 use Rattle.up_store.proofs.TypedRows.{typed_campaign}
 

@@ -1,46 +1,8 @@
 -- What is read of the tables of images, campaigns and kept manifests.
-use Rattle.std.proofs.Common.{◌≡◌, ℕ, pos, List, [], ◌∷◌, Bool, true, false, Option, Some, None, Result, Ok, Err, IsTrue, map, filter, refl, sym, ap, subst, ◌∙◌, string_bytes, bytes_eq, arith}
-use Rattle.std.specs.Prelude.{◌==◌, if◌then◌else◌, option_map, option_and_then, IfOk, IfErr, find}
-use Rattle.std.specs.List.{AllByRecursion}
-use Rattle.std.specs.Option.{option_to_list}
-use Rattle.std.specs.Ordering.{is_eq}
+use Rattle.std.proofs.Common.{◌≡◌, ℕ, pos, List, [], ◌∷◌, Bool, true, false, Option, Some, None, Result, Ok, Err, IsTrue, map, filter, refl, sym, ap, subst, ◌∙◌, bytes_eq, arith}
 use Rattle.std.specs.FinMap as table
 use Rattle.std.proofs.lemmas.Bool.Decides.{nat_tests}
-use Rattle.sqlite.specs.declared.types.Value.TheVariants.{Int, Text}
-use Rattle.sqlite.specs.Order.{Row, value_cmp}
-use Rattle.sqlite.specs.State.{State as Connected}
-use Rattle.sqlite.specs.Table.{Table as SqlTable}
-use Rattle.sqlite.specs.Tree.{Trees}
-use Rattle.sqlite_value.proofs.OrderLemmas.{value_cmp-Int}
-use Rattle.up_canon.specs.Names.{Name, Table}
-use Rattle.up_canon.specs.Steps.{if_passes}
-use Rattle.up_columns.specs.CampaignColumns.{reach_column, items_column}
-use Rattle.up_plan.specs.Campaigns.{CampaignData}
-use Rattle.up_plan.specs.Images.{ImageData}
-use Rattle.up_machine.specs.declared.rows.Kept.{Kept}
-use Rattle.up_machine.specs.declared.rows.VehicleRow.{VehicleRow}
-use Rattle.up_machine.specs.declared.rows.VehicleRows.{VehicleRows}
-use Rattle.up_rows.specs.StateRows.{StateRows}
-use Rattle.up_rows.specs.Lookups.{kept_with, latest_kept}
-use Rattle.up_tables.specs.declared.campaign.CampaignRow.{CampaignRow}
-use Rattle.up_tables.specs.declared.image.ImageRow.{ImageRow}
-use Rattle.up_tables.specs.declared.image_sha512.Sha512Row.{Sha512Row}
-use Rattle.up_tables.specs.declared.kept.KeptRow.{KeptRow}
-use Rattle.up_tables.specs.declared.values.StoreFault.{StoreFault}
-use Rattle.up_tables.specs.declared.values.StoreFault.TheVariants.{Memory}
-use Rattle.up_tables.specs.declared.vehicle.VehicleRow.{VehicleRow as VehicleShown}
-use Rattle.up_tables.specs.Forms.{image_places, image_row, sha512_places, sha512_row, campaign_places, campaign_row, vehicle_places, vehicle_row, kept_places, kept_row}
-use Rattle.up_tables.specs.Lines.{yes_or_no}
-use Rattle.up_tables.specs.Rows.{columns_at, has_number}
-use Rattle.up_tables.specs.Stands.{IsWith, IsWithin, HasTables, Reads, Lists}
-use Rattle.up_tables.specs.Tables.{up_schema, image_table, image_sha512_table, campaign_table, vehicle_table, kept_table}
-use Rattle.up_store.specs.ColumnRows.{IsImage, IsCampaign, IsKept, AreImages, AreSha512s, AreRunning, last_found}
-use Rattle.up_store.specs.Found.{vehicle_found}
-use Rattle.up_store.specs.Lines.{image_lines, second_hash, sha512_lines, campaign_lines, kept_line}
-use Rattle.up_store.specs.Listing.{ListsRows}
-use Rattle.up_store.specs.Shown.{vehicle_read}
-use Rattle.up_store.specs.Typed.{AreTyped, IsTypedImage, IsTypedCampaign, IsTypedKept}
-use Rattle.up_store.proofs.VehicleReads.{vehicle_in}
+use Rattle.up_store.proofs.Common.{◌==◌, if◌then◌else◌, option_map, option_and_then, IfOk, option_to_list, is_eq, Int, Text, Row, value_cmp, Connected, SqlTable, Trees, value_cmp-Int, Name, Table, if_passes, reach_column, items_column, CampaignData, ImageData, Kept, VehicleRow, VehicleRows, StateRows, kept_with, latest_kept, CampaignShown, ImageShown, image_places, campaign_places, yes_or_no, columns_at, has_number, IsWith, IsWithin, HasTables, Reads, Lists, up_schema, image_table, campaign_table, IsImage, IsCampaign, AreImages, AreRunning, last_found, vehicle_found, campaign_shown_line, image_shown_line, image_lines, campaign_lines, ListsRows, AreTyped, IsTypedImage, IsTypedCampaign}
 
 -- ---- within a transaction
 
@@ -137,20 +99,20 @@ module _ {X R : Type 0} (t : NamedRows X R) where
   none_found rows name before after found is reads shows within =
       sym (none (table.get (t.values rows) name) (rows_are rows name before after found reads shows within ∙ ap (λ o. map t.row_of (option_to_list o)) is))
 
-pub image_shown : (image : ImageData) (shown : ImageRow) → image_lines (Some image) ≡ image_row shown ∷ [] → IsImage shown image
+pub image_shown : (image : ImageData) (shown : ImageShown) → image_lines (Some image) ≡ image_shown_line shown ∷ [] → IsImage shown image
 image_shown image shown h = record { file = cc; length = cc; sha256 = cc; hardware = cc; release = cc; needs = cc; conflicts = cc }
 
-pub no_image : (shown : ImageRow) → [] ≡ image_row shown ∷ [] → ⊥
+pub no_image : (shown : ImageShown) → [] ≡ image_shown_line shown ∷ [] → ⊥
 no_image shown h = cc
 
 pub one_image : (image : ImageData) → map (columns_at image_places) (image_lines (Some image)) ≡ [] → ⊥
 one_image image h = cc
 
-abbrev pub images : NamedRows ImageData ImageRow
+abbrev pub images : NamedRows ImageData ImageShown
 images = record {
   listed = image_table;
   places = image_places;
-  row_of = image_row;
+  row_of = image_shown_line;
   lines = image_lines;
   values = λ rows. rows.images;
   IsRow = IsImage;
@@ -168,20 +130,20 @@ same_yes true false h = cc
 same_yes false true h = cc
 same_yes false false h = refl
 
-pub campaign_shown : (campaign : CampaignData) (shown : CampaignRow) → campaign_lines (Some campaign) ≡ campaign_row shown ∷ [] → IsCampaign shown campaign
+pub campaign_shown : (campaign : CampaignData) (shown : CampaignShown) → campaign_lines (Some campaign) ≡ campaign_shown_line shown ∷ [] → IsCampaign shown campaign
 campaign_shown campaign shown h = record { name = cc; reach = cc; items = cc; running = let same : yes_or_no shown.running ≡ yes_or_no campaign.running = cc in same_yes shown.running campaign.running same }
 
-pub no_campaign : (shown : CampaignRow) → [] ≡ campaign_row shown ∷ [] → ⊥
+pub no_campaign : (shown : CampaignShown) → [] ≡ campaign_shown_line shown ∷ [] → ⊥
 no_campaign shown h = cc
 
 pub one_campaign : (campaign : CampaignData) → map (columns_at campaign_places) (campaign_lines (Some campaign)) ≡ [] → ⊥
 one_campaign campaign h = cc
 
-abbrev pub campaigns : NamedRows CampaignData CampaignRow
+abbrev pub campaigns : NamedRows CampaignData CampaignShown
 campaigns = record {
   listed = campaign_table;
   places = campaign_places;
-  row_of = campaign_row;
+  row_of = campaign_shown_line;
   lines = campaign_lines;
   values = λ rows. rows.campaigns;
   IsRow = IsCampaign;
@@ -202,13 +164,13 @@ columns_are : (o : Option ImageData) → map (columns_at image_places) (image_li
 columns_are None = refl
 columns_are (Some image) = refl
 
-abbrev ShowsImages : List ImageRow → Connected → Type 0
+abbrev ShowsImages : List ImageShown → Connected → Type 0
 ShowsImages found before =
     (rows_of : List ℕ → List Row) → HasTables before → Lists 1 rows_of (before.now.trees image_table.tree)
-    → (name : List ℕ) → map (columns_at image_places) (rows_of name) ≡ map image_row (filter (λ (i : ImageRow). bytes_eq (string_bytes i.file) name) found)
+    → (name : List ℕ) → map (columns_at image_places) (rows_of name) ≡ map image_shown_line (filter (λ (i : ImageShown). bytes_eq i.file name) found)
 
 -- the rows that are found are those of the images
-pub are_images : (rows : StateRows) (before after : Connected) (found : List ImageRow) → Reads before after → ShowsImages found before
+pub are_images : (rows : StateRows) (before after : Connected) (found : List ImageShown) → Reads before after → ShowsImages found before
     → IsWithin up_schema (ListsRows rows) before → AreImages found rows.images
 are_images rows before after found reads shows within =
     let has = has_tables rows before within in
@@ -217,38 +179,6 @@ are_images rows before after found reads shows within =
       typed = here.rows.typed.images;
       each = λ name. sym (columns_are (table.get rows.images name)) ∙ shows (λ n. image_lines (table.get rows.images n)) has here.rows.tables.images name;
     }
-
--- the row that is found has the second hash of the name's image
-hash_is : (file : Name) (o : Option (List ℕ)) (found : Option Sha512Row) → map (columns_at sha512_places) (sha512_lines file o) ≡ map sha512_row (option_to_list found) → option_map (λ (r : Sha512Row). r.sha512.items) found ≡ o
-hash_is file None None h = refl
-hash_is file None (Some r) h = cc
-hash_is file (Some hash) None h = cc
-hash_is file (Some hash) (Some r) h = let same : r.sha512.items ≡ hash = cc in ap Some same
-
-abbrev hash_lines_of : StateRows → Name → List Row
-hash_lines_of rows n = sha512_lines n (second_hash (table.get rows.images n))
-
-pub hash_found : (rows : StateRows) (file : Name) (before after : Connected) (found : Option Sha512Row) → Reads before after
-    → ((rows_of : List ℕ → List Row) → HasTables before → Lists 1 rows_of (before.now.trees image_sha512_table.tree) → map (columns_at sha512_places) (rows_of file) ≡ map sha512_row (option_to_list found))
-    → IsWithin up_schema (ListsRows rows) before → option_map (λ (r : Sha512Row). r.sha512.items) found ≡ second_hash (table.get rows.images file)
-hash_found rows file before after found reads shows within =
-    let has = has_tables rows before within in
-    let here = within.here reads.was_open in
-    hash_is file (second_hash (table.get rows.images file)) found (shows (hash_lines_of rows) has here.rows.tables.sha512s)
-
-hash_columns : (file : Name) (o : Option (List ℕ)) → map (columns_at sha512_places) (sha512_lines file o) ≡ sha512_lines file o
-hash_columns file None = refl
-hash_columns file (Some hash) = refl
-
--- the rows that are found are those of the images' second hashes
-pub are_hashes : (rows : StateRows) (before after : Connected) (found : List Sha512Row) → Reads before after
-    → ((rows_of : List ℕ → List Row) → HasTables before → Lists 1 rows_of (before.now.trees image_sha512_table.tree)
-    → (name : List ℕ) → map (columns_at sha512_places) (rows_of name) ≡ map sha512_row (filter (λ (i : Sha512Row). bytes_eq (string_bytes i.file) name) found))
-    → IsWithin up_schema (ListsRows rows) before → AreSha512s found rows.images
-are_hashes rows before after found reads shows within name =
-    let has = has_tables rows before within in
-    let here = within.here reads.was_open in
-    sym (hash_columns name (second_hash (table.get rows.images name))) ∙ shows (hash_lines_of rows) has here.rows.tables.sha512s name
 
 abbrev row_with : CampaignData → Bool → Row
 row_with c b = Text c.name ∷ Text (reach_column c.reach) ∷ Text (items_column c.items) ∷ Int (yes_or_no b) ∷ []
@@ -266,13 +196,13 @@ runs (Some c) = passed c.running ∙ lines_of c.running refl
     lines_of true is = ap (λ r. row_with c r ∷ []) (sym is)
     lines_of false is = refl
 
-abbrev ShowsRunning : List CampaignRow → Connected → Type 0
+abbrev ShowsRunning : List CampaignShown → Connected → Type 0
 ShowsRunning found before =
     (rows_of : List ℕ → List Row) → HasTables before → Lists 1 rows_of (before.now.trees campaign_table.tree)
-    → (name : List ℕ) → map (columns_at campaign_places) (filter (has_number 3 (pos 1)) (rows_of name)) ≡ map campaign_row (filter (λ (c : CampaignRow). bytes_eq (string_bytes c.name) name) found)
+    → (name : List ℕ) → map (columns_at campaign_places) (filter (has_number 3 (pos 1)) (rows_of name)) ≡ map campaign_shown_line (filter (λ (c : CampaignShown). bytes_eq c.name name) found)
 
 -- the rows that are found are those of the running campaigns
-pub are_running : (rows : StateRows) (before after : Connected) (found : List CampaignRow) → Reads before after → ShowsRunning found before
+pub are_running : (rows : StateRows) (before after : Connected) (found : List CampaignShown) → Reads before after → ShowsRunning found before
     → IsWithin up_schema (ListsRows rows) before → AreRunning found rows.campaigns
 are_running rows before after found reads shows within =
     let has = has_tables rows before within in
@@ -282,83 +212,6 @@ are_running rows before after found reads shows within =
       each = λ name. sym (runs (table.get rows.campaigns name)) ∙ shows (λ n. campaign_lines (table.get rows.campaigns n)) has here.rows.tables.campaigns name;
     }
 
--- ---- kept manifests
-
-pub record FoundKept (counter : ℕ) (vehicle : Name) (rows : List Kept) (shown : KeptRow) : Type 0 where
-  pub row : Kept
-  pub there : find (λ (k : Kept). k.counter == counter) rows ≡ Some row
-  pub typed : IsTypedKept vehicle row
-  pub same : IsKept shown row
-
-kept_shown : (row : Kept) (shown : KeptRow) → kept_line row ≡ kept_row shown → IsKept shown row
-kept_shown row shown h = record { vehicle = cc; counter = cc; version = cc; moment = cc; root = cc; signed = cc; plan_text = cc; reply = cc }
-
-abbrev counted : ℕ → List Kept → List Row
-counted counter rows = map (columns_at kept_places) (filter (has_number 1 (pos counter)) (map kept_line rows))
-
-kept_some : (counter : ℕ) (vehicle : Name) (rows : List Kept) (shown : KeptRow) → AllByRecursion (IsTypedKept vehicle) rows → counted counter rows ≡ kept_row shown ∷ [] → FoundKept counter vehicle rows shown
-kept_some counter vehicle [] shown typed h = cc
-kept_some counter vehicle (row ∷ rows) shown typed h = by_test (row.counter == counter) refl (kept_some counter vehicle rows shown typed.1)
-  where
-    by_test : (b : Bool) → (row.counter == counter) ≡ b → (counted counter rows ≡ kept_row shown ∷ [] → FoundKept counter vehicle rows shown) → FoundKept counter vehicle (row ∷ rows) shown
-    by_test true is rest =
-        let test = numbers_are row.counter counter ∙ is in
-        let first : kept_line row ≡ kept_row shown = let found = rw test at h in cc in
-        record { row = row; there = rw is refl; typed = typed.0; same = kept_shown row shown first }
-    by_test false is rest =
-        let test = numbers_are row.counter counter ∙ is in
-        let f = rest (rw test at h) in
-        record { row = f.row; there = rw is f.there; typed = f.typed; same = f.same }
-
-kept_none : (counter : ℕ) (rows : List Kept) → counted counter rows ≡ [] → find (λ (k : Kept). k.counter == counter) rows ≡ None
-kept_none counter [] h = refl
-kept_none counter (row ∷ rows) h = by_test (row.counter == counter) refl (kept_none counter rows)
-  where
-    by_test : (b : Bool) → (row.counter == counter) ≡ b → (counted counter rows ≡ [] → find (λ (k : Kept). k.counter == counter) rows ≡ None) → find (λ (k : Kept). k.counter == counter) (row ∷ rows) ≡ None
-    by_test true is rest = let test = numbers_are row.counter counter ∙ is in let found = rw test at h in cc
-    by_test false is rest = let test = numbers_are row.counter counter ∙ is in rw is (rest (rw test at h))
-
-abbrev ShowsKept : Name → ℕ → Option KeptRow → Connected → Type 0
-ShowsKept vehicle counter found before =
-    (rows_of : List ℕ → List Row) → HasTables before → Lists 1 rows_of (before.now.trees kept_table.tree)
-    → map (columns_at kept_places) (filter (has_number 1 (pos counter)) (rows_of vehicle)) ≡ map kept_row (option_to_list found)
-
-kept_rows_are : (rows : StateRows) (vehicle : Name) (counter : ℕ) (before after : Connected) (found : Option KeptRow) → Reads before after → ShowsKept vehicle counter found before
-    → IsWithin up_schema (ListsRows rows) before → counted counter (rows.kept vehicle) ≡ map kept_row (option_to_list found)
-kept_rows_are rows vehicle counter before after found reads shows within =
-    let has = has_tables rows before within in
-    let here = within.here reads.was_open in
-    shows (λ n. map kept_line (rows.kept n)) has here.rows.tables.kept
-
--- the row that is found is a kept manifest's
-kept_is : (rows : StateRows) (vehicle : Name) (counter : ℕ) (before after : Connected) (found : Option KeptRow) (shown : KeptRow) → found ≡ Some shown
-    → Reads before after → ShowsKept vehicle counter found before → IsWithin up_schema (ListsRows rows) before → FoundKept counter vehicle (rows.kept vehicle) shown
-kept_is rows vehicle counter before after found shown is reads shows within =
-    let here = within.here reads.was_open in
-    kept_some counter vehicle (rows.kept vehicle) shown (here.rows.typed.kept vehicle) (kept_rows_are rows vehicle counter before after found reads shows within ∙ ap (λ o. map kept_row (option_to_list o)) is)
-
--- the manifest that is found is that of the row
-pub kept_found : {E : Type 0} (r : Result (Option Kept) E) (rows : StateRows) (vehicle : Name) (counter : ℕ) (before after : Connected) (found : Option KeptRow) (shown : KeptRow) → found ≡ Some shown
-    → IfOk r (λ read. (n : Name) (row : Kept) → IsTypedKept n row → IsKept shown row → read ≡ Some row)
-    → Reads before after → ShowsKept vehicle counter found before → IsWithin up_schema (ListsRows rows) before → IfOk r (λ read. read ≡ kept_with vehicle counter rows)
-kept_found (Err e) rows vehicle counter before after found shown is read reads shows within = tt
-kept_found (Ok x) rows vehicle counter before after found shown is read reads shows within =
-    let f = kept_is rows vehicle counter before after found shown is reads shows within in
-    read vehicle f.row f.typed f.same ∙ sym f.there
-
--- it is read again
-pub kept_reads : {A : Type 0} (r : Result A StoreFault) (rows : StateRows) (vehicle : Name) (counter : ℕ) (before after : Connected) (found : Option KeptRow) (shown : KeptRow) → found ≡ Some shown
-    → ((n : Name) (row : Kept) → IsTypedKept n row → IsKept shown row → IfErr r (λ fault. fault ≡ Memory))
-    → Reads before after → ShowsKept vehicle counter found before → IsWithin up_schema (ListsRows rows) before → IfErr r (λ fault. fault ≡ Memory)
-kept_reads r rows vehicle counter before after found shown is read reads shows within =
-    let f = kept_is rows vehicle counter before after found shown is reads shows within in
-    read vehicle f.row f.typed f.same
-
-pub kept_unknown : (rows : StateRows) (vehicle : Name) (counter : ℕ) (before after : Connected) (found : Option KeptRow) → found ≡ None → Reads before after → ShowsKept vehicle counter found before
-    → IsWithin up_schema (ListsRows rows) before → None ≡ kept_with vehicle counter rows
-kept_unknown rows vehicle counter before after found is reads shows within =
-    sym (kept_none counter (rows.kept vehicle) (kept_rows_are rows vehicle counter before after found reads shows within ∙ ap (λ o. map kept_row (option_to_list o)) is))
-
 -- ---- the latest manifest
 
 pub last_told : (rows : StateRows) (vehicle : Name) → option_map (λ (r : VehicleRow). r.last) (vehicle_found vehicle rows) ≡ last_found vehicle rows
@@ -367,12 +220,6 @@ last_told rows vehicle = by_vehicle (table.get rows.vehicles vehicle)
     by_vehicle : (o : Option VehicleRows) → option_map (λ (r : VehicleRow). r.last) (option_map (λ (v : VehicleRows). v.vehicle) o) ≡ option_map (λ (v : VehicleRows). v.vehicle.last) o
     by_vehicle None = refl
     by_vehicle (Some v) = refl
-
-pub last_in : (rows : StateRows) (name : Name) (before after : Connected) (found is : Option VehicleShown) → is ≡ found → Reads before after
-    → ((rows_of : List ℕ → List Row) → HasTables before → Lists 1 rows_of (before.now.trees vehicle_table.tree) → map (columns_at vehicle_places) (rows_of name) ≡ map vehicle_row (option_to_list found))
-    → IsWithin up_schema (ListsRows rows) before → option_map (λ (r : VehicleRow). r.last) (option_map vehicle_read is) ≡ last_found name rows
-last_in rows name before after found is same reads shows within =
-    ap (option_map (λ (r : VehicleRow). r.last)) (ap (option_map vehicle_read) same ∙ vehicle_in rows name before after found reads shows within) ∙ last_told rows name
 
 -- the vehicle's greatest counter is the latest one's
 pub latest_is : (rows : StateRows) (vehicle : Name) (last : ℕ) → Some last ≡ last_found vehicle rows → kept_with vehicle last rows ≡ latest_kept vehicle rows
@@ -390,7 +237,3 @@ latest_unknown rows vehicle h = by_vehicle (table.get rows.vehicles vehicle) h
     by_vehicle (Some v) h = cc
 
 -- ---- what a read of any rows answers
-
-pub each_ok : {A E B : Type 0} (r : Result A E) (P : B → Type 0) (Q : A → B → Type 0) → ((b : B) → P b → IfOk r (λ x. Q x b)) → IfOk r (λ x. (b : B) → P b → Q x b)
-each_ok (Ok x) P Q h = h
-each_ok (Err e) P Q h = tt

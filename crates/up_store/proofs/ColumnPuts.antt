@@ -1,35 +1,11 @@
 -- Images, campaigns and kept manifests are put into the tables.
-use Rattle.std.proofs.Common.{◌≡◌, ℕ, pos, List, [], ◌∷◌, ◌++◌, Bool, true, false, Option, Some, None, Result, Ok, Err, OnOk, IsTrue, refl, sym, ap, ◌∙◌, string_bytes, bytes_eq, append-nil}
-use Rattle.std.specs.Prelude.{if◌then◌else◌, IfSome, length}
+use Rattle.std.proofs.Common.{◌≡◌, ℕ, List, [], ◌∷◌, ◌++◌, Bool, true, false, Option, Some, None, Result, Ok, Err, OnOk, IsTrue, refl, sym, ap, ◌∙◌, bytes_eq, append-nil}
 use Rattle.std.specs.FinMap as table
-use Rattle.sqlite.specs.declared.types.Value.TheVariants.{Int, Text, Blob}
-use Rattle.sqlite.specs.Order.{Row}
-use Rattle.sqlite.specs.State.{State as Connected}
 use Rattle.sqlite.specs.Table.{Table as Written}
-use Rattle.up_canon.specs.Names.{Name, Table}
-use Rattle.up_plan.specs.Campaigns.{CampaignData}
-use Rattle.up_plan.specs.Images.{ImageData}
-use Rattle.up_machine.specs.declared.decision.RegisterRows.{RegisterRows}
-use Rattle.up_machine.specs.declared.rows.Kept.{Kept}
-use Rattle.up_rows.specs.Changes.{with_campaign_row, with_image_rows, with_register_rows}
-use Rattle.up_rows.specs.StateRows.{StateRows}
 use Rattle.up_tables.specs.declared.campaign.CampaignRow.{CampaignRow}
 use Rattle.up_tables.specs.declared.image.ImageRow.{ImageRow}
 use Rattle.up_tables.specs.declared.kept.KeptRow.{KeptRow}
-use Rattle.up_tables.specs.declared.values.StoreFault.{StoreFault}
-use Rattle.up_tables.specs.Forms.{image_row, campaign_row, kept_row}
-use Rattle.up_tables.specs.Lines.{sha512_line, yes_or_no}
-use Rattle.up_tables.specs.Listed.{TableRows, ListsTables}
-use Rattle.up_tables.specs.Rows.{changed_at, with_row}
-use Rattle.up_tables.specs.Stands.{IsWithin, GoesOn, HasTables, Alters, Lists}
-use Rattle.up_tables.specs.Tables.{up_schema, image_table, image_sha512_table, campaign_table, kept_table}
-use Rattle.up_tables.proofs.ListedLemmas.{goes_on, lists_images, lists_sha512s, lists_campaigns, lists_kept}
-use Rattle.up_store.specs.ColumnRows.{IsImage, IsCampaign, IsKept, with_image, with_kept}
-use Rattle.up_store.specs.Fitting.{IsNewCampaign, IsNewImage, IsSameRoot}
-use Rattle.up_store.specs.Lines.{image_lines, second_hash, sha512_lines, campaign_lines, kept_line}
-use Rattle.up_store.specs.Listing.{ListsRows, table_rows}
-use Rattle.up_store.specs.Puts.{with_image_line, with_sha512_line}
-use Rattle.up_store.specs.Typed.{IsTypedImage, IsTypedCampaign}
+use Rattle.up_store.proofs.Common.{if◌then◌else◌, IfSome, length, Row, Connected, Name, Table, CampaignData, ImageData, RegisterRows, Kept, with_campaign_row, with_image_rows, with_register_rows, StateRows, StoreFault, image_row, campaign_row, kept_row, sha512_line, TableRows, ListsTables, changed_at, with_row, IsWithin, GoesOn, HasTables, Alters, Lists, up_schema, image_table, image_sha512_table, campaign_table, kept_table, goes_on, lists_images, lists_sha512s, lists_campaigns, lists_kept, with_image, with_kept, IsNewCampaign, IsNewImage, IsSameRoot, image_line, image_lines, line_of_campaign, second_hash, sha512_lines, campaign_lines, kept_line, ListsRows, table_rows, with_image_line, with_sha512_line, IsTypedImage, IsTypedCampaign}
 use Rattle.up_store.proofs.Alike.{lists_as, alters_as}
 use Rattle.up_store.proofs.Inserted.{changed_inserted, row_inserted}
 use Rattle.up_store.proofs.RootPuts.{within_goes, goes_as, tables_within}
@@ -58,20 +34,16 @@ puts_named (Ok done) listed lines values name x made_name row Fits next before a
 
 -- ---- images
 
-pub image_is : (made : ImageRow) (image : ImageData) → IsImage made image → image_row made ∷ [] ≡ image_lines (Some image)
-image_is made image is = λ i.
-    (Text (is.file i) ∷ Int (pos (is.length i)) ∷ Blob (is.sha256 i) ∷ Text (is.hardware i) ∷ Int (pos (is.release i)) ∷ Text (is.needs i) ∷ Text (is.conflicts i) ∷ []) ∷ []
-
-pub puts_image : {A : Type 0} (r : Result A StoreFault) (image : ImageData) (made : ImageRow) (before after : Connected) → IsImage made image
-    → OnOk r ((rows_of : List ℕ → List Row) → HasTables before → Lists 1 rows_of (before.now.trees image_table.tree) → Alters image_table (Lists 1 (with_row (string_bytes made.file) (image_row made) rows_of)) before after)
+pub puts_image : {A : Type 0} (r : Result A StoreFault) (image : ImageData) (made : ImageRow) (before after : Connected) → image_row made ≡ image_line image
+    → OnOk r ((rows_of : List ℕ → List Row) → HasTables before → Lists 1 rows_of (before.now.trees image_table.tree) → Alters image_table (Lists 1 (with_row made.file.now (image_row made) rows_of)) before after)
     → OnOk r (IsTrue before.is_open) → OnOk r ((rows : TableRows) → IsWithin up_schema (ListsTables rows) before → Unit {0} → GoesOn up_schema (ListsTables (with_image_line image rows)) after)
 puts_image (Err e) image made before after is puts was_open = tt
 puts_image (Ok done) image made before after is puts was_open = λ rows within fits.
     let here = within.here was_open in
     let images : List ℕ → List Row = changed_at image.file (λ were. were ++ image_lines (Some image)) rows.images in
     let put = puts rows.images (λ _. record { schema_is = here.schema_is; sound = here.sound; rows = tt }) here.rows.images in
-    let named : (n : List ℕ) → with_row (string_bytes made.file) (image_row made) rows.images n ≡ images n =
-    λ n. ap (λ m. with_row m (image_row made) rows.images n) is.file ∙ ap (λ (more : List Row). changed_at image.file (λ were. were ++ more) rows.images n) (image_is made image is) in
+    let named : (n : List ℕ) → with_row made.file.now (image_row made) rows.images n ≡ images n =
+    λ n. ap (λ m. with_row m (image_row made) rows.images n) (let e = is in cc) ∙ ap (λ (row : Row). changed_at image.file (λ were. were ++ row ∷ []) rows.images n) is in
     let now : Alters image_table (Lists 1 images) before after = alters_as image_table _ _ (λ trees. lists_as 1 _ _ trees named) before after put in
     goes_on image_table _ (ListsTables (with_image_line image rows)) before after now (lists_images rows images before after here.rows now)
 
@@ -167,32 +139,26 @@ puts_both (Ok done) image new before mid after first second = λ rows within fit
 
 -- ---- campaigns
 
-pub campaign_is : (made : CampaignRow) (campaign : CampaignData) → IsCampaign made campaign → campaign_row made ∷ [] ≡ campaign_lines (Some campaign)
-campaign_is made campaign is = λ i. (Text (is.name i) ∷ Text (is.reach i) ∷ Text (is.items i) ∷ Int (yes_or_no (is.running i)) ∷ []) ∷ []
-
-pub puts_campaign : {A : Type 0} (r : Result A StoreFault) (new : CampaignData) (made : CampaignRow) (before after : Connected) → IsCampaign made new → IsTypedCampaign new.name new
-    → OnOk r ((rows_of : List ℕ → List Row) → HasTables before → Lists 1 rows_of (before.now.trees campaign_table.tree) → Alters campaign_table (Lists 1 (with_row (string_bytes made.name) (campaign_row made) rows_of)) before after)
+pub puts_campaign : {A : Type 0} (r : Result A StoreFault) (new : CampaignData) (made : CampaignRow) (before after : Connected) → campaign_row made ≡ line_of_campaign new → IsTypedCampaign new.name new
+    → OnOk r ((rows_of : List ℕ → List Row) → HasTables before → Lists 1 rows_of (before.now.trees campaign_table.tree) → Alters campaign_table (Lists 1 (with_row made.name.now (campaign_row made) rows_of)) before after)
     → OnOk r (IsTrue before.is_open) → OnOk r ((rows : StateRows) → IsWithin up_schema (ListsRows rows) before → IsNewCampaign new rows → GoesOn up_schema (ListsRows (with_campaign_row rows new)) after)
 puts_campaign r new made before after is typed puts was_open =
-    puts_named r campaign_table campaign_lines (λ rows. rows.campaigns) new.name new (string_bytes made.name) (campaign_row made) (IsNewCampaign new) (λ rows. with_campaign_row rows new) before after (λ rows fits. fits)
-    refl (sym (campaign_is made new is)) is.name (λ rows lists. lists.tables.campaigns)
+    puts_named r campaign_table campaign_lines (λ rows. rows.campaigns) new.name new made.name.now (campaign_row made) (IsNewCampaign new) (λ rows. with_campaign_row rows new) before after (λ rows fits. fits)
+    refl (ap (λ (row : Row). row ∷ []) (sym is)) (let e = is in cc) (λ rows lists. lists.tables.campaigns)
     (λ rows lists now. record { last = lists.last; numbered = lists.numbered; typed = typed_campaign rows new lists.typed typed; tables = lists_campaigns (table_rows rows) _ before after lists.tables now }) puts was_open
 
 -- ---- kept manifests
 
-pub kept_is : (made : KeptRow) (row : Kept) → IsKept made row → kept_row made ≡ kept_line row
-kept_is made row is = λ i.
-    Text (is.vehicle i) ∷ Int (pos (is.counter i)) ∷ Int (pos (is.version i)) ∷ Int (pos (is.moment i)) ∷ Int (pos (is.root i)) ∷ Text (is.signed i) ∷ Text (is.plan_text i) ∷ Text (is.reply i) ∷ []
-
-pub puts_kept : {A : Type 0} (r : Result A StoreFault) (row : Kept) (made : KeptRow) (before after : Connected) → IsKept made row
-    → OnOk r ((rows_of : List ℕ → List Row) → HasTables before → Lists 1 rows_of (before.now.trees kept_table.tree) → Alters kept_table (Lists 1 (with_row (string_bytes made.vehicle) (kept_row made) rows_of)) before after)
+pub puts_kept : {A : Type 0} (r : Result A StoreFault) (row : Kept) (made : KeptRow) (before after : Connected) → kept_row made ≡ kept_line row
+    → OnOk r ((rows_of : List ℕ → List Row) → HasTables before → Lists 1 rows_of (before.now.trees kept_table.tree) → Alters kept_table (Lists 1 (with_row made.vehicle.now (kept_row made) rows_of)) before after)
     → OnOk r (IsTrue before.is_open) → OnOk r ((rows : TableRows) → IsWithin up_schema (ListsTables rows) before → Unit {0} → GoesOn up_schema (ListsTables (with_kept row rows)) after)
 puts_kept (Err e) row made before after is puts was_open = tt
 puts_kept (Ok done) row made before after is puts was_open = λ rows within fits.
     let here = within.here was_open in
     let kept : List ℕ → List Row = with_row row.vehicle (kept_line row) rows.kept in
     let put = puts rows.kept (λ _. record { schema_is = here.schema_is; sound = here.sound; rows = tt }) here.rows.kept in
-    let named : (n : List ℕ) → with_row (string_bytes made.vehicle) (kept_row made) rows.kept n ≡ kept n =
-    λ n. ap (λ m. with_row m (kept_row made) rows.kept n) is.vehicle ∙ ap (λ (line : Row). with_row row.vehicle line rows.kept n) (kept_is made row is) in
+    let vehicle : made.vehicle.now ≡ row.vehicle = cc in
+    let named : (n : List ℕ) → with_row made.vehicle.now (kept_row made) rows.kept n ≡ kept n =
+    λ n. ap (λ m. with_row m (kept_row made) rows.kept n) vehicle ∙ ap (λ (line : Row). with_row row.vehicle line rows.kept n) is in
     let now : Alters kept_table (Lists 1 kept) before after = alters_as kept_table _ _ (λ trees. lists_as 1 _ _ trees named) before after put in
     goes_on kept_table _ (ListsTables (with_kept row rows)) before after now (lists_kept rows kept before after here.rows now)

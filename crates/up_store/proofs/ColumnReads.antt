@@ -1,12 +1,6 @@
 -- Values of rows with columns, part by part.
 use Rattle.std.proofs.Common.{◌≡◌, ℕ, List, Bool, Option}
-use Rattle.up_canon.specs.Names.{Name}
-use Rattle.up_plan.specs.Campaigns.{CampaignData}
-use Rattle.up_plan.specs.Images.{ImageData}
-use Rattle.up_plan.specs.declared.campaign.Item.{Item}
-use Rattle.up_plan.specs.declared.campaign.Reach.{Reach}
-use Rattle.up_plan.specs.declared.image.Need.{Need}
-use Rattle.up_store.specs.Shown.{image_made, campaign_made}
+use Rattle.up_store.proofs.Common.{Name, CampaignData, ImageData, Item, Reach, Need, image_made, campaign_made}
 
 pub same_image : (image : ImageData) (file : Name) (size : ℕ) (sha256 : List ℕ) (sha512 : Option (List ℕ)) (hardware : List Name) (release : ℕ) (needs : List Need) (conflicts : List Name)
     → file ≡ image.file → size ≡ image.length → sha256 ≡ image.sha256 → sha512 ≡ image.sha512 → hardware ≡ image.hardware → release ≡ image.release → needs ≡ image.needs → conflicts ≡ image.conflicts

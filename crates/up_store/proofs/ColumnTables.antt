@@ -1,25 +1,8 @@
 -- The tables of images and of campaigns, read whole.
-use Rattle.std.proofs.Common.{◌≡◌, ℕ, pos, ◌+◌, ◌<◌, List, [], ◌∷◌, Bool, true, false, Option, Some, None, length, take, get_or, refl, sym, ap, ◌∙◌, string_bytes}
-use Rattle.std.specs.Prelude.{◌&&◌, if◌then◌else◌}
+use Rattle.std.proofs.Common.{◌≡◌, ℕ, ◌+◌, ◌<◌, List, [], ◌∷◌, Bool, true, false, Option, Some, None, length, take, get_or, refl, sym, ap, ◌∙◌}
 use Rattle.std.specs.FinMap as table
-use Rattle.sqlite.specs.declared.types.Value.TheVariants.{Int, Text, Blob}
-use Rattle.sqlite.specs.Order.{Row}
-use Rattle.up_canon.specs.Names.{Name, Table}
-use Rattle.up_canon.specs.Steps.{if_passes}
-use Rattle.up_columns.specs.Columns.{names_column, needs_column}
-use Rattle.up_columns.specs.CampaignColumns.{reach_column, items_column}
-use Rattle.up_plan.specs.Campaigns.{CampaignData}
-use Rattle.up_plan.specs.Images.{ImageData}
-use Rattle.up_plan.specs.Planning.{reaches}
-use Rattle.up_tables.specs.declared.campaign.CampaignRow.{CampaignRow}
-use Rattle.up_tables.specs.declared.image.ImageRow.{ImageRow}
-use Rattle.up_tables.specs.declared.image_sha512.Sha512Row.{Sha512Row}
-use Rattle.up_tables.specs.Forms.{image_row, sha512_row, campaign_row}
-use Rattle.up_tables.specs.Lines.{campaign_line, sha512_line, yes_or_no}
-use Rattle.up_store.specs.ColumnRows.{IsImage, IsCampaign, AreImages, AreSha512s, AreHashesOf, AreRunning}
-use Rattle.up_store.specs.Found.{values_where}
-use Rattle.up_store.specs.Lines.{image_lines, second_hash, sha512_lines, campaign_lines}
-use Rattle.up_store.specs.Typed.{IsTypedImage, IsTypedCampaign}
+use Rattle.up_store.specs.declared.second_hashes.SecondHash.{SecondHash}
+use Rattle.up_store.proofs.Common.{◌&&◌, if◌then◌else◌, Name, Table, if_passes, CampaignData, ImageData, reaches, CampaignShown, ImageShown, sha512_line, IsImage, IsCampaign, AreImages, AreSha512s, AreHashesOf, AreRunning, values_where, campaign_shown_line, hash_line, image_line, image_lines, image_shown_line, line_of_campaign, second_hash, sha512_lines, campaign_lines, IsTypedImage, IsTypedCampaign}
 use Rattle.up_store.proofs.ColumnFound.{image_shown, campaign_shown}
 use Rattle.up_store.proofs.ValuesWhere.{get_where}
 use Rattle.up_store.proofs.WholeTables as whole
@@ -27,50 +10,47 @@ use Rattle.up_machine.proofs.Planned.{if_passes_some}
 
 -- ---- images
 
-abbrev image_key : ImageRow → Name
-image_key shown = string_bytes shown.file
-
-abbrev image_line : ImageData → Row
-image_line i = Text i.file ∷ Int (pos i.length) ∷ Blob i.sha256 ∷ Text (names_column i.hardware) ∷ Int (pos i.release) ∷ Text (needs_column i.needs) ∷ Text (names_column i.conflicts) ∷ []
+abbrev image_key : ImageShown → Name
+image_key shown = shown.file
 
 abbrev any_image : ImageData → Bool
 any_image image = true
 
 -- the images of these rows
-abbrev pub AreSofar : List ImageRow → Table ImageData → Table ImageData → Type 0
-AreSofar rows images t = whole.IsSofar image_key image_row (λ n. image_lines) (λ n. image_line) (λ n. refl) (λ n x. refl) any_image (λ n. table.get images n) rows t
+abbrev pub AreSofar : List ImageShown → Table ImageData → Table ImageData → Type 0
+AreSofar rows images t = whole.IsSofar image_key image_shown_line (λ n. image_lines) (λ n. image_line) (λ n. refl) (λ n x. refl) any_image (λ n. table.get images n) rows t
 
 pub images_begun : (images : Table ImageData) → AreSofar [] images table.empty
-images_begun images = whole.begun image_key image_row (λ n. image_lines) (λ n. image_line) (λ n. refl) (λ n x. refl) any_image (λ n. table.get images n)
+images_begun images = whole.begun image_key image_shown_line (λ n. image_lines) (λ n. image_line) (λ n. refl) (λ n x. refl) any_image (λ n. table.get images n)
 
-pub images_more : (images : Table ImageData) (hashes : Table (List ℕ)) (rows : List ImageRow) (i : ℕ) (r : ImageRow) (t next : Table ImageData) → i < length rows → r ≡ get_or rows i r → AreImages rows images → AreHashesOf hashes images
+pub images_more : (images : Table ImageData) (hashes : Table (List ℕ)) (rows : List ImageShown) (i : ℕ) (r : ImageShown) (t next : Table ImageData) → i < length rows → r ≡ get_or rows i r → AreImages rows images → AreHashesOf hashes images
     → ((file : Name) (image : ImageData) → IsTypedImage file image → IsImage r image → table.get hashes image.file ≡ image.sha512 → next ≡ table.insert t image.file image)
     → AreSofar (take i rows) images t → AreSofar (take (i + 1) rows) images next
 images_more images hashes rows i r t next h at are told put so =
-    let is = whole.row_is image_key image_row (λ n. image_lines) (λ n. image_line) (λ n. refl) (λ n x. refl) any_image (λ n. table.get images n) rows i r h at are.each in
+    let is = whole.row_is image_key image_shown_line (λ n. image_lines) (λ n. image_line) (λ n. refl) (λ n x. refl) any_image (λ n. table.get images n) rows i r h at are.each in
     let same = image_shown is.value r is.same in
-    whole.more image_key image_row (λ n. image_lines) (λ n. image_line) (λ n. refl) (λ n x. refl) any_image (λ n. table.get images n) rows i r is.value t next h at is.there
+    whole.more image_key image_shown_line (λ n. image_lines) (λ n. image_line) (λ n. refl) (λ n x. refl) any_image (λ n. table.get images n) rows i r is.value t next h at is.there
     (put (image_key r) is.value (are.typed (image_key r) is.value is.there) same (told is.value.file ∙ ap (λ name. second_hash (table.get images name)) (sym same.file) ∙ ap second_hash is.there) ∙ ap (λ name. table.insert t name is.value) (sym same.file)) so
 
 -- each row is of an image
-pub image_of : (images : Table ImageData) (rows : List ImageRow) (i : ℕ) (r : ImageRow) → i < length rows → r ≡ get_or rows i r → AreImages rows images
+pub image_of : (images : Table ImageData) (rows : List ImageShown) (i : ℕ) (r : ImageShown) → i < length rows → r ≡ get_or rows i r → AreImages rows images
     → (image : ImageData) × (table.get images (image_key r) ≡ Some image) × IsImage r image
 image_of images rows i r h at are =
-    let is = whole.row_is image_key image_row (λ n. image_lines) (λ n. image_line) (λ n. refl) (λ n x. refl) any_image (λ n. table.get images n) rows i r h at are.each in
+    let is = whole.row_is image_key image_shown_line (λ n. image_lines) (λ n. image_line) (λ n. refl) (λ n x. refl) any_image (λ n. table.get images n) rows i r h at are.each in
     (is.value, is.there, image_shown is.value r is.same)
 
 any_passes : (o : Option ImageData) → if_passes any_image o ≡ o
 any_passes None = refl
 any_passes (Some image) = refl
 
-pub images_ended : (images : Table ImageData) (rows : List ImageRow) (t : Table ImageData) → AreImages rows images → AreSofar rows images t → t ≡ images
+pub images_ended : (images : Table ImageData) (rows : List ImageShown) (t : Table ImageData) → AreImages rows images → AreSofar rows images t → t ≡ images
 images_ended images rows t are so =
-    whole.same_table t images (λ n. whole.ended image_key image_row (λ n. image_lines) (λ n. image_line) (λ n. refl) (λ n x. refl) any_image (λ m. table.get images m) rows t are.each so n ∙ any_passes (table.get images n))
+    whole.same_table t images (λ n. whole.ended image_key image_shown_line (λ n. image_lines) (λ n. image_line) (λ n. refl) (λ n x. refl) any_image (λ m. table.get images m) rows t are.each so n ∙ any_passes (table.get images n))
 
 -- ---- the second hashes of images
 
-abbrev hash_key : Sha512Row → Name
-hash_key shown = string_bytes shown.file
+abbrev hash_key : SecondHash → Name
+hash_key shown = shown.file
 
 abbrev any_hash : List ℕ → Bool
 any_hash hash = true
@@ -79,43 +59,34 @@ abbrev hash_at : Table ImageData → Name → Option (List ℕ)
 hash_at images n = second_hash (table.get images n)
 
 -- the second hashes of these rows
-abbrev pub AreHashesSofar : List Sha512Row → Table ImageData → Table (List ℕ) → Type 0
-AreHashesSofar rows images t = whole.IsSofar hash_key sha512_row sha512_lines sha512_line (λ n. refl) (λ n x. refl) any_hash (hash_at images) rows t
+abbrev pub AreHashesSofar : List SecondHash → Table ImageData → Table (List ℕ) → Type 0
+AreHashesSofar rows images t = whole.IsSofar hash_key hash_line sha512_lines sha512_line (λ n. refl) (λ n x. refl) any_hash (hash_at images) rows t
 
 pub hashes_begun : (images : Table ImageData) → AreHashesSofar [] images table.empty
-hashes_begun images = whole.begun hash_key sha512_row sha512_lines sha512_line (λ n. refl) (λ n x. refl) any_hash (hash_at images)
+hashes_begun images = whole.begun hash_key hash_line sha512_lines sha512_line (λ n. refl) (λ n x. refl) any_hash (hash_at images)
 
-the_hash : (n : Name) (hash : List ℕ) (r : Sha512Row) → sha512_lines n (Some hash) ≡ sha512_row r ∷ [] → r.sha512.items ≡ hash
+the_hash : (n : Name) (hash : List ℕ) (r : SecondHash) → sha512_lines n (Some hash) ≡ hash_line r ∷ [] → r.sha512 ≡ hash
 the_hash n hash r h = cc
 
-pub hashes_more : (images : Table ImageData) (rows : List Sha512Row) (i : ℕ) (r : Sha512Row) (t next : Table (List ℕ)) → i < length rows → r ≡ get_or rows i r → AreSha512s rows images
-    → next ≡ table.insert t (string_bytes r.file) r.sha512.items → AreHashesSofar (take i rows) images t → AreHashesSofar (take (i + 1) rows) images next
+pub hashes_more : (images : Table ImageData) (rows : List SecondHash) (i : ℕ) (r : SecondHash) (t next : Table (List ℕ)) → i < length rows → r ≡ get_or rows i r → AreSha512s rows images
+    → next ≡ table.insert t r.file r.sha512 → AreHashesSofar (take i rows) images t → AreHashesSofar (take (i + 1) rows) images next
 hashes_more images rows i r t next h at are put so =
-    let is = whole.row_is hash_key sha512_row sha512_lines sha512_line (λ n. refl) (λ n x. refl) any_hash (hash_at images) rows i r h at are in
-    whole.more hash_key sha512_row sha512_lines sha512_line (λ n. refl) (λ n x. refl) any_hash (hash_at images) rows i r is.value t next h at is.there
+    let is = whole.row_is hash_key hash_line sha512_lines sha512_line (λ n. refl) (λ n x. refl) any_hash (hash_at images) rows i r h at are in
+    whole.more hash_key hash_line sha512_lines sha512_line (λ n. refl) (λ n x. refl) any_hash (hash_at images) rows i r is.value t next h at is.there
     (put ∙ ap (table.insert t (hash_key r)) (the_hash (hash_key r) is.value r is.same)) so
-
--- each row is of a second hash
-pub hash_of : (images : Table ImageData) (rows : List Sha512Row) (i : ℕ) (r : Sha512Row) → i < length rows → r ≡ get_or rows i r → AreSha512s rows images → second_hash (table.get images (hash_key r)) ≡ Some r.sha512.items
-hash_of images rows i r h at are =
-    let is = whole.row_is hash_key sha512_row sha512_lines sha512_line (λ n. refl) (λ n x. refl) any_hash (hash_at images) rows i r h at are in
-    is.there ∙ ap Some (sym (the_hash (hash_key r) is.value r is.same))
 
 any_hash_passes : (o : Option (List ℕ)) → if_passes any_hash o ≡ o
 any_hash_passes None = refl
 any_hash_passes (Some hash) = refl
 
-pub hashes_ended : (images : Table ImageData) (rows : List Sha512Row) (t : Table (List ℕ)) → AreSha512s rows images → AreHashesSofar rows images t → AreHashesOf t images
+pub hashes_ended : (images : Table ImageData) (rows : List SecondHash) (t : Table (List ℕ)) → AreSha512s rows images → AreHashesSofar rows images t → AreHashesOf t images
 hashes_ended images rows t are so n =
-    whole.ended hash_key sha512_row sha512_lines sha512_line (λ n. refl) (λ n x. refl) any_hash (hash_at images) rows t are so n ∙ any_hash_passes (hash_at images n)
+    whole.ended hash_key hash_line sha512_lines sha512_line (λ n. refl) (λ n x. refl) any_hash (hash_at images) rows t are so n ∙ any_hash_passes (hash_at images n)
 
 -- ---- running campaigns
 
-abbrev campaign_key : CampaignRow → Name
-campaign_key shown = string_bytes shown.name
-
-abbrev line_of_campaign : CampaignData → Row
-line_of_campaign c = campaign_line c.name (reach_column c.reach) (items_column c.items) (yes_or_no c.running)
+abbrev campaign_key : CampaignShown → Name
+campaign_key shown = shown.name
 
 abbrev is_running : CampaignData → Bool
 is_running c = c.running
@@ -127,26 +98,26 @@ abbrev running : Table CampaignData → Name → Option CampaignData
 running campaigns n = if_passes is_running (table.get campaigns n)
 
 -- each row is of a campaign
-pub campaign_of : (campaigns : Table CampaignData) (rows : List CampaignRow) (i : ℕ) (r : CampaignRow) → i < length rows → r ≡ get_or rows i r → AreRunning rows campaigns
+pub campaign_of : (campaigns : Table CampaignData) (rows : List CampaignShown) (i : ℕ) (r : CampaignShown) → i < length rows → r ≡ get_or rows i r → AreRunning rows campaigns
     → (campaign : CampaignData) × (table.get campaigns (campaign_key r) ≡ Some campaign) × IsCampaign r campaign
 campaign_of campaigns rows i r h at are =
-    let is = whole.row_is campaign_key campaign_row (λ n. campaign_lines) (λ n. line_of_campaign) (λ n. refl) (λ n x. refl) is_running (running campaigns) rows i r h at are.each in
+    let is = whole.row_is campaign_key campaign_shown_line (λ n. campaign_lines) (λ n. line_of_campaign) (λ n. refl) (λ n x. refl) is_running (running campaigns) rows i r h at are.each in
     (is.value, if_passes_some is_running (table.get campaigns (campaign_key r)) is.value is.there, campaign_shown is.value r is.same)
 
 -- those of these rows' campaigns that reach the vehicle
-abbrev pub AreReaching : Name → List CampaignRow → Table CampaignData → Table CampaignData → Type 0
-AreReaching vehicle rows campaigns t = whole.IsSofar campaign_key campaign_row (λ n. campaign_lines) (λ n. line_of_campaign) (λ n. refl) (λ n x. refl) (is_reached vehicle) (running campaigns) rows t
+abbrev pub AreReaching : Name → List CampaignShown → Table CampaignData → Table CampaignData → Type 0
+AreReaching vehicle rows campaigns t = whole.IsSofar campaign_key campaign_shown_line (λ n. campaign_lines) (λ n. line_of_campaign) (λ n. refl) (λ n x. refl) (is_reached vehicle) (running campaigns) rows t
 
 pub reaching_begun : (vehicle : Name) (campaigns : Table CampaignData) → AreReaching vehicle [] campaigns table.empty
-reaching_begun vehicle campaigns = whole.begun campaign_key campaign_row (λ n. campaign_lines) (λ n. line_of_campaign) (λ n. refl) (λ n x. refl) (is_reached vehicle) (running campaigns)
+reaching_begun vehicle campaigns = whole.begun campaign_key campaign_shown_line (λ n. campaign_lines) (λ n. line_of_campaign) (λ n. refl) (λ n x. refl) (is_reached vehicle) (running campaigns)
 
-pub reaching_more : (vehicle : Name) (campaigns : Table CampaignData) (rows : List CampaignRow) (i : ℕ) (r : CampaignRow) (t next : Table CampaignData) → i < length rows → r ≡ get_or rows i r → AreRunning rows campaigns
+pub reaching_more : (vehicle : Name) (campaigns : Table CampaignData) (rows : List CampaignShown) (i : ℕ) (r : CampaignShown) (t next : Table CampaignData) → i < length rows → r ≡ get_or rows i r → AreRunning rows campaigns
     → ((name : Name) (campaign : CampaignData) → IsTypedCampaign name campaign → IsCampaign r campaign → next ≡ (if reaches vehicle campaign.reach then table.insert t campaign.name campaign else t))
     → AreReaching vehicle (take i rows) campaigns t → AreReaching vehicle (take (i + 1) rows) campaigns next
 reaching_more vehicle campaigns rows i r t next h at are put so =
-    let is = whole.row_is campaign_key campaign_row (λ n. campaign_lines) (λ n. line_of_campaign) (λ n. refl) (λ n x. refl) (is_reached vehicle) (running campaigns) rows i r h at are.each in
+    let is = whole.row_is campaign_key campaign_shown_line (λ n. campaign_lines) (λ n. line_of_campaign) (λ n. refl) (λ n x. refl) (is_reached vehicle) (running campaigns) rows i r h at are.each in
     let same = campaign_shown is.value r is.same in
-    whole.more campaign_key campaign_row (λ n. campaign_lines) (λ n. line_of_campaign) (λ n. refl) (λ n x. refl) (is_reached vehicle) (running campaigns) rows i r is.value t next h at is.there
+    whole.more campaign_key campaign_shown_line (λ n. campaign_lines) (λ n. line_of_campaign) (λ n. refl) (λ n x. refl) (is_reached vehicle) (running campaigns) rows i r is.value t next h at is.there
     (put (campaign_key r) is.value (are.typed (campaign_key r) is.value (if_passes_some is_running (table.get campaigns (campaign_key r)) is.value is.there)) same
     ∙ ap (λ name. if reaches vehicle is.value.reach then table.insert t name is.value else t) (sym same.name)) so
 
@@ -158,10 +129,10 @@ both_pass vehicle (Some c) = by_test c.running
     by_test true = refl
     by_test false = refl
 
-pub reaching_ended : (vehicle : Name) (campaigns : Table CampaignData) (rows : List CampaignRow) (t : Table CampaignData) → AreRunning rows campaigns → AreReaching vehicle rows campaigns t
+pub reaching_ended : (vehicle : Name) (campaigns : Table CampaignData) (rows : List CampaignShown) (t : Table CampaignData) → AreRunning rows campaigns → AreReaching vehicle rows campaigns t
     → t ≡ values_where (λ c. c.running && reaches vehicle c.reach) campaigns
 reaching_ended vehicle campaigns rows t are so =
-    whole.same_table t _ (λ n. whole.ended campaign_key campaign_row (λ n. campaign_lines) (λ n. line_of_campaign) (λ n. refl) (λ n x. refl) (is_reached vehicle) (running campaigns) rows t are.each so n
+    whole.same_table t _ (λ n. whole.ended campaign_key campaign_shown_line (λ n. campaign_lines) (λ n. line_of_campaign) (λ n. refl) (λ n x. refl) (is_reached vehicle) (running campaigns) rows t are.each so n
     ∙ both_pass vehicle (table.get campaigns n) ∙ sym (get_where (λ c. c.running && reaches vehicle c.reach) campaigns n))
 
 -- ---- all running campaigns
@@ -170,19 +141,19 @@ abbrev any_campaign : CampaignData → Bool
 any_campaign campaign = true
 
 -- those of these rows
-abbrev pub AreRead : List CampaignRow → Table CampaignData → Table CampaignData → Type 0
-AreRead rows campaigns t = whole.IsSofar campaign_key campaign_row (λ n. campaign_lines) (λ n. line_of_campaign) (λ n. refl) (λ n x. refl) any_campaign (running campaigns) rows t
+abbrev pub AreRead : List CampaignShown → Table CampaignData → Table CampaignData → Type 0
+AreRead rows campaigns t = whole.IsSofar campaign_key campaign_shown_line (λ n. campaign_lines) (λ n. line_of_campaign) (λ n. refl) (λ n x. refl) any_campaign (running campaigns) rows t
 
 pub running_begun : (campaigns : Table CampaignData) → AreRead [] campaigns table.empty
-running_begun campaigns = whole.begun campaign_key campaign_row (λ n. campaign_lines) (λ n. line_of_campaign) (λ n. refl) (λ n x. refl) any_campaign (running campaigns)
+running_begun campaigns = whole.begun campaign_key campaign_shown_line (λ n. campaign_lines) (λ n. line_of_campaign) (λ n. refl) (λ n x. refl) any_campaign (running campaigns)
 
-pub running_more : (campaigns : Table CampaignData) (rows : List CampaignRow) (i : ℕ) (r : CampaignRow) (t next : Table CampaignData) → i < length rows → r ≡ get_or rows i r → AreRunning rows campaigns
+pub running_more : (campaigns : Table CampaignData) (rows : List CampaignShown) (i : ℕ) (r : CampaignShown) (t next : Table CampaignData) → i < length rows → r ≡ get_or rows i r → AreRunning rows campaigns
     → ((name : Name) (campaign : CampaignData) → IsTypedCampaign name campaign → IsCampaign r campaign → next ≡ table.insert t campaign.name campaign)
     → AreRead (take i rows) campaigns t → AreRead (take (i + 1) rows) campaigns next
 running_more campaigns rows i r t next h at are put so =
-    let is = whole.row_is campaign_key campaign_row (λ n. campaign_lines) (λ n. line_of_campaign) (λ n. refl) (λ n x. refl) any_campaign (running campaigns) rows i r h at are.each in
+    let is = whole.row_is campaign_key campaign_shown_line (λ n. campaign_lines) (λ n. line_of_campaign) (λ n. refl) (λ n x. refl) any_campaign (running campaigns) rows i r h at are.each in
     let same = campaign_shown is.value r is.same in
-    whole.more campaign_key campaign_row (λ n. campaign_lines) (λ n. line_of_campaign) (λ n. refl) (λ n x. refl) any_campaign (running campaigns) rows i r is.value t next h at is.there
+    whole.more campaign_key campaign_shown_line (λ n. campaign_lines) (λ n. line_of_campaign) (λ n. refl) (λ n x. refl) any_campaign (running campaigns) rows i r is.value t next h at is.there
     (put (campaign_key r) is.value (are.typed (campaign_key r) is.value (if_passes_some is_running (table.get campaigns (campaign_key r)) is.value is.there)) same
     ∙ ap (λ name. table.insert t name is.value) (sym same.name)) so
 
@@ -190,7 +161,7 @@ any_campaign_passes : (o : Option CampaignData) → if_passes any_campaign o ≡
 any_campaign_passes None = refl
 any_campaign_passes (Some campaign) = refl
 
-pub running_ended : (campaigns : Table CampaignData) (rows : List CampaignRow) (t : Table CampaignData) → AreRunning rows campaigns → AreRead rows campaigns t → t ≡ values_where (λ c. c.running) campaigns
+pub running_ended : (campaigns : Table CampaignData) (rows : List CampaignShown) (t : Table CampaignData) → AreRunning rows campaigns → AreRead rows campaigns t → t ≡ values_where (λ c. c.running) campaigns
 running_ended campaigns rows t are so =
-    whole.same_table t _ (λ n. whole.ended campaign_key campaign_row (λ n. campaign_lines) (λ n. line_of_campaign) (λ n. refl) (λ n x. refl) any_campaign (running campaigns) rows t are.each so n
+    whole.same_table t _ (λ n. whole.ended campaign_key campaign_shown_line (λ n. campaign_lines) (λ n. line_of_campaign) (λ n. refl) (λ n x. refl) any_campaign (running campaigns) rows t are.each so n
     ∙ any_campaign_passes (running campaigns n) ∙ sym (get_where (λ c. c.running) campaigns n))

@@ -1,17 +1,11 @@
 -- What is told of a commit.
 use Rattle.std.proofs.Common.{◌≡◌, inl, inr, [], Result, Ok, Err, OnOk, OnErr, IfErr, IsTrue, sym, ap, false, ◌∙◌, arith}
-use Rattle.std.specs.Result.{IsOk}
 use Rattle.sqlite.specs.declared.error.Error.{Error}
-use Rattle.sqlite.specs.State.{State, HasCleanDisk, HasCause, Fails, IsRolledBack, KeepsCounts, Shows, Survives, store_error}
 use Rattle.sqlite.specs.Steps.{FailsToCommit}
 use Rattle.sqlite_trees.specs.declared.error.StoreError.{StoreError}
 use Rattle.sqlite_trees.specs.declared.error.StoreError.TheVariants.{OutOfMemory, Io, Corrupt, Full, Broken, Unstorable}
 use Rattle.up_tables.specs.Faults.{store_fault}
-use Rattle.up_tables.specs.Ours.{HasFailed}
-use Rattle.up_tables.specs.Stands.{IfClean, IsInside}
-use Rattle.up_tables.specs.declared.values.StoreFault.{StoreFault}
-use Rattle.up_tables.specs.declared.values.StoreFault.TheVariants.{Memory, Store}
-use Rattle.up_store.specs.Connections.{Commits}
+use Rattle.up_store.proofs.Common.{IsOk, State, HasCleanDisk, HasCause, Fails, IsRolledBack, KeepsCounts, Shows, Survives, store_error, HasFailed, IfClean, IsInside, StoreFault, Memory, Store, Commits}
 
 pub committed_on : {A B : Type 0} (mid last : State) (commit : Result A Error) (told : Result B StoreFault) → OnOk told (IsOk commit)
     → (HasCleanDisk last → OnOk commit (IsTrue mid.in_transaction × Shows mid last mid.now mid.now false × KeepsCounts mid last × (last.marks ≡ []))) → OnOk told (IfClean (Commits mid) last)

@@ -1,12 +1,6 @@
 -- From the trees that a connection shows or leaves to the rows that they list.
 use Rattle.std.proofs.Common.{inl, inr}
-use Rattle.sqlite.specs.State.{State as Connected, Survives}
-use Rattle.sqlite.specs.Tree.{Trees}
-use Rattle.up_rows.specs.StateRows.{no_rows}
-use Rattle.up_tables.specs.Stands.{Stands, AreWith, HasNoTables}
-use Rattle.up_tables.specs.Tables.{up_schema}
-use Rattle.up_store.specs.Connections.{MadeIn}
-use Rattle.up_store.specs.Listing.{ListsRows}
+use Rattle.up_store.proofs.Common.{Connected, Survives, Trees, no_rows, Stands, AreWith, HasNoTables, up_schema, MadeIn, ListsRows}
 
 -- what holds of the trees follows from what held
 pub stands_as : (P Q : Trees → Type 0) → ((trees : Trees) → P trees → Q trees) → (s : Connected) → Stands up_schema P s → Stands up_schema Q s

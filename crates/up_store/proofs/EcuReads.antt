@@ -1,111 +1,64 @@
 -- What is read of the table of ECUs.
-use Rattle.std.proofs.Common.{◌≡◌, ℕ, suc, pos, List, [], ◌∷◌, Bool, true, false, cond, ◌||◌, Option, Some, None, map, refl, sym, ap, ap₂, ◌∙◌, string_bytes, bytes_eq}
-use Rattle.std.specs.Prelude.{option_and_then, option_map, unwrap_or, find}
-use Rattle.std.specs.List.{AllByRecursion, list_any}
-use Rattle.std.specs.Ordering.{nat_cmp, eq_by_cmp}
+use Rattle.std.proofs.Common.{◌≡◌, ℕ, suc, List, [], ◌∷◌, Bool, true, false, cond, ◌||◌, Option, Some, None, map, refl, sym, ap, ap₂, subst, ◌∙◌, bytes_eq}
+use Rattle.std.specs.List.Sorted.{IsPermutation}
 use Rattle.std.specs.Cmp.{both_ways}
-use Rattle.std.specs.Cmp.Lexicographic.{slice_cmp, bytes_decides}
 use Rattle.std.specs.FinMap as table
 use Rattle.std.specs.FinMap.Entries as entries
-use Rattle.sqlite.specs.Values.{or_null}
-use Rattle.sqlite.specs.declared.types.Value.TheVariants.{Int, Text, Blob}
-use Rattle.sqlite.specs.Order.{Row}
-use Rattle.sqlite.specs.State.{State as Connected}
-use Rattle.up_canon.specs.Names.{Name, Table}
-use Rattle.up_manifest.specs.declared.report.Installed.{Installed}
-use Rattle.up_machine.specs.declared.rows.EcuRow.{EcuRow}
-use Rattle.up_machine.specs.declared.rows.VehicleRows.{VehicleRows}
 use Rattle.up_machine.specs.Vehicles.{is_among}
-use Rattle.up_metadata.proofs.Lists.{each_weaker}
 use Rattle.up_machine.proofs.Values.{each_found}
-use Rattle.up_rows.specs.Lookups.{stands_among, owner_among, last_owner}
-use Rattle.up_rows.specs.SecondHashes.{TellsItsHash}
-use Rattle.up_rows.specs.StateRows.{StateRows}
 use Rattle.up_rows.proofs.Vehicles.{same_test}
-use Rattle.up_tables.specs.declared.ecu.EcuRow.{EcuRow as EcuShown}
-use Rattle.up_tables.specs.declared.ecu.Installed.{Installed as InstalledShown}
-use Rattle.up_tables.specs.Ecus.{line, lines, owns}
-use Rattle.up_tables.specs.Lines.{EcuLine, ecu_row, AreInPlace}
-use Rattle.up_tables.specs.Rows.{has_text}
-use Rattle.up_tables.specs.Stands.{IsWithin, HasTables, Reads, Lists}
-use Rattle.up_tables.specs.Tables.{up_schema, ecu_table, retired_table}
-use Rattle.up_tables.proofs.EcuRows.{text_is}
-use Rattle.up_store.specs.Found.{ecus_found}
-use Rattle.up_store.specs.Lines.{ecu_line, ecu_lines, ecus_lines, retired_lines}
-use Rattle.up_store.specs.Listing.{ListsRows}
-use Rattle.up_store.specs.Shown.{ecu_read, installed_read, reported_sha512}
-use Rattle.up_store.specs.Typed.{AreTyped}
+use Rattle.up_tables.proofs.EcuReads.{are_in_order}
+use Rattle.up_store.proofs.Common.{option_map, unwrap_or, find, AllByRecursion, list_any, nat_cmp, eq_by_cmp, slice_cmp, bytes_decides, Row, Connected, Name, Table, EcuRow, VehicleRows, each_weaker, stands_among, owner_among, last_owner, TellsItsHash, StateRows, owns, ReadsByPlace, ecu_places, ecu_row, AreInPlace, columns_at, has_text, IsWithin, HasTables, Reads, Lists, HoldsBy, EachSays, IsLine, Tells, up_schema, ecu_table, retired_table, text_is, same_values, ecus_found, ecu_lines, ecu_shown, ecus_lines, retired_lines, ListsRows, SaysEcu, AreTyped, IsToldEcu, IsTypedEcu, IsTypedVehicle}
+use Rattle.up_store.proofs.ColumnFound.{has_tables}
 
 -- ---- the ECUs of a vehicle
-
-same_installed : (hash : Option (List ℕ)) (o : Option Installed) (p : Option InstalledShown) → option_and_then (λ (i : Installed). i.sha512) o ≡ hash → or_null (λ (i : Installed). Text i.file) o ≡ or_null (λ (s : InstalledShown). Text (string_bytes s.file)) p
-    → or_null (λ (i : Installed). Int (pos i.length)) o ≡ or_null (λ (s : InstalledShown). Int (pos s.length)) p
-    → or_null (λ (i : Installed). Blob i.sha256) o ≡ or_null (λ (s : InstalledShown). Blob s.sha256.items) p → option_map (installed_read hash) p ≡ o
-same_installed hash None None second a b c = refl
-same_installed hash None (Some s) second a b c = cc
-same_installed hash (Some i) None second a b c = cc
-same_installed hash (Some i) (Some s) second a b c =
-    let file : string_bytes s.file ≡ i.file = cc in
-    let size : s.length ≡ i.length = cc in
-    let first : s.sha256.items ≡ i.sha256 = cc in
-    λ k. Some (record { file = file k; length = size k; sha256 = first k; sha512 = sym second k })
-
-same_report : {S : Type 0} (text : S → List ℕ) (o : Option (List ℕ)) (p : Option S) → or_null (λ (t : List ℕ). Text t) o ≡ or_null (λ (s : S). Text (text s)) p → option_map text p ≡ o
-same_report text None None h = refl
-same_report text None (Some s) h = cc
-same_report text (Some t) None h = cc
-same_report text (Some t) (Some s) h = let same : text s ≡ t = cc in ap Some same
-
-same_ecu : (vehicle : Name) (place : ℕ) (row : EcuRow) (shown : EcuShown) → ecu_row (ecu_line vehicle place row) ≡ ecu_row (line vehicle place shown) → TellsItsHash row → ecu_read shown ≡ row
-same_ecu vehicle place row shown h tells =
-    let ecu : string_bytes shown.ecu ≡ row.ecu = cc in
-    let hardware : string_bytes shown.hardware ≡ row.hardware = cc in
-    let public : shown.public_key.items ≡ row.public = cc in
-    let counter : shown.counter ≡ row.counter = cc in
-    let file : or_null (λ (i : Installed). Text i.file) row.installed ≡ or_null (λ (s : InstalledShown). Text (string_bytes s.file)) shown.installed = cc in
-    let size : or_null (λ (i : Installed). Int (pos i.length)) row.installed ≡ or_null (λ (s : InstalledShown). Int (pos s.length)) shown.installed = cc in
-    let hash : or_null (λ (i : Installed). Blob i.sha256) row.installed ≡ or_null (λ (s : InstalledShown). Blob s.sha256.items) shown.installed = cc in
-    let text : or_null (λ (t : List ℕ). Text t) row.report ≡ or_null (λ s. Text (string_bytes s)) shown.report = cc in
-    let report : option_map string_bytes shown.report ≡ row.report = same_report string_bytes row.report shown.report text in
-    let told : Option (List ℕ) = reported_sha512 (option_map string_bytes shown.report) in
-    let second : option_and_then (λ (i : Installed). i.sha512) row.installed ≡ told = tells ∙ sym (ap reported_sha512 report) in
-    let installed : option_map (installed_read told) shown.installed ≡ row.installed = same_installed told row.installed shown.installed second file size hash in
-    λ k. record { ecu = ecu k; hardware = hardware k; public = public k; installed = installed k; counter = counter k; report = report k }
-
-same_ecus : (vehicle : Name) (place : ℕ) (rows : List EcuRow) (found : List EcuShown) → map ecu_row (ecu_lines vehicle place rows) ≡ map ecu_row (lines vehicle place found) → AllByRecursion TellsItsHash rows → map ecu_read found ≡ rows
-same_ecus vehicle place [] [] h tell = refl
-same_ecus vehicle place [] (f ∷ found) h tell = cc
-same_ecus vehicle place (row ∷ rows) [] h tell = cc
-same_ecus vehicle place (row ∷ rows) (f ∷ found) h tell =
-    let first : ecu_row (ecu_line vehicle place row) ≡ ecu_row (line vehicle place f) = cc in
-    let rest : map ecu_row (ecu_lines vehicle (suc place) rows) ≡ map ecu_row (lines vehicle (suc place) found) = cc in
-    ap₂ (λ (x : EcuRow) (xs : List EcuRow). x ∷ xs) (same_ecu vehicle place row f first tell.0) (same_ecus vehicle (suc place) rows found rest tell.1)
 
 in_place : (vehicle : Name) (place : ℕ) (rows : List EcuRow) → AreInPlace vehicle place (ecu_lines vehicle place rows)
 in_place vehicle place [] = tt
 in_place vehicle place (row ∷ rows) = (refl, refl, in_place vehicle (suc place) rows)
 
-abbrev shown_ecus : StateRows → List ℕ → List Row
-shown_ecus rows n = ecus_lines n (table.get rows.vehicles n)
+shown_lines : (vehicle : Name) (place : ℕ) (rows : List EcuRow) → map (columns_at ecu_places) (map ecu_row (ecu_lines vehicle place rows)) ≡ map ecu_shown rows
+shown_lines vehicle place [] = refl
+shown_lines vehicle place (row ∷ rows) = ap (λ (more : List Row). ecu_shown row ∷ more) (shown_lines vehicle (suc place) rows)
 
-pub ecus_in : (rows : StateRows) (name : Name) (before after : Connected) (found : List EcuShown) → Reads before after
-    → ((rows_of : List ℕ → List Row) (es : List EcuLine) → HasTables before → Lists 2 rows_of (before.now.trees ecu_table.tree) → rows_of name ≡ map ecu_row es → AreInPlace name 0 es
-    → rows_of name ≡ map ecu_row (lines name 0 found))
-    → IsWithin up_schema (ListsRows rows) before → map ecu_read found ≡ ecus_found name rows
+each_line : (vehicle : Name) (place : ℕ) (rows : List EcuRow) → AllByRecursion IsToldEcu rows → AllByRecursion (λ row. IsLine IsToldEcu ecu_shown (columns_at ecu_places row)) (map ecu_row (ecu_lines vehicle place rows))
+each_line vehicle place [] fit = tt
+each_line vehicle place (row ∷ rows) fit = ((row, fit.0, refl), each_line vehicle (suc place) rows fit.1)
+
+both : (rows : List EcuRow) → AllByRecursion IsTypedEcu rows → AllByRecursion TellsItsHash rows → AllByRecursion IsToldEcu rows
+both [] typed tell = tt
+both (row ∷ rows) typed tell = ((typed.0, tell.0), both rows typed.1 tell.1)
+
+abbrev ecus_in_it : Option VehicleRows → List EcuRow
+ecus_in_it o = unwrap_or (option_map (λ (v : VehicleRows). v.ecus) o) []
+
+its_typed : (name : Name) (o : Option VehicleRows) → ((v : VehicleRows) → o ≡ Some v → IsTypedVehicle name v) → AllByRecursion IsToldEcu (ecus_in_it o)
+its_typed name None typed = tt
+its_typed name (Some v) typed = let t = typed v refl in both v.ecus t.ecus t.tell
+
+its_lines : (name : Name) (o : Option VehicleRows) → ecus_lines name o ≡ map ecu_row (ecu_lines name 0 (ecus_in_it o))
+its_lines name None = refl
+its_lines name (Some v) = refl
+
+pub holds_ecus : (name : Name) (s : Connected) (rows : StateRows) → ListsRows rows s.now.trees → HoldsBy ecu_table 2 (λ rows_of. AllByRecursion (λ row. IsLine IsToldEcu ecu_shown (columns_at ecu_places row)) (rows_of name)) s
+holds_ecus name s rows lists =
+    let there = table.get rows.vehicles name in (
+      (λ n. ecus_lines n (table.get rows.vehicles n)),
+      lists.tables.ecus,
+      subst (AllByRecursion (λ row. IsLine IsToldEcu ecu_shown (columns_at ecu_places row))) (sym (its_lines name there)) (each_line name 0 (ecus_in_it there) (its_typed name there (lists.typed.vehicles name))),
+    )
+
+-- the ECUs that are found are those of the rows
+pub ecus_in : (rows : StateRows) (name : Name) (before after : Connected) (found : List EcuRow) → Reads before after
+    → ((rows_of : List ℕ → List Row) → HasTables before → Lists 2 rows_of (before.now.trees ecu_table.tree) → ReadsByPlace (rows_of name) (λ shown. EachSays (Tells SaysEcu IsToldEcu ecu_shown) shown found))
+    → IsWithin up_schema (ListsRows rows) before → found ≡ ecus_found name rows
 ecus_in rows name before after found reads shows within =
-    let has : HasTables before = λ is_open. let here = within.here is_open in record { schema_is = here.schema_is; sound = here.sound; rows = tt } in
     let here = within.here reads.was_open in
-    go (table.get rows.vehicles name) refl (λ v is. (here.rows.typed.vehicles name v is).tell) (shows (λ n. ecus_lines n (table.get rows.vehicles n))) has here.rows.tables.ecus
-  where
-    go : (o : Option VehicleRows) → table.get rows.vehicles name ≡ o → ((v : VehicleRows) → table.get rows.vehicles name ≡ Some v → AllByRecursion TellsItsHash v.ecus)
-        → ((es : List EcuLine) → HasTables before → Lists 2 (shown_ecus rows) (before.now.trees ecu_table.tree) → shown_ecus rows name ≡ map ecu_row es → AreInPlace name 0 es → shown_ecus rows name ≡ map ecu_row (lines name 0 found))
-        → HasTables before → Lists 2 (shown_ecus rows) (before.now.trees ecu_table.tree) → map ecu_read found ≡ ecus_found name rows
-    go None is tell shown has lists =
-        let same = ap (ecus_lines name) is in
-        same_ecus name 0 [] found (sym same ∙ shown [] has lists same tt) tt ∙ sym (ap (λ (o : Option VehicleRows). unwrap_or (option_map (λ (v : VehicleRows). v.ecus) o) []) is)
-    go (Some v) is tell shown has lists =
-        let same = ap (ecus_lines name) is in
-        same_ecus name 0 v.ecus found (sym same ∙ shown (ecu_lines name 0 v.ecus) has lists same (in_place name 0 v.ecus)) (tell v is) ∙ sym (ap (λ (o : Option VehicleRows). unwrap_or (option_map (λ (v : VehicleRows). v.ecus) o) []) is)
+    let there = table.get rows.vehicles name in
+    let ecus = ecus_in_it there in
+    let it = shows (λ n. ecus_lines n (table.get rows.vehicles n)) (has_tables rows before within) here.rows.tables.ecus in
+    let ordered : it.0 ≡ map ecu_row (ecu_lines name 0 ecus) = are_in_order name (ecu_lines name 0 ecus) it.0 (in_place name 0 ecus) (subst (λ (xs : List Row). IsPermutation xs it.0) (its_lines name there) it.1) it.2 in
+    same_values SaysEcu IsToldEcu ecu_shown (map (columns_at ecu_places) it.0) found ecus it.3 (its_typed name there (here.rows.typed.vehicles name)) (ap (map (columns_at ecu_places)) ordered ∙ shown_lines name 0 ecus)
 
 -- ---- the vehicle of an ECU
 

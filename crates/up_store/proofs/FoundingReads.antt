@@ -1,38 +1,12 @@
 -- What is read of the founding: its numbers, and the keys of the last root version.
-use Rattle.std.proofs.Common.{◌≡◌, ◌≤◌, ◌<◌, ◌+◌, ◌-◌, ℕ, suc, pos, List, [], ◌∷◌, ◌++◌, Bool, true, false, ◌&&◌, Option, Some, None, map, filter, length, slice_get, refl, sym, ap, ap₂, subst, ◌∙◌, arith, append-nil, string_bytes, bytes_eq, codes, IsTrue, append_assoc, Result, Ok, IfOk, OnOk}
-use Rattle.std.specs.Prelude.{option_map, find, flat_map, is_some, not, ◌==◌}
-use Rattle.std.specs.List.{AllByRecursion, enumerate_from}
-use Rattle.std.specs.Option.{option_or}
-use Rattle.std.specs.Ordering.{is_eq}
+use Rattle.std.proofs.Common.{◌≡◌, ◌≤◌, ◌<◌, ◌+◌, ◌-◌, ℕ, suc, pos, List, [], ◌∷◌, ◌++◌, Bool, true, false, ◌&&◌, Option, Some, None, map, filter, length, slice_get, refl, sym, ap, ap₂, subst, ◌∙◌, arith, append-nil, bytes_eq, codes, IsTrue, append_assoc}
 use Rattle.std.proofs.lemmas.Bool.Decides.{nat_tests}
 use Rattle.std.proofs.lemmas.List.{map-append, length_push}
 use Rattle.std.proofs.lemmas.List.Elements.{filter-append}
 use Rattle.std.proofs.lemmas.List.Folds.{find-append}
-use Rattle.sqlite.specs.declared.types.Value.TheVariants.{Int, Text, Blob}
-use Rattle.sqlite.specs.Order.{Row, column, value_cmp}
-use Rattle.sqlite.specs.State.{State as Connected}
-use Rattle.sqlite_value.proofs.OrderLemmas.{value_cmp-Int}
-use Rattle.up_roles.specs.declared.repository.Repository.{Repository}
-use Rattle.up_roles.specs.declared.repository.Repository.TheVariants.{Director, Image}
-use Rattle.up_metadata.specs.declared.keys.KeySet.{KeySet}
-use Rattle.up_metadata.specs.declared.keys.RepoKeys.{RepoKeys}
 use Rattle.up_metadata.specs.declared.keys.RoleSecrets.{RoleSecrets}
-use Rattle.up_metadata.proofs.Lists.{each_weaker}
-use Rattle.up_machine.specs.declared.rows.Founding.{Founding}
-use Rattle.up_rows.specs.declared.root_row.RootRow.{RootRow}
-use Rattle.up_rows.specs.StateRows.{StateRows}
-use Rattle.up_rows.proofs.Files.{or_mapped}
-use Rattle.up_tables.specs.declared.meta.MetaRow.{MetaRow}
-use Rattle.up_tables.specs.declared.role_key.RoleKeyRow.{RoleKeyRow}
-use Rattle.up_tables.specs.Lines.{meta_row}
-use Rattle.up_tables.specs.Stands.{IsWith, IsWithin, HasTables, Reads, ListsAll}
-use Rattle.up_tables.specs.Tables.{up_schema, meta_table, role_key_table}
-use Rattle.up_store.specs.Listing.{ListsRows, IsOfLastRoot}
-use Rattle.up_tables.specs.Forms.{role_key_places, role_key_row}
-use Rattle.up_tables.specs.Rows.{columns_at, has_number}
-use Rattle.up_store.specs.Lines.{founding_number, repository_word, role_lines, repository_lines, root_lines, roots_lines}
-use Rattle.up_store.specs.Shown.{is_key_of, secrets_of, threshold_of, IsRoleOf, AreKeysOf, IsFoundingOf, meta_told}
-use Rattle.up_store.specs.Typed.{HasKeys, HaveKeys, EachHasKeys, IsTypedRoot}
+use Rattle.up_store.specs.declared.keys.RoleKey.{RoleKey}
+use Rattle.up_store.proofs.Common.{option_map, find, flat_map, is_some, not, ◌==◌, AllByRecursion, enumerate_from, option_or, is_eq, Int, Text, Blob, Row, column, value_cmp, Connected, value_cmp-Int, Repository, Director, Image, KeySet, RepoKeys, each_weaker, Founding, RootRow, StateRows, or_mapped, MetaRow, IsWithin, HasTables, Reads, ListsAll, up_schema, role_key_table, ListsRows, IsOfLastRoot, role_key_places, columns_at, has_number, key_row, repository_word, role_lines, repository_lines, root_lines, roots_lines, is_key_of, secrets_of, threshold_of, IsRoleOf, AreKeysOf, IsFoundingOf, meta_told, HasKeys, HaveKeys, EachHasKeys, IsTypedRoot}
 
 -- ---- rows of one root version
 
@@ -131,17 +105,17 @@ split {A} {B} f (x ∷ xs) (y ∷ ys) zs h =
     (x ∷ more.0, more.1, ap (λ (l : List A). x ∷ l) more.2, ap₂ (λ (b : B) (l : List B). b ∷ l) first more.3, more.4)
 
 -- what a role has among some rows
-pub record Has (w o : List ℕ) (rows : List RoleKeyRow) (secrets : List (List ℕ)) (threshold : Option ℕ) : Type 0 where
+pub record Has (w o : List ℕ) (rows : List RoleKey) (secrets : List (List ℕ)) (threshold : Option ℕ) : Type 0 where
   pub secrets_are : secrets_of w o rows ≡ secrets
   pub threshold_is : threshold_of w o rows ≡ threshold
 
-has_both : (w o : List ℕ) (xs ys : List RoleKeyRow) (s t : List (List ℕ)) (p q : Option ℕ) → Has w o xs s p → Has w o ys t q → Has w o (xs ++ ys) (s ++ t) (option_or p q)
+has_both : (w o : List ℕ) (xs ys : List RoleKey) (s t : List (List ℕ)) (p q : Option ℕ) → Has w o xs s p → Has w o ys t q → Has w o (xs ++ ys) (s ++ t) (option_or p q)
 has_both w o xs ys s t p q a b = record {
-  secrets_are = ap (map (λ (row : RoleKeyRow). row.secret.items)) (filter-append (is_key_of w o) xs ys)
-      ∙ map-append (λ (row : RoleKeyRow). row.secret.items) (filter (is_key_of w o) xs) (filter (is_key_of w o) ys)
+  secrets_are = ap (map (λ (row : RoleKey). row.secret)) (filter-append (is_key_of w o) xs ys)
+      ∙ map-append (λ (row : RoleKey). row.secret) (filter (is_key_of w o) xs) (filter (is_key_of w o) ys)
       ∙ ap₂ (λ (c d : List (List ℕ)). c ++ d) a.secrets_are b.secrets_are;
-  threshold_is = ap (option_map (λ (row : RoleKeyRow). row.threshold)) (find-append (is_key_of w o) xs ys)
-      ∙ or_mapped (λ (row : RoleKeyRow). row.threshold) (find (is_key_of w o) xs) (find (is_key_of w o) ys)
+  threshold_is = ap (option_map (λ (row : RoleKey). row.threshold)) (find-append (is_key_of w o) xs ys)
+      ∙ or_mapped (λ (row : RoleKey). row.threshold) (find (is_key_of w o) xs) (find (is_key_of w o) ys)
       ∙ ap₂ (λ (c d : Option ℕ). option_or c d) a.threshold_is b.threshold_is;
 }
 
@@ -150,77 +124,77 @@ module _ (m : ℕ) (word role : List ℕ) (threshold : ℕ) (w o : List ℕ) whe
   abbrev Lines : ℕ → List (List ℕ) → List Row
   Lines i keys = map (key_line m word role threshold) (enumerate_from i keys)
 
-  key_test : (i : ℕ) (key : List ℕ) (row : RoleKeyRow) → key_line m word role threshold (i, key) ≡ role_key_row row → is_key_of w o row ≡ (bytes_eq word w && bytes_eq role o)
+  key_test : (i : ℕ) (key : List ℕ) (row : RoleKey) → key_line m word role threshold (i, key) ≡ key_row row → is_key_of w o row ≡ (bytes_eq word w && bytes_eq role o)
   key_test i key row h =
-      let first : string_bytes row.repository ≡ word = cc in
-      let second : string_bytes row.role ≡ role = cc in
+      let first : row.repository ≡ word = cc in
+      let second : row.role ≡ role = cc in
       ap₂ (λ (a b : List ℕ). bytes_eq a w && bytes_eq b o) first second
 
   -- what the row of a key says
-  record IsLine (key : List ℕ) (row : RoleKeyRow) : Type 0 where
+  record IsLine (key : List ℕ) (row : RoleKey) : Type 0 where
     test : is_key_of w o row ≡ (bytes_eq word w && bytes_eq role o)
-    secret : row.secret.items ≡ key
+    secret : row.secret ≡ key
 
   -- row by row
-  by_lines : (P : List (List ℕ) → List RoleKeyRow → Type 0) → P [] [] → ((key : List ℕ) (keys : List (List ℕ)) (row : RoleKeyRow) (rows : List RoleKeyRow) → IsLine key row → P keys rows → P (key ∷ keys) (row ∷ rows))
-      → (i : ℕ) (keys : List (List ℕ)) (rows : List RoleKeyRow) → Lines i keys ≡ map role_key_row rows → P keys rows
+  by_lines : (P : List (List ℕ) → List RoleKey → Type 0) → P [] [] → ((key : List ℕ) (keys : List (List ℕ)) (row : RoleKey) (rows : List RoleKey) → IsLine key row → P keys rows → P (key ∷ keys) (row ∷ rows))
+      → (i : ℕ) (keys : List (List ℕ)) (rows : List RoleKey) → Lines i keys ≡ map key_row rows → P keys rows
   by_lines P none more i [] [] h = none
   by_lines P none more i [] (row ∷ rows) h = absurd (let e = h in cc)
   by_lines P none more i (key ∷ keys) [] h = absurd (let e = h in cc)
   by_lines P none more i (key ∷ keys) (row ∷ rows) h =
-      let first : key_line m word role threshold (i, key) ≡ role_key_row row = cc in
-      let rest : Lines (i + 1) keys ≡ map role_key_row rows = cc in
-      let secret : row.secret.items ≡ key = cc in
+      let first : key_line m word role threshold (i, key) ≡ key_row row = cc in
+      let rest : Lines (i + 1) keys ≡ map key_row rows = cc in
+      let secret : row.secret ≡ key = cc in
       more key keys row rows (record { test = key_test i key row first; secret = secret }) (by_lines P none more (i + 1) keys rows rest)
 
-  others : (bytes_eq word w && bytes_eq role o) ≡ false → (i : ℕ) (keys : List (List ℕ)) (rows : List RoleKeyRow) → Lines i keys ≡ map role_key_row rows → Has w o rows [] None
+  others : (bytes_eq word w && bytes_eq role o) ≡ false → (i : ℕ) (keys : List (List ℕ)) (rows : List RoleKey) → Lines i keys ≡ map key_row rows → Has w o rows [] None
   others apart i keys rows h = by_lines (λ keys rows. Has w o rows [] None) (record { secrets_are = refl; threshold_is = refl }) (λ key keys row rows line more.
       let test : is_key_of w o row ≡ false = line.test ∙ apart in record { secrets_are = rw test more.secrets_are; threshold_is = rw test more.threshold_is }) i keys rows h
 
-  own_secrets : (bytes_eq word w && bytes_eq role o) ≡ true → (i : ℕ) (keys : List (List ℕ)) (rows : List RoleKeyRow) → Lines i keys ≡ map role_key_row rows → secrets_of w o rows ≡ keys
+  own_secrets : (bytes_eq word w && bytes_eq role o) ≡ true → (i : ℕ) (keys : List (List ℕ)) (rows : List RoleKey) → Lines i keys ≡ map key_row rows → secrets_of w o rows ≡ keys
   own_secrets same i keys rows h = by_lines (λ keys rows. secrets_of w o rows ≡ keys) refl (λ key keys row rows line more.
       let test : is_key_of w o row ≡ true = line.test ∙ same in
       rw test (ap₂ (λ (x : List ℕ) (xs : List (List ℕ)). x ∷ xs) line.secret more)) i keys rows h
 
-  own_threshold : (bytes_eq word w && bytes_eq role o) ≡ true → (i : ℕ) (keys : List (List ℕ)) (rows : List RoleKeyRow) → 1 ≤ length keys → Lines i keys ≡ map role_key_row rows → threshold_of w o rows ≡ Some threshold
+  own_threshold : (bytes_eq word w && bytes_eq role o) ≡ true → (i : ℕ) (keys : List (List ℕ)) (rows : List RoleKey) → 1 ≤ length keys → Lines i keys ≡ map key_row rows → threshold_of w o rows ≡ Some threshold
   own_threshold same i [] rows some h = absurd (omega (arith, some))
   own_threshold same i (key ∷ keys) [] some h = absurd (let e = h in cc)
   own_threshold same i (key ∷ keys) (row ∷ rows) some h =
-      let first : key_line m word role threshold (i, key) ≡ role_key_row row = cc in
+      let first : key_line m word role threshold (i, key) ≡ key_row row = cc in
       let test : is_key_of w o row ≡ true = key_test i key row first ∙ same in
       let its : row.threshold ≡ threshold = cc in
       rw test (ap Some its)
 
-  own : (bytes_eq word w && bytes_eq role o) ≡ true → (keys : List (List ℕ)) (rows : List RoleKeyRow) → 1 ≤ length keys → Lines 0 keys ≡ map role_key_row rows → Has w o rows keys (Some threshold)
+  own : (bytes_eq word w && bytes_eq role o) ≡ true → (keys : List (List ℕ)) (rows : List RoleKey) → 1 ≤ length keys → Lines 0 keys ≡ map key_row rows → Has w o rows keys (Some threshold)
   own same keys rows some h = record { secrets_are = own_secrets same 0 keys rows h; threshold_is = own_threshold same 0 keys rows some h }
 
 -- the rows of a repository: its four roles
-pub record Parts (m : ℕ) (repository : Repository) (keys : RepoKeys) (rows : List RoleKeyRow) : Type 0 where
-  pub a : List RoleKeyRow
-  pub b : List RoleKeyRow
-  pub c : List RoleKeyRow
-  pub d : List RoleKeyRow
+pub record Parts (m : ℕ) (repository : Repository) (keys : RepoKeys) (rows : List RoleKey) : Type 0 where
+  pub a : List RoleKey
+  pub b : List RoleKey
+  pub c : List RoleKey
+  pub d : List RoleKey
   pub is : rows ≡ ((a ++ b) ++ c) ++ d
-  pub root : role_lines m repository (codes "root") keys.root ≡ map role_key_row a
-  pub targets : role_lines m repository (codes "targets") keys.targets ≡ map role_key_row b
-  pub snapshot : role_lines m repository (codes "snapshot") keys.snapshot ≡ map role_key_row c
-  pub timestamp : role_lines m repository (codes "timestamp") keys.timestamp ≡ map role_key_row d
+  pub root : role_lines m repository (codes "root") keys.root ≡ map key_row a
+  pub targets : role_lines m repository (codes "targets") keys.targets ≡ map key_row b
+  pub snapshot : role_lines m repository (codes "snapshot") keys.snapshot ≡ map key_row c
+  pub timestamp : role_lines m repository (codes "timestamp") keys.timestamp ≡ map key_row d
 
-parts_of : (m : ℕ) (repository : Repository) (keys : RepoKeys) (rows : List RoleKeyRow) → repository_lines m repository keys ≡ map role_key_row rows → Parts m repository keys rows
+parts_of : (m : ℕ) (repository : Repository) (keys : RepoKeys) (rows : List RoleKey) → repository_lines m repository keys ≡ map key_row rows → Parts m repository keys rows
 parts_of m repository keys rows h =
     let root = role_lines m repository (codes "root") keys.root in
     let targets = role_lines m repository (codes "targets") keys.targets in
     let snapshot = role_lines m repository (codes "snapshot") keys.snapshot in
     let timestamp = role_lines m repository (codes "timestamp") keys.timestamp in
-    let one = split role_key_row rows ((root ++ targets) ++ snapshot) timestamp h in
-    let two = split role_key_row one.0 (root ++ targets) snapshot one.3 in
-    let three = split role_key_row two.0 root targets two.3 in
+    let one = split key_row rows ((root ++ targets) ++ snapshot) timestamp h in
+    let two = split key_row one.0 (root ++ targets) snapshot one.3 in
+    let three = split key_row two.0 root targets two.3 in
     record {
       a = three.0;
       b = three.1;
       c = two.1;
       d = one.1;
-      is = one.2 ∙ ap (λ (l : List RoleKeyRow). l ++ one.1) (two.2 ∙ ap (λ (l : List RoleKeyRow). l ++ two.1) three.2);
+      is = one.2 ∙ ap (λ (l : List RoleKey). l ++ one.1) (two.2 ∙ ap (λ (l : List RoleKey). l ++ two.1) three.2);
       root = three.3;
       targets = three.4;
       snapshot = two.4;
@@ -228,7 +202,7 @@ parts_of m repository keys rows h =
     }
 
 -- what a role of the repository has, where its word and role are asked for
-module _ (m : ℕ) (repository : Repository) (keys : RepoKeys) (rows : List RoleKeyRow) (parts : Parts m repository keys rows) (w o : List ℕ) where
+module _ (m : ℕ) (repository : Repository) (keys : RepoKeys) (rows : List RoleKey) (parts : Parts m repository keys rows) (w o : List ℕ) where
   abbrev Are : List ℕ → Bool
   Are role = bytes_eq (repository_word repository) w && bytes_eq role o
 
@@ -236,7 +210,7 @@ module _ (m : ℕ) (repository : Repository) (keys : RepoKeys) (rows : List Role
   together : (s t u v : List (List ℕ)) (p q x y : Option ℕ) → Has w o parts.a s p → Has w o parts.b t q → Has w o parts.c u x → Has w o parts.d v y
       → Has w o rows (((s ++ t) ++ u) ++ v) (option_or (option_or (option_or p q) x) y)
   together s t u v p q x y ha hb hc hd =
-      subst (λ (l : List RoleKeyRow). Has w o l (((s ++ t) ++ u) ++ v) (option_or (option_or (option_or p q) x) y)) (sym parts.is)
+      subst (λ (l : List RoleKey). Has w o l (((s ++ t) ++ u) ++ v) (option_or (option_or (option_or p q) x) y)) (sym parts.is)
       (has_both w o ((parts.a ++ parts.b) ++ parts.c) parts.d ((s ++ t) ++ u) v (option_or (option_or p q) x) y
       (has_both w o (parts.a ++ parts.b) parts.c (s ++ t) u (option_or p q) x (has_both w o parts.a parts.b s t p q ha hb) hc) hd)
 
@@ -273,33 +247,33 @@ module _ (m : ℕ) (repository : Repository) (keys : RepoKeys) (rows : List Role
 
 -- ---- the keys that were read are the root version's
 
-role_has : (w o : List ℕ) (rows : List RoleKeyRow) (kept : RoleSecrets) → Has w o rows kept.keys (Some kept.threshold) → IsRoleOf w o rows kept
+role_has : (w o : List ℕ) (rows : List RoleKey) (kept : RoleSecrets) → Has w o rows kept.keys (Some kept.threshold) → IsRoleOf w o rows kept
 role_has w o rows kept has = record { secrets = sym has.secrets_are; threshold = has.threshold_is }
 
-one_role : (w o : List ℕ) (rows : List RoleKeyRow) (read kept : RoleSecrets) → IsRoleOf w o rows read → IsRoleOf w o rows kept → read ≡ kept
+one_role : (w o : List ℕ) (rows : List RoleKey) (read kept : RoleSecrets) → IsRoleOf w o rows read → IsRoleOf w o rows kept → read ≡ kept
 one_role w o rows read kept is told =
     let keys : read.keys ≡ kept.keys = is.secrets ∙ sym told.secrets in
     let some : Some read.threshold ≡ Some kept.threshold = sym is.threshold ∙ told.threshold in
     let threshold : read.threshold ≡ kept.threshold = cc in
     λ i. record { keys = keys i; threshold = threshold i }
 
-bare_two : (w o : List ℕ) (rows : List RoleKeyRow) (keys : List (List ℕ)) (p : Option ℕ) → Has w o rows ((keys ++ []) ++ []) p → Has w o rows keys p
+bare_two : (w o : List ℕ) (rows : List RoleKey) (keys : List (List ℕ)) (p : Option ℕ) → Has w o rows ((keys ++ []) ++ []) p → Has w o rows keys p
 bare_two w o rows keys p h = record { secrets_are = h.secrets_are ∙ append-nil (keys ++ []) ∙ append-nil keys; threshold_is = h.threshold_is }
 
-bare_three : (w o : List ℕ) (rows : List RoleKeyRow) (keys : List (List ℕ)) (p : Option ℕ) → Has w o rows (((keys ++ []) ++ []) ++ []) p → Has w o rows keys p
+bare_three : (w o : List ℕ) (rows : List RoleKey) (keys : List (List ℕ)) (p : Option ℕ) → Has w o rows (((keys ++ []) ++ []) ++ []) p → Has w o rows keys p
 bare_three w o rows keys p h = record { secrets_are = h.secrets_are ∙ append-nil ((keys ++ []) ++ []) ∙ append-nil (keys ++ []) ∙ append-nil keys; threshold_is = h.threshold_is }
 
-bare_end : (w o : List ℕ) (rows : List RoleKeyRow) (keys : List (List ℕ)) (p : Option ℕ) → Has w o rows (keys ++ []) p → Has w o rows keys p
+bare_end : (w o : List ℕ) (rows : List RoleKey) (keys : List (List ℕ)) (p : Option ℕ) → Has w o rows (keys ++ []) p → Has w o rows keys p
 bare_end w o rows keys p h = record { secrets_are = h.secrets_are ∙ append-nil keys; threshold_is = h.threshold_is }
 
-after_none : (w o : List ℕ) (xs ys : List RoleKeyRow) (keys : List (List ℕ)) (p : Option ℕ) → Has w o xs [] None → Has w o ys keys p → Has w o (xs ++ ys) keys p
+after_none : (w o : List ℕ) (xs ys : List RoleKey) (keys : List (List ℕ)) (p : Option ℕ) → Has w o xs [] None → Has w o ys keys p → Has w o (xs ++ ys) keys p
 after_none w o xs ys keys p a b = has_both w o xs ys [] keys None p a b
 
-before_none : (w o : List ℕ) (xs ys : List RoleKeyRow) (keys : List (List ℕ)) (n : ℕ) → Has w o xs keys (Some n) → Has w o ys [] None → Has w o (xs ++ ys) keys (Some n)
+before_none : (w o : List ℕ) (xs ys : List RoleKey) (keys : List (List ℕ)) (n : ℕ) → Has w o xs keys (Some n) → Has w o ys [] None → Has w o (xs ++ ys) keys (Some n)
 before_none w o xs ys keys n a b = bare_end w o (xs ++ ys) keys (Some n) (has_both w o xs ys keys [] (Some n) None a b)
 
 -- the keys of a repository are those of the rows of its four roles
-one_repository : (w : List ℕ) (rows : List RoleKeyRow) (read kept : RepoKeys) → AreKeysOf w rows read → AreKeysOf w rows kept → read ≡ kept
+one_repository : (w : List ℕ) (rows : List RoleKey) (read kept : RepoKeys) → AreKeysOf w rows read → AreKeysOf w rows kept → read ≡ kept
 one_repository w rows read kept is told =
     let root = one_role w (codes "root") rows read.root kept.root is.root told.root in
     let targets = one_role w (codes "targets") rows read.targets kept.targets is.targets told.targets in
@@ -307,7 +281,7 @@ one_repository w rows read kept is told =
     let timestamp = one_role w (codes "timestamp") rows read.timestamp kept.timestamp is.timestamp told.timestamp in
     λ i. record { root = root i; targets = targets i; snapshot = snapshot i; timestamp = timestamp i }
 
-director_has : (m : ℕ) (kept : KeySet) (xs ys : List RoleKeyRow) → Parts m Director kept.director xs → Parts m Image kept.image ys → HaveKeys kept.director
+director_has : (m : ℕ) (kept : KeySet) (xs ys : List RoleKey) → Parts m Director kept.director xs → Parts m Image kept.image ys → HaveKeys kept.director
     → AreKeysOf (codes "director") (xs ++ ys) kept.director
 director_has m kept xs ys px py have =
     let w = codes "director" in
@@ -323,7 +297,7 @@ director_has m kept xs ys px py have =
           (before_none w (codes "timestamp") xs ys _ _ (timestamp_of m Director kept.director xs px w (codes "timestamp") refl refl refl refl have.timestamp) (none (codes "timestamp")));
     }
 
-image_has : (m : ℕ) (kept : KeySet) (xs ys : List RoleKeyRow) → Parts m Director kept.director xs → Parts m Image kept.image ys → HaveKeys kept.image
+image_has : (m : ℕ) (kept : KeySet) (xs ys : List RoleKey) → Parts m Director kept.director xs → Parts m Image kept.image ys → HaveKeys kept.image
     → AreKeysOf (codes "image") (xs ++ ys) kept.image
 image_has m kept xs ys px py have =
     let w = codes "image" in
@@ -340,16 +314,16 @@ image_has m kept xs ys px py have =
     }
 
 -- the rows of a root version are of its keys
-pub record AreKeys (rows : List RoleKeyRow) (keys : KeySet) : Type 0 where
+pub record AreKeys (rows : List RoleKey) (keys : KeySet) : Type 0 where
   pub director : AreKeysOf (codes "director") rows keys.director
   pub image : AreKeysOf (codes "image") rows keys.image
 
-keys_told : (m : ℕ) (root : RootRow) (rows : List RoleKeyRow) → root_lines m root ≡ map role_key_row rows → EachHasKeys root.keys → AreKeys rows root.keys
+keys_told : (m : ℕ) (root : RootRow) (rows : List RoleKey) → root_lines m root ≡ map key_row rows → EachHasKeys root.keys → AreKeys rows root.keys
 keys_told m root rows h have =
-    let two = split role_key_row rows (repository_lines m Director root.keys.director) (repository_lines m Image root.keys.image) h in
+    let two = split key_row rows (repository_lines m Director root.keys.director) (repository_lines m Image root.keys.image) h in
     let px = parts_of m Director root.keys.director two.0 two.3 in
     let py = parts_of m Image root.keys.image two.1 two.4 in
-    subst (λ (l : List RoleKeyRow). AreKeys l root.keys) (sym two.2)
+    subst (λ (l : List RoleKey). AreKeys l root.keys) (sym two.2)
     (record { director = director_has m root.keys two.0 two.1 px py have.director; image = image_has m root.keys two.0 two.1 px py have.image })
 
 -- ---- the last root version
@@ -368,20 +342,20 @@ last_of_all P [] x all = all.0
 last_of_all P (y ∷ ys) x all = last_of_all P ys x all.1
 
 -- of the last root version that is kept: the rows are of the founding's keys
-last_told : (rows : StateRows) (f : Founding) (found : List RoleKeyRow) (root : RootRow) → root.keys ≡ f.keys → slice_get rows.roots (length rows.roots - 1) ≡ Some root → f.root ≡ length rows.roots
-    → AllByRecursion (λ (r : RootRow). EachHasKeys r.keys) rows.roots → map (columns_at role_key_places) (filter (has_number 0 (pos f.root)) (roots_lines rows.roots)) ≡ map role_key_row found → AreKeys found f.keys
+last_told : (rows : StateRows) (f : Founding) (found : List RoleKey) (root : RootRow) → root.keys ≡ f.keys → slice_get rows.roots (length rows.roots - 1) ≡ Some root → f.root ≡ length rows.roots
+    → AllByRecursion (λ (r : RootRow). EachHasKeys r.keys) rows.roots → map (columns_at role_key_places) (filter (has_number 0 (pos f.root)) (roots_lines rows.roots)) ≡ map key_row found → AreKeys found f.keys
 last_told rows f found root keys at number typed shows =
     let two = split_last rows.roots root at in
     let n = length two.0 + 1 in
     let size : f.root ≡ n = number ∙ ap length two.1 ∙ length_push two.0 root in
-    let lines : root_lines n root ≡ map role_key_row found =
+    let lines : root_lines n root ≡ map key_row found =
     sym (whole_root n root) ∙ ap (map (columns_at role_key_places)) (sym (last_lines two.0 root)) ∙ ap (λ (l : List RootRow). map (columns_at role_key_places) (filter (has_number 0 (pos n)) (roots_lines l))) (sym two.1)
     ∙ ap (λ (m : ℕ). map (columns_at role_key_places) (filter (has_number 0 (pos m)) (roots_lines rows.roots))) (sym size) ∙ shows in
     let have = last_of_all (λ (r : RootRow). EachHasKeys r.keys) two.0 root (subst (AllByRecursion (λ (r : RootRow). EachHasKeys r.keys)) two.1 typed) in
     subst (AreKeys found) keys (keys_told n root found lines have)
 
 -- the rows and the numbers are of one founding
-one_founding : (row : MetaRow) (found : List RoleKeyRow) (read kept : Option Founding) → IsFoundingOf row found read → IsFoundingOf row found kept → read ≡ kept
+one_founding : (row : MetaRow) (found : List RoleKey) (read kept : Option Founding) → IsFoundingOf row found read → IsFoundingOf row found kept → read ≡ kept
 one_founding row found read kept a b =
     let numbers = a.numbers ∙ sym b.numbers in
     let d : a.founding.keys.director ≡ b.founding.keys.director = one_repository (codes "director") found a.founding.keys.director b.founding.keys.director a.director b.director in
@@ -397,8 +371,8 @@ keyed None keys h = absurd (let e = h in cc)
 keyed (Some root) keys h = (root, refl, let same : root.keys ≡ keys = cc in same)
 
 -- the rows that were found are the founding's
-pub founding_told : (rows : StateRows) (row : MetaRow) (found : List RoleKeyRow) (before after : Connected) → (row.root == 0) ≡ false → Reads before after
-    → ((all : List Row) → HasTables before → ListsAll all (before.now.trees role_key_table.tree) → map (columns_at role_key_places) (filter (has_number 0 (pos row.root)) all) ≡ map role_key_row found)
+pub founding_told : (rows : StateRows) (row : MetaRow) (found : List RoleKey) (before after : Connected) → (row.root == 0) ≡ false → Reads before after
+    → ((all : List Row) → HasTables before → ListsAll all (before.now.trees role_key_table.tree) → map (columns_at role_key_places) (filter (has_number 0 (pos row.root)) all) ≡ map key_row found)
     → IsWithin up_schema (ListsRows rows) before → row ≡ meta_told rows.founding → IsFoundingOf row found rows.founding
 founding_told rows row found before after founded reads shows within numbers =
     let has : HasTables before = λ is_open. let here = within.here is_open in record { schema_is = here.schema_is; sound = here.sound; rows = tt } in
@@ -406,7 +380,7 @@ founding_told rows row found before after founded reads shows within numbers =
     go rows.founding refl here.rows.last (shows (roots_lines rows.roots) has here.rows.tables.role_keys)
     (each_weaker IsTypedRoot (λ (r : RootRow). EachHasKeys r.keys) (λ r is. is.keys) rows.roots here.rows.typed.roots)
   where
-    go : (o : Option Founding) → rows.founding ≡ o → IsOfLastRoot o rows.roots → map (columns_at role_key_places) (filter (has_number 0 (pos row.root)) (roots_lines rows.roots)) ≡ map role_key_row found
+    go : (o : Option Founding) → rows.founding ≡ o → IsOfLastRoot o rows.roots → map (columns_at role_key_places) (filter (has_number 0 (pos row.root)) (roots_lines rows.roots)) ≡ map key_row found
         → AllByRecursion (λ (r : RootRow). EachHasKeys r.keys) rows.roots → IsFoundingOf row found rows.founding
     go None same last lines typed =
         let zero : row.root ≡ 0 = ap (λ (m : MetaRow). m.root) (numbers ∙ ap meta_told same) in
@@ -418,8 +392,8 @@ founding_told rows row found before after founded reads shows within numbers =
         let are = last_told rows f found root.0 root.2 root.1 last.0 typed (ap (λ (m : ℕ). map (columns_at role_key_places) (filter (has_number 0 (pos m)) (roots_lines rows.roots))) (sym number) ∙ lines) in
         record { founding = f; is = same; numbers = sym told; director = are.director; image = are.image }
 
-pub founding_in : (rows : StateRows) (row : MetaRow) (found : List RoleKeyRow) (read : Option Founding) (before after : Connected) → (row.root == 0) ≡ false → Reads before after
-    → ((all : List Row) → HasTables before → ListsAll all (before.now.trees role_key_table.tree) → map (columns_at role_key_places) (filter (has_number 0 (pos row.root)) all) ≡ map role_key_row found)
+pub founding_in : (rows : StateRows) (row : MetaRow) (found : List RoleKey) (read : Option Founding) (before after : Connected) → (row.root == 0) ≡ false → Reads before after
+    → ((all : List Row) → HasTables before → ListsAll all (before.now.trees role_key_table.tree) → map (columns_at role_key_places) (filter (has_number 0 (pos row.root)) all) ≡ map key_row found)
     → IsFoundingOf row found read → IsWithin up_schema (ListsRows rows) before → row ≡ meta_told rows.founding → read ≡ rows.founding
 founding_in rows row found read before after founded reads shows is within numbers =
     one_founding row found read rows.founding is (founding_told rows row found before after founded reads shows within numbers)
@@ -454,25 +428,3 @@ founded_by rows row before was_open within numbers = by_root (row.root == 0) ref
     by_root : (b : Bool) → (row.root == 0) ≡ b → not b ≡ is_some rows.founding
     by_root true zero = ap is_some (none_founded rows row before zero was_open within numbers)
     by_root false some = there rows.founding refl some
-
-pub within_read : (rows : StateRows) (before mid : Connected) → Reads before mid → IsWithin up_schema (ListsRows rows) before → IsWithin up_schema (ListsRows rows) mid
-within_read rows before mid reads within = record {
-  mode = reads.mode ∙ within.mode;
-  here = λ _. subst (IsWith up_schema (ListsRows rows)) (sym reads.now_is) (within.here reads.was_open);
-}
-
-pub numbers_in : (rows : StateRows) (found : Option MetaRow) (before : Connected) → (HasTables before → IsTrue before.is_open)
-    → ((root image_version stamp : ℕ) → HasTables before → before.now.trees meta_table.tree ≡ meta_row root image_version stamp ∷ [] → found ≡ Some (record { root = root; image_version = image_version; stamp = stamp }))
-    → IsWithin up_schema (ListsRows rows) before → found ≡ Some (meta_told rows.founding)
-numbers_in rows found before was_open shows within =
-    let has : HasTables before = λ is_open. let here = within.here is_open in record { schema_is = here.schema_is; sound = here.sound; rows = tt } in
-    let here = within.here (was_open has) in
-    shows (founding_number (λ (f : Founding). f.root) rows.founding) (founding_number (λ (f : Founding). f.image_version) rows.founding) (founding_number (λ (f : Founding). f.stamp) rows.founding) has here.rows.tables.meta
-
--- ---- what was said of the answer, of the row that was taken out of it
-
-pub on_row : {E : Type 0} (P : Type 0) (found : Result (Option MetaRow) E) (row : MetaRow) → found ≡ Ok (Some row) → OnOk found P → P
-on_row P found row is h = subst (λ r. OnOk r P) is h
-
-pub of_row : {E : Type 0} (P : Option MetaRow → Type 0) (found : Result (Option MetaRow) E) (row : MetaRow) → found ≡ Ok (Some row) → IfOk found P → P (Some row)
-of_row P found row is h = subst (λ r. IfOk r P) is h

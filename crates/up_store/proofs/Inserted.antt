@@ -1,11 +1,7 @@
 -- Rows by name after a value is put into a table.
 use Rattle.std.proofs.Common.{◌≡◌, List, [], ◌∷◌, ◌++◌, Bool, true, false, Option, Some, None, refl, sym, ap, subst, ◌∙◌, bytes_eq}
-use Rattle.std.specs.Prelude.{if◌then◌else◌}
-use Rattle.std.specs.Cmp.Lexicographic.{bytes_decides}
 use Rattle.std.specs.FinMap as table
-use Rattle.sqlite.specs.Order.{Row}
-use Rattle.up_canon.specs.Names.{Name, Table}
-use Rattle.up_tables.specs.Rows.{changed_at, with_row}
+use Rattle.up_store.proofs.Common.{if◌then◌else◌, bytes_decides, Row, Name, Table, changed_at, with_row}
 use Rattle.up_store.proofs.Closed.{got}
 
 -- those of one name are changed, where the value goes in

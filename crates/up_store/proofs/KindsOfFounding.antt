@@ -1,40 +1,12 @@
 -- The row of `meta`, the rows of keys and those of files have the columns that the statements show.
-use Rattle.std.proofs.Common.{◌≡◌, ◌⊎◌, inl, inr, ℕ, pos, ◌+◌, ◌-◌, ◌≤◌, ◌^◌, zero, suc, Bool, cond, length, bytes_eq, false, List, [], ◌∷◌, ◌++◌, Option, Some, None, Ok, Err, map, filter, codes, refl, sym, subst, arith, true, IsUtf8}
-use Rattle.std.specs.Prelude.{⊤, IfOk, IfErr, IfSome, Result, flat_map, find, slice_get, if◌then◌else◌, option_map}
-use Rattle.std.specs.Option.{option_or}
-use Rattle.std.specs.List.{AllByRecursion, enumerate_from}
-use Rattle.sqlite.specs.declared.types.Value.TheVariants.{Text}
-use Rattle.sqlite.specs.Order.{Row}
-use Rattle.sqlite.specs.State.{State as Connected}
-use Rattle.up_canon.specs.Names.{Name, is_file_name}
-use Rattle.up_metadata.specs.declared.keys.RepoKeys.{RepoKeys}
+use Rattle.std.proofs.Common.{◌≡◌, ℕ, pos, ◌+◌, ◌-◌, ◌<◌, ◌≤◌, ◌^◌, zero, suc, Bool, cond, length, bytes_eq, false, List, [], ◌∷◌, ◌++◌, Option, Some, None, Ok, Err, map, codes, refl, ap, ◌∙◌, subst, arith, true, IsUtf8}
 use Rattle.up_metadata.specs.declared.role_files.RoleTexts.{RoleTexts}
-use Rattle.up_machine.specs.declared.rows.Founding.{Founding}
-use Rattle.up_machine.specs.Files.{File, texts_in}
-use Rattle.up_roles.specs.declared.repository.Repository.{Repository}
-use Rattle.up_roles.specs.declared.repository.Repository.TheVariants.{Director, Image}
-use Rattle.up_rows.specs.declared.root_row.RootRow.{RootRow}
-use Rattle.up_rows.specs.Lookups.{text_in, row_named, other_text, text_held}
-use Rattle.up_rows.specs.StateRows.{StateRows}
-use Rattle.up_tables.specs.declared.meta.MetaRow.{MetaRow}
-use Rattle.up_tables.specs.declared.role_key.RoleKeyRow.{RoleKeyRow}
-use Rattle.up_tables.specs.declared.values.StoreFault.{StoreFault}
-use Rattle.up_tables.specs.declared.values.StoreFault.TheVariants.{Memory, Store}
-use Rattle.up_tables.specs.Kinds.{IsWords, ShowsOne, ShowsRoleKey, ShowsFile}
-use Rattle.up_tables.specs.Rows.{has_number}
-use Rattle.up_tables.specs.Lines.{meta_row}
-use Rattle.up_tables.specs.Stands.{HasTables}
-use Rattle.up_tables.specs.Statements.{BlamesDisk, FindsMeta, HasMeta, HoldsOfAll, HoldsOfFiles}
-use Rattle.up_tables.specs.Tables.{meta_table, role_key_table}
-use Rattle.up_store.specs.Connections.{BlamesWithin}
-use Rattle.up_store.specs.Lines.{founding_number, repository_word, repository_lines, root_lines, roots_lines, file_lines}
-use Rattle.up_store.specs.Listing.{ListsRows, files_lines}
-use Rattle.up_store.specs.Shown.{IsFoundingOf, meta_told}
-use Rattle.up_store.specs.Typed.{AreTyped, AreTypedTexts, IsTypedFounding, IsTypedRoot}
-use Rattle.up_store.proofs.Blamed.{all_filtered, by_statement}
-use Rattle.up_store.proofs.FileReads.{own_lines}
-use Rattle.up_store.proofs.FoundingReads.{key_line, numbers_in}
-use Rattle.up_store.proofs.KindsOfTexts.{file_name, printed}
+use Rattle.up_store.specs.declared.keys.RoleKey.{RoleKey}
+use Rattle.up_store.proofs.Common.{⊤, HasCleanDisk, BlamesWithin, Store, IsTrue, IfOk, IfErr, IfSome, OnOk, Result, flat_map, find, slice_get, if◌then◌else◌, option_map, option_or, option_to_list, AllByRecursion, enumerate_from, Text, Row, Connected, Name, is_file_name, RepoKeys, Founding, File, texts_in, Repository, Director, Image, RootRow, text_in, row_named, other_text, text_held, StateRows, MetaRow, StoreFault, Memory, FitMeta, file_places, keys_shown, meta_values, role_key_places, HoldsOfMeta, meta_shown, IsWords, columns_at, has_number, meta_row, HasTables, IsWithin, ListsAll, ListsPairs, Reads, HoldsOfAll, HoldsOfFiles, AreLines, EachSays, IsLine, IsTold, Tells, meta_table, repo_file_table, role_key_table, up_schema, ServedFile, key_row, repository_word, repository_lines, root_lines, roots_lines, file_line, file_lines, file_row, ListsRows, files_lines, SaysFile, SaysKey, SaysNumbers, IsFoundingOf, meta_told, AreTyped, AreTypedTexts, IsTypedFile, IsTypedFounding, IsTypedKey, IsTypedRoot, each_said, lines_said}
+use Rattle.up_store.proofs.Blamed.{all_filtered}
+use Rattle.up_store.proofs.ColumnFound.{has_tables, numbers_are}
+use Rattle.up_store.proofs.FoundingReads.{key_line}
+use Rattle.up_store.proofs.KindsOfTexts.{file_name, printed, utf8}
 
 word : (repository : Repository) → IsWords (Text (repository_word repository))
 word Director = printed (codes "director") refl
@@ -42,59 +14,90 @@ word Image = printed (codes "image") refl
 
 -- ---- the numbers
 
-pub holds_meta : (s : Connected) (rows : StateRows) → ListsRows rows s.now.trees → HasMeta s
-holds_meta s rows lists =
-    (founding_number (λ (f : Founding). f.root) rows.founding, founding_number (λ (f : Founding). f.image_version) rows.founding, founding_number (λ (f : Founding). f.stamp) rows.founding, lists.tables.meta)
+numbers_row : (root image_version stamp : ℕ) → meta_shown (meta_row root image_version stamp ∷ []) ≡ meta_values (record { root = root; image_version = image_version; stamp = stamp }) ∷ []
+numbers_row root image_version stamp = rw (numbers_are 1 1) refl
 
--- what is told where its row is not read
-pub row_blames : (fits : StateRows → Type 0) (old new : Connected) (found : Result (Option MetaRow) StoreFault) (fault : StoreFault) → ((found ≡ Ok None) × (fault ≡ Store)) ⊎ (found ≡ Err fault)
-    → FindsMeta old new found → BlamesDisk HasMeta old new found → BlamesWithin {A = ⊤} fits old new (Err fault)
-row_blames fits old new found fault (inl none) finds blame = λ clean told is_open unlimited rows within value.
-    let gone : None ≡ Some (meta_told rows.founding) = numbers_in rows None old (λ _. is_open) (subst (λ r. IfOk r (λ (f : Option MetaRow). (root : ℕ) (image_version : ℕ) (stamp : ℕ) → HasTables old
-    → old.now.trees meta_table.tree ≡ meta_row root image_version stamp ∷ [] → f ≡ Some (record { root = root; image_version = image_version; stamp = stamp }))) none.0 (finds clean)) within in
-    absurd cc
-row_blames fits old new found fault (inr is) finds blame = by_statement fits _ old new (Err fault) (λ rows lists value. holds_meta old rows lists) (subst (λ r. BlamesDisk HasMeta old new r) is blame)
+-- the root version of a row that says numbers is one that a column holds, so that no fault comes of it
+pub said_fits : (rows : List Row) (row : MetaRow) → EachSays SaysNumbers rows (row ∷ []) → row.root < 2 ^ 63
+said_fits [] row said = absurd said
+said_fits (r ∷ rows) row said = said.0.fit.root
 
--- its root version fits a column
-pub version_fits : (o : Option Founding) (root : ℕ) → root ≡ founding_number (λ (f : Founding). f.root) o → IfSome o IsTypedFounding → 2 ^ 63 ≤ root → ⊥
-version_fits None root is typed large = omega (arith, is, large)
-version_fits (Some f) root is typed large = omega (arith, is, large, typed.root)
+pub held_blames : {A : Type 0} (row : MetaRow) (old new : Connected) (r : Result A StoreFault) → IfErr r (λ fault. (fault ≡ Store) × (2 ^ 63 ≤ row.root)) → (HasCleanDisk new → HasTables old → row.root < 2 ^ 63) → BlamesWithin (λ _. ⊤) old new r
+held_blames row old new (Ok x) fault small clean = tt
+held_blames row old new (Err e) fault small clean = λ is is_open unlimited rows within fit.
+    let here = within.here is_open in
+    let low = small clean (λ _. record { schema_is = here.schema_is; sound = here.sound; rows = tt }) in
+    absurd (omega (arith, low, fault.1))
+
+-- what the row of `meta` shows, and that it fits
+numbers_shown : (rows : StateRows) (s : Connected) → ListsRows rows s.now.trees → meta_shown (s.now.trees meta_table.tree) ≡ meta_values (meta_told rows.founding) ∷ []
+numbers_shown rows s lists = ap meta_shown lists.tables.meta ∙ numbers_row (meta_told rows.founding).root (meta_told rows.founding).image_version (meta_told rows.founding).stamp
+
+numbers_fit : (o : Option Founding) → IfSome o IsTypedFounding → FitMeta (meta_told o)
+numbers_fit None typed = record { root = omega arith; image_version = omega arith; stamp = omega arith }
+numbers_fit (Some f) typed = record { root = typed.root; image_version = typed.image_version; stamp = omega (arith, typed.stamp) }
+
+pub holds_numbers : (s : Connected) (rows : StateRows) → ListsRows rows s.now.trees → HoldsOfMeta (AreLines FitMeta meta_values) s
+holds_numbers s rows lists = (Some (meta_told rows.founding), (numbers_fit rows.founding lists.typed.founding, tt), numbers_shown rows s lists)
+
+-- the numbers that are found are the founding's, so that they are there
+pub numbers_found : (found : Option MetaRow) (before after : Connected) → (HasTables before → IsTold SaysNumbers FitMeta meta_values (meta_shown (before.now.trees meta_table.tree)) found)
+    → IsTrue before.is_open → (rows : StateRows) → IsWithin up_schema (ListsRows rows) before → found ≡ Some (meta_told rows.founding)
+numbers_found found before after told is_open rows within =
+    let here = within.here is_open in
+    (told (has_tables rows before within)).same (Some (meta_told rows.founding)) (numbers_fit rows.founding here.rows.typed.founding, tt) (numbers_shown rows before here.rows)
 
 -- a founding that is typed is read again
-pub founded_fault : {A : Type 0} (row : MetaRow) (found : List RoleKeyRow) (o : Option Founding) → IsFoundingOf row found o → (r : Result A StoreFault)
+pub founded_fault : {A : Type 0} (row : MetaRow) (found : List RoleKey) (o : Option Founding) → IsFoundingOf row found o → (r : Result A StoreFault)
     → ((told : Option Founding) (is : IsFoundingOf row found told) → IsTypedFounding is.founding → IfErr r (λ fault. fault ≡ Memory)) → IfSome o IsTypedFounding → IfErr r (λ fault. fault ≡ Memory)
 founded_fault row found o told r fault typed = fault o told (subst (λ x. IfSome x IsTypedFounding) told.is typed)
 
 -- ---- keys
 
-both_show : (xs ys : List Row) → AllByRecursion ShowsRoleKey xs → AllByRecursion ShowsRoleKey ys → AllByRecursion ShowsRoleKey (xs ++ ys)
-both_show [] ys a b = b
-both_show (x ∷ xs) ys a b = (a.0, both_show xs ys a.1 b)
+abbrev line : Row → Type 0
+line = IsLine IsTypedKey key_row
 
-role_shows : (m : ℕ) (repository : Repository) (role : List ℕ) (threshold i : ℕ) (keys : List (List ℕ)) → IsWords (Text role)
-    → AllByRecursion ShowsRoleKey (map (key_line m (repository_word repository) role threshold) (enumerate_from i keys))
-role_shows m repository role threshold i [] is = tt
-role_shows m repository role threshold i (key ∷ keys) is = (((m, refl), word repository, is, (i, refl), (key, refl), (threshold, refl)), role_shows m repository role threshold (i + 1) keys is)
+both_lines : (xs ys : List Row) → AllByRecursion line xs → AllByRecursion line ys → AllByRecursion line (xs ++ ys)
+both_lines [] ys a b = b
+both_lines (x ∷ xs) ys a b = (a.0, both_lines xs ys a.1 b)
 
-repository_shows : (m : ℕ) (repository : Repository) (keys : RepoKeys) → AllByRecursion ShowsRoleKey (repository_lines m repository keys)
-repository_shows m repository keys =
-    both_show _ _ (both_show _ _ (both_show _ _ (role_shows m repository (codes "root") keys.root.threshold 0 keys.root.keys (printed (codes "root") refl))
-    (role_shows m repository (codes "targets") keys.targets.threshold 0 keys.targets.keys (printed (codes "targets") refl)))
-    (role_shows m repository (codes "snapshot") keys.snapshot.threshold 0 keys.snapshot.keys (printed (codes "snapshot") refl)))
-    (role_shows m repository (codes "timestamp") keys.timestamp.threshold 0 keys.timestamp.keys (printed (codes "timestamp") refl))
+role_is : (m : ℕ) (repository : Repository) (role : List ℕ) (threshold i : ℕ) (keys : List (List ℕ)) → IsUtf8 role
+    → AllByRecursion line (map (key_line m (repository_word repository) role threshold) (enumerate_from i keys))
+role_is m repository role threshold i [] is = tt
+role_is m repository role threshold i (key ∷ keys) is = (
+  (record { root = m; repository = repository_word repository; role = role; place = i; secret = key; threshold = threshold }, record { repository = utf8 _ (word repository); role = is }, refl),
+  role_is m repository role threshold (i + 1) keys is,
+)
 
-roots_show : (i : ℕ) (roots : List RootRow) → AllByRecursion ShowsRoleKey (flat_map (λ (r : ℕ × RootRow). root_lines r.0 r.1) (enumerate_from i roots))
-roots_show i [] = tt
-roots_show i (root ∷ roots) = both_show _ _ (both_show _ _ (repository_shows i Director root.keys.director) (repository_shows i Image root.keys.image)) (roots_show (i + 1) roots)
+repository_is : (m : ℕ) (repository : Repository) (keys : RepoKeys) → AllByRecursion line (repository_lines m repository keys)
+repository_is m repository keys =
+    both_lines _ _ (both_lines _ _ (both_lines _ _ (role_is m repository (codes "root") keys.root.threshold 0 keys.root.keys (utf8 _ (printed (codes "root") refl)))
+    (role_is m repository (codes "targets") keys.targets.threshold 0 keys.targets.keys (utf8 _ (printed (codes "targets") refl))))
+    (role_is m repository (codes "snapshot") keys.snapshot.threshold 0 keys.snapshot.keys (utf8 _ (printed (codes "snapshot") refl))))
+    (role_is m repository (codes "timestamp") keys.timestamp.threshold 0 keys.timestamp.keys (utf8 _ (printed (codes "timestamp") refl)))
 
-pub holds_keys : (root : ℕ) (s : Connected) (rows : StateRows) → ListsRows rows s.now.trees → HoldsOfAll role_key_table (λ all. AllByRecursion ShowsRoleKey (filter (has_number 0 (pos root)) all)) s
-holds_keys root s rows lists = (roots_lines rows.roots, lists.tables.role_keys, all_filtered ShowsRoleKey (has_number 0 (pos root)) (roots_lines rows.roots) (roots_show 1 rows.roots))
+roots_are : (i : ℕ) (roots : List RootRow) → AllByRecursion line (flat_map (λ (r : ℕ × RootRow). root_lines r.0 r.1) (enumerate_from i roots))
+roots_are i [] = tt
+roots_are i (root ∷ roots) = both_lines _ _ (both_lines _ _ (repository_is i Director root.keys.director) (repository_is i Image root.keys.image)) (roots_are (i + 1) roots)
+
+-- a line shows itself
+shown_lines : (xs : List Row) → AllByRecursion line xs → AllByRecursion line (map (columns_at role_key_places) xs)
+shown_lines [] all = tt
+shown_lines (x ∷ xs) all = ((all.0.0, all.0.1, ap (columns_at role_key_places) all.0.2), shown_lines xs all.1)
+
+pub holds_keys : (root : ℕ) (s : Connected) (rows : StateRows) → ListsRows rows s.now.trees → HoldsOfAll role_key_table (λ all. AllByRecursion line (keys_shown root all)) s
+holds_keys root s rows lists = (roots_lines rows.roots, lists.tables.role_keys, shown_lines _ (all_filtered line (has_number 0 (pos root)) (roots_lines rows.roots) (roots_are 1 rows.roots)))
+
+-- what a row says is its line
+key_said : (r : Row) (k : RoleKey) → SaysKey (columns_at role_key_places r) k → columns_at role_key_places r ≡ key_row k
+key_said r k said = rw (said.root, said.repository.0, said.role.0, said.place, said.secret, said.threshold) refl
+
+pub keys_said : (root : ℕ) (found : List RoleKey) (s : Connected) → ((all : List Row) → HasTables s → ListsAll all (s.now.trees role_key_table.tree) → EachSays (Tells SaysKey IsTypedKey key_row) (keys_shown root all) found)
+    → (all : List Row) → HasTables s → ListsAll all (s.now.trees role_key_table.tree) → keys_shown root all ≡ map key_row found
+keys_said root found s told all has lists =
+    lines_said SaysKey key_row (columns_at role_key_places) key_said _ found (each_said (Tells SaysKey IsTypedKey key_row) SaysKey (λ r k told. told.said) _ found (told all has lists))
 
 -- ---- files
-
-file_shows : (repository : Repository) (name : Name) (o : Option (List ℕ)) → is_file_name name ≡ true → IfSome o IsUtf8 → ShowsOne ShowsFile (file_lines repository name o)
-file_shows repository name None fits utf8 = (omega arith, tt)
-file_shows repository name (Some text) fits utf8 = (omega arith, ((word repository, file_name name fits, (text, refl, utf8)), tt))
 
 first_typed : {X : Type 0} (P : X → Type 0) (test : X → Bool) (xs : List X) → AllByRecursion P xs → IfSome (find test xs) P
 first_typed P test [] all = tt
@@ -143,6 +146,43 @@ held_typed : (rows : StateRows) (repository : Repository) (name : Name) → AreT
 held_typed rows repository name typed =
     either_typed IsUtf8 (option_map (text_in repository) (row_named name rows.roots)) (other_text repository rows.files name) (root_typed repository (row_named name rows.roots) (named_typed name rows.roots typed.roots)) (other_typed repository rows.files name typed.files)
 
-pub holds_file : (repository : Repository) (name : Name) → is_file_name name ≡ true → (s : Connected) (rows : StateRows) → ListsRows rows s.now.trees → HoldsOfFiles (λ rows_of. ShowsOne ShowsFile (rows_of (repository_word repository) name)) s
-holds_file repository name fits s rows lists =
-    (files_lines rows, lists.tables.files, subst (ShowsOne ShowsFile) (sym (own_lines rows repository name)) (file_shows repository name (text_held rows repository name) fits (held_typed rows repository name lists.typed)))
+-- the row of the file, or none
+abbrev its_file : Repository → Name → StateRows → Option ServedFile
+its_file repository name rows = option_map (file_line repository name) (text_held rows repository name)
+
+its_lines : (rows : StateRows) (repository : Repository) (name : Name) → map (columns_at file_places) (files_lines rows (repository_word repository) name) ≡ map file_row (option_to_list (its_file repository name rows))
+its_lines rows repository name = ap (map (columns_at file_places)) (own repository) ∙ by_text (text_held rows repository name)
+  where
+    own : (repository : Repository) → files_lines rows (repository_word repository) name ≡ file_lines repository name (text_held rows repository name)
+    own Director = refl
+    own Image = refl
+
+    by_text : (o : Option (List ℕ)) → map (columns_at file_places) (file_lines repository name o) ≡ map file_row (option_to_list (option_map (file_line repository name) o))
+    by_text None = refl
+    by_text (Some text) = refl
+
+its_typed : (repository : Repository) (name : Name) → is_file_name name ≡ true → (rows : StateRows) → AreTyped rows → AllByRecursion IsTypedFile (option_to_list (its_file repository name rows))
+its_typed repository name fits rows typed = by_text (text_held rows repository name) (held_typed rows repository name typed)
+  where
+    by_text : (o : Option (List ℕ)) → IfSome o IsUtf8 → AllByRecursion IsTypedFile (option_to_list (option_map (file_line repository name) o))
+    by_text None is = tt
+    by_text (Some text) is = (record { repository = utf8 _ (word repository); name = utf8 name (file_name name fits); body = is }, tt)
+
+pub holds_file : (repository : Repository) (name : Name) → is_file_name name ≡ true → (s : Connected) (rows : StateRows) → ListsRows rows s.now.trees
+    → HoldsOfFiles (λ rows_of. AreLines IsTypedFile file_row (map (columns_at file_places) (rows_of (repository_word repository) name))) s
+holds_file repository name fits s rows lists = (files_lines rows, lists.tables.files, (its_file repository name rows, its_typed repository name fits rows lists.typed, its_lines rows repository name))
+
+-- the file that is found is that of the text
+pub file_found : {E : Type 0} (r : Result (Option ServedFile) E) (repository : Repository) (name : Name) → is_file_name name ≡ true → (before after : Connected)
+    → IfOk r (λ found. (rows_of : List ℕ → List ℕ → List Row) → HasTables before → ListsPairs rows_of (before.now.trees repo_file_table.tree)
+    → IsTold SaysFile IsTypedFile file_row (map (columns_at file_places) (rows_of (repository_word repository) name)) found)
+    → OnOk r (Reads before after) → IfOk r (λ found. (rows : StateRows) → IsWithin up_schema (ListsRows rows) before → option_map (λ (f : ServedFile). f.body) found ≡ text_held rows repository name)
+file_found (Err e) repository name fits before after told reads = tt
+file_found (Ok found) repository name fits before after told reads = λ rows within.
+    let here = within.here reads.was_open in
+    let same = (told (files_lines rows) (has_tables rows before within) here.rows.tables.files).same (its_file repository name rows) (its_typed repository name fits rows here.rows.typed) (its_lines rows repository name) in
+    ap (option_map (λ (f : ServedFile). f.body)) same ∙ back (text_held rows repository name)
+  where
+    back : (o : Option (List ℕ)) → option_map (λ (f : ServedFile). f.body) (option_map (file_line repository name) o) ≡ o
+    back None = refl
+    back (Some text) = refl

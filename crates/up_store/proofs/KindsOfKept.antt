@@ -1,16 +1,9 @@
 -- Rows of kept manifests have the columns that the statements show, and by the table's key a vehicle has one row at most with a counter.
-use Rattle.std.proofs.Common.{◌≡◌, inl, inr, ℕ, ℤ, pos, ◌≤◌, List, [], ◌∷◌, Bool, true, false, cond, ◌&&◌, Ok, Err, Result, filter, map, drop, length, IsTrue, refl, sym, ap, ap₂, subst, ◌∙◌, arith}
-use Rattle.std.specs.Prelude.{◌==◌, ⊤}
-use Rattle.std.specs.List.{AllByRecursion}
-use Rattle.std.specs.Ordering.{is_eq}
+use Rattle.std.proofs.Common.{◌≡◌, inl, inr, ℕ, ℤ, pos, ◌≤◌, List, [], ◌∷◌, Bool, true, false, cond, ◌&&◌, Option, Ok, Err, Result, IfOk, OnOk, filter, find, map, drop, length, IsTrue, refl, sym, ap, ap₂, subst, ◌∙◌, arith}
 use Rattle.std.specs.declared.cmp.Ordering.TheVariants.{Less}
 use Rattle.std.proofs.lemmas.Bool.Decides.{nat_tests}
 use Rattle.std.proofs.lemmas.List.{length-map}
 use Rattle.sqlite.specs.declared.types.Value.{Value}
-use Rattle.sqlite.specs.declared.types.Value.TheVariants.{Null, Int, Real, Text, Blob}
-use Rattle.sqlite.specs.Order.{Row, column, value_cmp}
-use Rattle.sqlite.specs.State.{State as Connected}
-use Rattle.sqlite.specs.Tree.{Trees, IsTable, rowid}
 use Rattle.sqlite_catalog.specs.Listing.{IsSound}
 use Rattle.sqlite_catalog.proofs.AlterLemmas.{keys_are_unique}
 use Rattle.sqlite_rules.specs.Lists.{Has}
@@ -20,52 +13,22 @@ use Rattle.sqlite_schema.specs.Rules.{agree, differ, equal}
 use Rattle.sqlite_trees.specs.View.{is_int}
 use Rattle.sqlite_value.specs.declared.keys.Collation.TheVariants.{Binary}
 use Rattle.sqlite_value.specs.Keys.{first_key, plain}
-use Rattle.up_canon.specs.Names.{Name}
 use Rattle.up_columns.specs.PlanColumns.{plan_column, plan_data}
-use Rattle.up_columns.specs.Typed.{is_typed_plan}
 use Rattle.up_columns.proofs.PlansRead.{plan-canon}
-use Rattle.up_machine.specs.declared.rows.Kept.{Kept}
 use Rattle.up_plan.specs.declared.assigned.Plan.{Plan}
-use Rattle.up_rows.specs.StateRows.{StateRows}
-use Rattle.up_tables.specs.Kinds.{IsWords, ShowsOne, ShowsKept}
-use Rattle.up_tables.specs.Rows.{bare, has_text, has_number}
-use Rattle.up_tables.specs.Stands.{IsWith, Lists}
-use Rattle.up_tables.specs.Statements.{BlamesDisk, HoldsBy}
-use Rattle.up_tables.specs.declared.values.StoreFault.{StoreFault}
-use Rattle.up_tables.specs.Tables.{up_schema, kept_table}
 use Rattle.up_tables.proofs.AnswerLemmas.{equals_text, equals_int}
-use Rattle.up_tables.proofs.EcuRows.{column_after, differs, same_text, text_is}
 use Rattle.up_tables.proofs.PlaceLemmas.{any_has}
 use Rattle.up_tables.proofs.ReadLemmas.{bare_filter}
-use Rattle.up_store.specs.Connections.{BlamesWithin}
-use Rattle.up_store.specs.Lines.{kept_line}
-use Rattle.up_store.specs.Listing.{ListsRows}
-use Rattle.up_store.specs.Typed.{IsTypedKept}
+use Rattle.up_store.proofs.Common.{◌==◌, AllByRecursion, option_to_list, is_eq, Null, Int, Real, Text, Blob, Row, column, value_cmp, Connected, Trees, IsTable, rowid, Name, is_typed_plan, Kept, kept_with, StateRows, IsWords, kept_places, bare, columns_at, has_text, has_number, HasTables, IsWith, IsWithin, Lists, Reads, AreLines, IsTold, BlamesDisk, HoldsBy, StoreFault, up_schema, kept_table, column_after, differs, same_text, text_is, BlamesWithin, kept_line, ListsRows, IsTypedKept, SaysKept}
 use Rattle.up_store.proofs.Blamed.{all_filtered}
-use Rattle.up_store.proofs.ColumnFound.{numbers_are}
-use Rattle.up_store.proofs.KindsOfTexts.{ident, canonical}
+use Rattle.up_store.proofs.ColumnFound.{has_tables, numbers_are}
+use Rattle.up_store.proofs.KindsOfTexts.{canonical}
 
 -- ---- their columns
 
-plan_words : (plan : Plan) → is_typed_plan plan ≡ true → IsWords (Text (plan_column plan))
+pub plan_words : (plan : Plan) → is_typed_plan plan ≡ true → IsWords (Text (plan_column plan))
 unfolding plan_column
 plan_words plan h = canonical (plan_data plan) (plan-canon plan h)
-
-kept_shows : (vehicle : Name) (row : Kept) → IsTypedKept vehicle row → ShowsKept (kept_line row)
-kept_shows vehicle row typed = (
-  ident row.vehicle typed.ident,
-  (row.counter, refl),
-  (row.version, refl),
-  (row.at, refl),
-  (row.root, refl),
-  (row.signed, refl, typed.signed),
-  plan_words row.plan typed.plan,
-  (row.reply, refl, typed.reply),
-)
-
-all_show : (vehicle : Name) (rows : List Kept) → AllByRecursion (IsTypedKept vehicle) rows → AllByRecursion ShowsKept (map kept_line rows)
-all_show vehicle [] typed = tt
-all_show vehicle (row ∷ rows) typed = (kept_shows vehicle row typed.0, all_show vehicle rows typed.1)
 
 abbrev with_counter : ℕ → List Kept → List Row
 with_counter counter rows = filter (has_number 1 (pos counter)) (map kept_line rows)
@@ -157,18 +120,71 @@ module _ (vehicle : Name) (counter : ℕ) (kept : List Kept) (db : Trees) (sound
       let same : bare counted ≡ with_counter counter kept = bare_filter (has_number 2 (pos counter)) (has_number 1 (pos counter)) test its ∙ ap (filter (has_number 1 (pos counter))) (lists.parts vehicle ∙ are) in
       omega (arith, ap length same, length-map counted (drop 1), few counted is_its up)
 
-pub holds_kept : (vehicle : Name) (counter : ℕ) (s : Connected) (rows : StateRows) → IsWith up_schema (ListsRows rows) s.now
-    → HoldsBy kept_table 1 (λ rows_of. ShowsOne ShowsKept (filter (has_number 1 (pos counter)) (rows_of vehicle))) s
-holds_kept vehicle counter s rows here =
-    let rows_of : List ℕ → List Row = λ n. map kept_line (rows.kept n) in
-    let lists : Lists 1 rows_of (s.now.trees kept_table.tree) = here.rows.tables.kept in
-    let sound : IsSound up_schema s.now.trees = subst (λ x. IsSound x s.now.trees) here.schema_is here.sound in
-    let few = one_at_most vehicle counter (rows.kept vehicle) s.now.trees sound rows_of lists refl in
-    (rows_of, lists, (few, all_filtered ShowsKept (has_number 1 (pos counter)) (map kept_line (rows.kept vehicle)) (all_show vehicle (rows.kept vehicle) (here.rows.typed.kept vehicle))))
+-- ---- what is read of them
+
+abbrev pub fits : Kept → Type 0
+fits row = IsTypedKept row.vehicle row
+
+own : (vehicle : Name) (row : Kept) → IsTypedKept vehicle row → fits row
+own vehicle row typed = subst (λ n. IsTypedKept n row) (sym typed.named) typed
+
+none_left : (rows : List Row) → length rows ≤ 0 → rows ≡ []
+none_left [] few = refl
+none_left (row ∷ rows) few = absurd (omega (arith, few))
+
+-- where one at most has the counter, its line is shown
+lines_are : (counter : ℕ) (rows : List Kept) → length (with_counter counter rows) ≤ 1
+    → map (columns_at kept_places) (with_counter counter rows) ≡ map kept_line (option_to_list (find (λ (k : Kept). k.counter == counter) rows))
+lines_are counter [] few = refl
+lines_are counter (row ∷ rows) few = by_test (row.counter == counter) refl (lines_are counter rows)
+  where
+    by_test : (b : Bool) → (row.counter == counter) ≡ b
+        → (length (with_counter counter rows) ≤ 1 → map (columns_at kept_places) (with_counter counter rows) ≡ map kept_line (option_to_list (find (λ (k : Kept). k.counter == counter) rows)))
+        → map (columns_at kept_places) (with_counter counter (row ∷ rows)) ≡ map kept_line (option_to_list (find (λ (k : Kept). k.counter == counter) (row ∷ rows)))
+    by_test true is rest =
+        let test = numbers_are row.counter counter ∙ is in
+        let one : length (kept_line row ∷ with_counter counter rows) ≤ 1 = rw test at few in
+        rw (test, is) (ap (λ (more : List Row). kept_line row ∷ map (columns_at kept_places) more) (none_left (with_counter counter rows) (omega (arith, one))))
+    by_test false is rest =
+        let test = numbers_are row.counter counter ∙ is in
+        rw (test, is) (rest (rw test at few))
+
+found_typed : (vehicle : Name) (counter : ℕ) (rows : List Kept) → AllByRecursion (IsTypedKept vehicle) rows → AllByRecursion fits (option_to_list (find (λ (k : Kept). k.counter == counter) rows))
+found_typed vehicle counter [] typed = tt
+found_typed vehicle counter (row ∷ rows) typed = by_test (row.counter == counter) refl (found_typed vehicle counter rows typed.1)
+  where
+    by_test : (b : Bool) → (row.counter == counter) ≡ b → AllByRecursion fits (option_to_list (find (λ (k : Kept). k.counter == counter) rows))
+        → AllByRecursion fits (option_to_list (find (λ (k : Kept). k.counter == counter) (row ∷ rows)))
+    by_test true is rest = rw is (own vehicle row typed.0, tt)
+    by_test false is rest = rw is rest
+
+abbrev shown : Name → ℕ → (List ℕ → List Row) → List Row
+shown vehicle counter rows_of = map (columns_at kept_places) (filter (has_number 1 (pos counter)) (rows_of vehicle))
+
+module _ (vehicle : Name) (counter : ℕ) (s : Connected) (rows : StateRows) (here : IsWith up_schema (ListsRows rows) s.now) where
+  its_line : shown vehicle counter (λ n. map kept_line (rows.kept n)) ≡ map kept_line (option_to_list (kept_with vehicle counter rows))
+  its_line =
+      let sound : IsSound up_schema s.now.trees = subst (λ x. IsSound x s.now.trees) here.schema_is here.sound in
+      lines_are counter (rows.kept vehicle) (one_at_most vehicle counter (rows.kept vehicle) s.now.trees sound (λ n. map kept_line (rows.kept n)) here.rows.tables.kept refl)
+
+  its_typed : AllByRecursion fits (option_to_list (kept_with vehicle counter rows))
+  its_typed = found_typed vehicle counter (rows.kept vehicle) (here.rows.typed.kept vehicle)
+
+  pub holds_kept : HoldsBy kept_table 1 (λ rows_of. AreLines fits kept_line (shown vehicle counter rows_of)) s
+  holds_kept = ((λ n. map kept_line (rows.kept n)), here.rows.tables.kept, (kept_with vehicle counter rows, its_typed, its_line))
+
+-- the manifest that is found is that of the row
+pub kept_found : {E : Type 0} (r : Result (Option Kept) E) (vehicle : Name) (counter : ℕ) (before after : Connected)
+    → IfOk r (λ found. (rows_of : List ℕ → List Row) → HasTables before → Lists 1 rows_of (before.now.trees kept_table.tree) → IsTold SaysKept fits kept_line (shown vehicle counter rows_of) found)
+    → OnOk r (Reads before after) → IfOk r (λ found. (rows : StateRows) → IsWithin up_schema (ListsRows rows) before → found ≡ kept_with vehicle counter rows)
+kept_found (Err e) vehicle counter before after told reads = tt
+kept_found (Ok found) vehicle counter before after told reads = λ rows within.
+    let here = within.here reads.was_open in
+    (told (λ n. map kept_line (rows.kept n)) (has_tables rows before within) here.rows.tables.kept).same (kept_with vehicle counter rows) (its_typed vehicle counter before rows here) (its_line vehicle counter before rows here)
 
 -- ---- a fault of a statement, whose table has the rows that it shows since its keys are obeyed
 
-pub by_sound_statement : (fits : StateRows → Type 0) (P : Type 0) (old new : Connected) (r : Result ⊤ StoreFault) → ((rows : StateRows) → IsWith up_schema (ListsRows rows) old.now → fits rows → P)
+pub by_sound_statement : {A : Type 0} (fits : StateRows → Type 0) (P : Type 0) (old new : Connected) (r : Result A StoreFault) → ((rows : StateRows) → IsWith up_schema (ListsRows rows) old.now → fits rows → P)
     → BlamesDisk (λ s. P) old new r → BlamesWithin fits old new r
 by_sound_statement fits P old new (Ok x) holds blame clean = tt
 by_sound_statement fits P old new (Err f) holds blame clean = λ is is_open unlimited rows within fit.

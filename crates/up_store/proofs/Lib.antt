@@ -1,3 +1,4 @@
+pub mod Common
 pub mod Alike
 pub mod TypedRows
 pub mod NewTables
@@ -6,11 +7,10 @@ pub mod Raised
 pub mod Closed
 pub mod Written
 pub mod WriteBlames
-pub mod HandedBack
 pub mod VehicleReads
 pub mod Inserted
 pub mod EcuReads
-pub mod FileReads
+pub mod EcuSays
 pub mod VehiclePuts
 pub mod FoundingReads
 pub mod RootPuts
@@ -20,6 +20,7 @@ pub mod RootFiles
 pub mod AcceptPuts
 pub mod ReplacePuts
 pub mod ColumnReads
+pub mod ByName
 pub mod ColumnFound
 pub mod ColumnPuts
 pub mod PutBlames
@@ -41,5 +42,7 @@ pub mod KindsOfVehicles
 pub mod KindsOfKept
 pub mod KindsOfFounding
 pub mod WentOn
+pub mod WithinLemmas
+pub mod Ended
 pub mod RootBlames
 pub mod AcceptBlames

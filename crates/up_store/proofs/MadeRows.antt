@@ -1,8 +1,6 @@
 -- A loop that makes rows one after another.
-use Rattle.std.proofs.Common.{◌≡◌, ◌+◌, ◌<◌, ℕ, zero, suc, List, [], ◌∷◌, ◌++◌, All, Some, length, map, take, slice_get, get_or, refl, sym, ap, ap₂, subst, ◌∙◌, arith}
-use Rattle.std.specs.List.{AllByRecursion}
-use Rattle.std.proofs.lemmas.List.{map-append}
-use Rattle.std.proofs.lemmas.List.Elements.{All-append, All-cons}
+use Rattle.std.proofs.Common.{◌≡◌, ◌+◌, ◌<◌, ℕ, zero, suc, List, [], ◌∷◌, ◌++◌, Some, length, map, take, slice_get, get_or, refl, sym, ap, subst, ◌∙◌, arith}
+use Rattle.up_store.proofs.Common.{AllByRecursion}
 
 taken : {X : Type 0} (xs : List X) (i : ℕ) (x : X) → slice_get xs i ≡ Some x → take (i + 1) xs ≡ take i xs ++ x ∷ []
 taken [] i x h = absurd (let e = h in cc)
@@ -10,13 +8,6 @@ taken {X} (y ∷ ys) zero x h = let same : y ≡ x = cc in ap (λ (z : X). z ∷
 taken {X} (y ∷ ys) (suc i) x h =
     let next : suc i + 1 ≡ suc (i + 1) = omega arith in
     ap (λ (n : ℕ). take n (y ∷ ys)) next ∙ ap (λ (l : List X). y ∷ l) (taken ys i x h)
-
--- one more is made of the next row
-pub next_made : {X Y Z : Type 0} (f : Y → X) (g : Z → X) (rows : List Z) (made more : List Y) (i : ℕ) (row : Z) (y : Y) → map f made ≡ map g (take i rows) → slice_get rows i ≡ Some row → f y ≡ g row → more ≡ made ++ y ∷ []
-    → map f more ≡ map g (take (i + 1) rows)
-next_made {X} {Y} {Z} f g rows made more i row y so_far there same is =
-    ap (map f) is ∙ map-append f made (y ∷ []) ∙ ap₂ (λ (l : List X) (x : X). l ++ x ∷ []) so_far same
-    ∙ sym (map-append g (take i rows) (row ∷ [])) ∙ sym (ap (map g) (taken rows i row there))
 
 -- what holds of the rows before a place and of the one there holds of those before the next
 pub each_more : {X : Type 0} (P : X → Type 0) (rows : List X) (i : ℕ) (row : X) → AllByRecursion P (take i rows) → slice_get rows i ≡ Some row → P row → AllByRecursion P (take (i + 1) rows)
@@ -40,6 +31,3 @@ pub each_read : {X Y : Type 0} (f : X → Y) (P : Y → Type 0) (rows : List X) 
 each_read f P [] i row low is all = absurd (omega (arith, low))
 each_read f P (x ∷ xs) zero row low is all = subst (λ y. P (f y)) (sym is) all.0
 each_read f P (x ∷ xs) (suc i) row low is all = each_read f P xs i row (omega (arith, low)) is all.1
-
-pub all_made : {Y : Type 0} (P : Y → Type 0) (made more : List Y) (y : Y) → All P made → P y → more ≡ made ++ y ∷ [] → All P more
-all_made P made more y so_far new is = subst (All P) (sym is) (All-append P made (y ∷ []) so_far (All-cons P y [] new (λ k d h. absurd (omega (arith, h)))))

@@ -1,23 +1,7 @@
 -- Tables that are made list no rows.
 use Rattle.std.proofs.Common.{◌≡◌, ℕ, List, [], Bool, true, false, None, refl, sym, ap, ◌∙◌}
-use Rattle.std.specs.Prelude.{if◌then◌else◌, bytes_eq, codes, option_map}
-use Rattle.std.specs.Option.{option_or}
 use Rattle.std.specs.FinMap.{get-empty}
-use Rattle.std.specs.Ordering.{nat_cmp}
-use Rattle.std.specs.Cmp.Lexicographic.{slice_cmp}
-use Rattle.sqlite.specs.Tree.{Trees}
-use Rattle.up_canon.specs.Names.{Name}
-use Rattle.up_roles.specs.declared.repository.Repository.{Repository}
-use Rattle.up_roles.specs.declared.repository.Repository.TheVariants.{Director, Image}
-use Rattle.up_rows.specs.StateRows.{no_rows}
-use Rattle.up_rows.specs.Lookups.{text_in, text_held}
-use Rattle.up_tables.specs.Lines.{AreNew}
-use Rattle.up_tables.specs.Listed.{ListsTables, no_table_rows}
-use Rattle.up_tables.specs.Tables.{repo_file_table, image_table, campaign_table, vehicle_table, ecu_table, image_sha512_table}
-use Rattle.up_tables.proofs.ListedLemmas.{lists_none}
-use Rattle.up_store.specs.Lines.{repository_word, file_lines, image_lines, campaign_lines, vehicle_lines, ecus_lines, second_hash, sha512_lines}
-use Rattle.up_store.specs.Listing.{ListsRows, files_lines}
-use Rattle.up_store.specs.Typed.{AreTyped}
+use Rattle.up_store.proofs.Common.{if◌then◌else◌, bytes_eq, codes, option_map, option_or, nat_cmp, slice_cmp, Trees, Name, Repository, Director, Image, no_rows, text_in, text_held, AreNew, ListsTables, no_table_rows, repo_file_table, image_table, campaign_table, vehicle_table, ecu_table, image_sha512_table, lists_none, repository_word, file_lines, image_lines, campaign_lines, vehicle_lines, ecus_lines, second_hash, sha512_lines, ListsRows, files_lines, AreTyped}
 use Rattle.up_store.proofs.Alike.{lists_as, pairs_as}
 
 no_files : (repository : Repository) (name : Name) → text_held no_rows repository name ≡ None

@@ -1,23 +1,9 @@
 -- The rows of keys tell the keys.
 use Rattle.std.proofs.Common.{◌≡◌, ◌≤◌, ◌<◌, ◌+◌, ℕ, pos, List, [], ◌∷◌, ◌++◌, Bool, true, false, map, filter, length, refl, sym, ap, ap₂, ◌∙◌, arith, append-nil, codes, append_assoc}
-use Rattle.std.specs.Prelude.{flat_map}
-use Rattle.std.specs.List.{AllByRecursion, enumerate_from}
-use Rattle.std.specs.Cmp.Lexicographic.{slice_cmp}
-use Rattle.std.specs.Ordering.{is_eq, nat_cmp}
 use Rattle.std.proofs.lemmas.List.Elements.{filter-append}
-use Rattle.sqlite.specs.declared.types.Value.TheVariants.{Int, Text}
-use Rattle.sqlite.specs.Order.{Row, column, value_cmp}
-use Rattle.up_roles.specs.declared.repository.Repository.{Repository}
-use Rattle.up_roles.specs.declared.repository.Repository.TheVariants.{Director, Image}
-use Rattle.up_metadata.specs.declared.keys.KeySet.{KeySet}
-use Rattle.up_metadata.specs.declared.keys.RepoKeys.{RepoKeys}
 use Rattle.up_metadata.specs.declared.keys.RoleSecrets.{RoleSecrets}
-use Rattle.up_rows.specs.declared.root_row.RootRow.{RootRow}
-use Rattle.up_tables.specs.Rows.{has_number, has_text}
-use Rattle.up_store.specs.Lines.{repository_word, role_lines, repository_lines, root_lines, roots_lines}
-use Rattle.up_store.specs.Typed.{HasKeys, HaveKeys, EachHasKeys}
+use Rattle.up_store.proofs.Common.{flat_map, AllByRecursion, enumerate_from, slice_cmp, is_eq, nat_cmp, Int, Text, Row, column, value_cmp, Repository, Director, Image, KeySet, RepoKeys, RootRow, has_number, has_text, repository_word, role_lines, repository_lines, root_lines, roots_lines, HasKeys, HaveKeys, EachHasKeys, value_cmp-Int, value_cmp-Text}
 use Rattle.up_store.proofs.FoundingReads.{AreOfRoot, lines_of_root, all_kept, key_line}
-use Rattle.sqlite_value.proofs.OrderLemmas.{value_cmp-Int, value_cmp-Text}
 
 -- ---- parts that a test tells apart
 

@@ -1,48 +1,20 @@
 -- Tables that show two sound states show one.
 use Rattle.std.proofs.Common.{◌≡◌, ◌+◌, ◌≤◌, ◌^◌, ℕ, suc, List, [], ◌∷◌, ◌++◌, Bool, true, false, Option, Some, None, map, length, refl, sym, ap, ap₂, ◌∙◌, arith, codes}
-use Rattle.std.specs.Prelude.{option_map}
-use Rattle.std.specs.List.{AllByRecursion, list_all}
 use Rattle.std.specs.FinMap as table
-use Rattle.sqlite.specs.Order.{Row}
-use Rattle.sqlite.specs.Tree.{Trees}
-use Rattle.sqlite.specs.declared.types.Value.TheVariants.{Int}
-use Rattle.up_canon.specs.Canon.{CanonIsRead}
-use Rattle.up_canon.specs.Moments.{MomentsAreRead}
-use Rattle.up_canon.specs.Names.{Name}
-use Rattle.up_sign.specs.Schemes.{Rules}
-use Rattle.up_plan.specs.Campaigns.{CampaignData}
-use Rattle.up_plan.specs.Images.{ImageData}
-use Rattle.up_plan.specs.declared.campaign.Item.{Item}
-use Rattle.up_plan.specs.declared.campaign.Reach.{Reach}
-use Rattle.up_plan.specs.declared.image.Need.{Need}
 use Rattle.up_columns.specs.Columns.{names_column, names_in, file_names_in, needs_column, needs_in}
-use Rattle.up_columns.specs.CampaignColumns.{reach_column, reach_in, items_column, campaign_items_in}
 use Rattle.up_columns.specs.PlanColumns.{plan_column, plan_in}
 use Rattle.up_columns.proofs.NamesRead.{names-there, file_names-there}
 use Rattle.up_columns.proofs.NeedsRead.{needs-there}
 use Rattle.up_columns.proofs.CampaignsRead.{reach-there, campaign_items-there}
 use Rattle.up_columns.proofs.PlansRead.{plan-there}
-use Rattle.up_metadata.specs.Files.{Root}
 use Rattle.up_machine.specs.Sound.{IsSound}
 use Rattle.up_machine.specs.State.{Entry, Vehicle, State}
-use Rattle.up_machine.specs.declared.rows.EcuRow.{EcuRow}
-use Rattle.up_machine.specs.declared.rows.Founding.{Founding}
-use Rattle.up_machine.specs.declared.rows.Kept.{Kept}
-use Rattle.up_machine.specs.declared.rows.VehicleRows.{VehicleRows}
-use Rattle.up_machine.specs.declared.vehicle.NewEcu.{NewEcu}
-use Rattle.up_rows.specs.declared.root_row.RootRow.{RootRow}
 use Rattle.up_rows.specs.Laws.{RowsTellTheState}
-use Rattle.up_rows.specs.StateRows.{StateRows, rows_of_state, root_of, ecu_of, entry_of, vehicle_of_rows}
 use Rattle.up_rows.proofs.Tables.{get_changed}
-use Rattle.up_tables.specs.Lines.{ecu_row, meta_row, yes_or_no}
-use Rattle.up_store.specs.Lines.{founding_number, image_lines, campaign_lines, vehicle_lines, ecu_lines, ecus_lines, kept_line, retired_lines, second_hash, sha512_lines}
-use Rattle.up_store.specs.Listing.{ListsRows, IsOfLastRoot}
-use Rattle.up_store.specs.Typed.{EachHasKeys, IsTypedImage, IsTypedCampaign, IsTypedKept, IsTypedRoot}
-use Rattle.up_metadata.proofs.Lists.{each_weaker}
+use Rattle.up_store.proofs.Common.{option_map, AllByRecursion, list_all, Row, Trees, Int, CanonIsRead, MomentsAreRead, Name, Rules, CampaignData, ImageData, Item, Reach, Need, reach_column, reach_in, items_column, campaign_items_in, Root, EcuRow, Founding, Kept, VehicleRows, NewEcu, RootRow, StateRows, rows_of_state, root_of, ecu_of, entry_of, vehicle_of_rows, ecu_row, meta_row, yes_or_no, founding_number, image_lines, campaign_lines, vehicle_lines, ecu_lines, ecus_lines, kept_line, retired_lines, second_hash, sha512_lines, ListsRows, IsOfLastRoot, EachHasKeys, IsTypedImage, IsTypedCampaign, IsTypedKept, IsTypedRoot, each_weaker, image_made, campaign_made}
 use Rattle.up_store.proofs.OneKeys.{one_keys}
 use Rattle.up_store.proofs.RootTexts.{rows_size, same_found, one_texts, one_roots}
 use Rattle.up_store.proofs.WholeTables.{same_table}
-use Rattle.up_store.specs.Shown.{image_made, campaign_made}
 
 -- ---- columns
 

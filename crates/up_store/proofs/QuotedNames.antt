@@ -1,19 +1,12 @@
 -- In the column of a reach, the quoted name of each vehicle stands as it is.
 use Rattle.std.proofs.Common.{◌≡◌, ℕ, ◌≤◌, List, [], ◌∷◌, ◌++◌, true, false, length, drop, map, inl, inr, refl, sym, ap, ◌∙◌, arith, append_assoc, length-append, get_or}
-use Rattle.std.specs.Prelude.{bytes_eq}
-use Rattle.std.specs.Cmp.Lexicographic.{bytes_decides}
-use Rattle.std.specs.List.{list_any}
 use Rattle.std.specs.Str.Pattern.{LacksTextAt}
 use Rattle.std.proofs.lemmas.Bool.{or_cases, false_from_ne_true, false≢true}
 use Rattle.std.proofs.lemmas.List.{drop_at}
-use Rattle.serde_json.specs.Data.{string}
 use Rattle.serde_json.specs.View.{items_of}
-use Rattle.up_canon.specs.Canon.{quoted, more_items_text}
-use Rattle.up_canon.specs.Names.{Name}
 use Rattle.up_columns.specs.CampaignColumns.{reach_column}
-use Rattle.up_plan.specs.Planning.{reaches}
-use Rattle.up_plan.specs.declared.campaign.Reach.{Reach}
 use Rattle.up_plan.specs.declared.campaign.Reach.TheVariants.{All, Named}
+use Rattle.up_store.proofs.Common.{bytes_eq, bytes_decides, list_any, string, quoted, more_items_text, Name, reaches, Reach}
 
 -- a part of a text, with what stands before and behind it
 record IsPart (part text : List ℕ) : Type 0 where

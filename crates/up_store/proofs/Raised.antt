@@ -1,17 +1,10 @@
 -- A database that is taken: from the rows of its tables to those of a state.
 use Rattle.std.proofs.Common.{◌≡◌, inl, inr, Bool, true, false, Result, Ok, Err, IfOk, IfErr, IsTrue, subst}
-use Rattle.sqlite.specs.State.{State as Connected, Survives}
-use Rattle.up_rows.specs.StateRows.{StateRows}
 use Rattle.up_tables.specs.declared.open.SchemaVersion.{SchemaVersion}
-use Rattle.up_tables.specs.Listed.{ListsTables}
 use Rattle.up_tables.specs.Making.{RaisesTo}
-use Rattle.up_tables.specs.Ours.{Raised, ListsUs}
-use Rattle.up_tables.specs.Stands.{Stands}
-use Rattle.up_tables.specs.Tables.{up_schema}
 use Rattle.up_tables.specs.Versions.{StandsAs}
 use Rattle.up_tables.proofs.RaisedLemmas.{stands_us}
-use Rattle.up_store.specs.Connections.{KeepsAs, KeepsRows, RaisedRows}
-use Rattle.up_store.specs.Listing.{table_rows}
+use Rattle.up_store.proofs.Common.{Connected, Survives, StateRows, ListsTables, Raised, ListsUs, Stands, up_schema, KeepsAs, KeepsRows, RaisedRows, table_rows}
 
 -- the tables alone
 pub tables_of : (version : SchemaVersion) (rows : StateRows) (s : Connected) → KeepsAs version rows s → StandsAs version (table_rows rows) s

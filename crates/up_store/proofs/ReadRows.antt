@@ -1,31 +1,11 @@
 -- Rows that are read one after another.
-use Rattle.std.proofs.Common.{◌≡◌, ◌+◌, ◌<◌, ℕ, zero, suc, List, [], ◌∷◌, true, length, take, get_or, string_bytes, Option, Some, None, Result, Ok, Err, OnOk, inl, refl, sym, ap, subst, ◌∙◌, arith}
-use Rattle.std.specs.Prelude.{IfOk, IsSomeAnd}
-use Rattle.sqlite.specs.Effect.{Database}
-use Rattle.sqlite.specs.State.{State as Connected}
-use Rattle.up_canon.specs.Names.{Name, Table}
-use Rattle.up_columns.specs.CampaignColumns.{reach_in}
-use Rattle.up_plan.specs.Campaigns.{CampaignData}
-use Rattle.up_plan.specs.Planning.{reaches}
-use Rattle.up_plan.specs.declared.campaign.Reach.{Reach}
-use Rattle.up_tables.specs.declared.campaign.CampaignRow.{CampaignRow}
-use Rattle.up_tables.specs.Stands.{IsWith, HasTables, AnyRows, Reads}
-use Rattle.up_tables.specs.Tables.{up_schema}
-use Rattle.up_tables.specs.declared.values.StoreFault.{StoreFault}
-use Rattle.up_store.specs.ReadAs.{InTurn, PutsCampaign, PutsReaching}
+use Rattle.std.proofs.Common.{◌≡◌, ◌+◌, ◌<◌, ℕ, zero, suc, List, [], ◌∷◌, true, length, take, get_or, Option, Some, None, Result, Ok, Err, OnOk, inl, refl, sym, ap, subst, ◌∙◌, arith}
+use Rattle.up_store.proofs.Common.{IsSomeAnd, Database, Connected, Name, Table, reach_in, CampaignData, reaches, Reach, CampaignShown, IsWith, HasTables, AnyRows, Reads, up_schema, StoreFault, InTurn, PutsCampaign, PutsReaching}
 
 -- of what was read of a row
 pub some_then : {A : Type 0} (P Q : A → Type 0) (read : Option A) → ((x : A) → P x → Q x) → IsSomeAnd read P → IsSomeAnd read Q
 some_then P Q None f h = h
 some_then P Q (Some x) f h = f x h
-
-pub some_both : {A : Type 0} (P Q : A → Type 0) (read : Option A) → IsSomeAnd read P → IsSomeAnd read Q → IsSomeAnd read (λ x. P x × Q x)
-some_both P Q None h k = h
-some_both P Q (Some x) h k = (h, k)
-
-pub both_then : {A E : Type 0} (P Q R : A → Type 0) (r : Result A E) → ((x : A) → P x → Q x → R x) → IfOk r P → IfOk r Q → IfOk r R
-both_then P Q R (Ok x) f h k = f x h k
-both_then P Q R (Err e) f h k = tt
 
 -- a read that went through leaves the tables, and what they list
 pub tables_stay : (before after : Connected) → Reads before after → HasTables before → HasTables after
@@ -45,8 +25,8 @@ in_turn_more step (y ∷ ys) (suc i) x before mid after low is so new =
     subst (λ n. InTurn step (take n (y ∷ ys)) before after) next (so.0, so.1, in_turn_more step ys i x so.0 mid after (omega (arith, low)) is so.2 new)
 
 -- a campaign that was put in reaches the vehicle, since its reach was read before
-pub reached_put : {A : Type 0} (result : Result A StoreFault) (vehicle : Name) (shown : CampaignRow) (before after : Table CampaignData) (reach : Reach)
-    → reach_in (string_bytes shown.reach) ≡ Ok reach → reaches vehicle reach ≡ true → OnOk result (PutsCampaign shown before after) → OnOk result (PutsReaching vehicle shown before after)
+pub reached_put : {A : Type 0} (result : Result A StoreFault) (vehicle : Name) (shown : CampaignShown) (before after : Table CampaignData) (reach : Reach)
+    → reach_in shown.reach ≡ Ok reach → reaches vehicle reach ≡ true → OnOk result (PutsCampaign shown before after) → OnOk result (PutsReaching vehicle shown before after)
 reached_put (Ok x) vehicle shown before after reach read also puts =
     let same : puts.campaign.reach ≡ reach = (let e = sym puts.read.reach ∙ read in cc) in
     inl (record { puts = puts; reached = ap (reaches vehicle) same ∙ also })

@@ -1,36 +1,15 @@
 -- An ECU takes another one's place in the tables, and the other one's identifier is retired.
 use Rattle.std.proofs.Common.{◌≡◌, inl, inr, ℕ, suc, List, [], ◌∷◌, ◌++◌, Bool, true, false, ◌||◌, Option, Some, Result, Ok, Err, OnOk, IsTrue, map, refl, sym, ap, ap₂, subst, ◌∙◌, bytes_eq}
-use Rattle.std.specs.Prelude.{if◌then◌else◌}
-use Rattle.std.specs.List.{list_any}
-use Rattle.std.specs.Cmp.Lexicographic.{bytes_decides}
 use Rattle.std.specs.FinMap as table
 use Rattle.std.proofs.lemmas.List.{map-append}
 use Rattle.std.proofs.lemmas.Bool.{or_parts}
-use Rattle.sqlite.specs.Order.{Row}
-use Rattle.sqlite.specs.State.{State as Connected}
 use Rattle.sqlite_rules.specs.Lists.{Has}
-use Rattle.up_canon.specs.Names.{Name, Table}
 use Rattle.up_machine.specs.Rows.{new_row}
-use Rattle.up_machine.specs.declared.rows.EcuRow.{EcuRow}
-use Rattle.up_machine.specs.declared.vehicle.NewEcu.{NewEcu}
 use Rattle.up_machine.specs.declared.vehicle.Replacement.{Replacement}
 use Rattle.up_machine.proofs.DistinctNames.{Distinct, distinct}
 use Rattle.up_machine.proofs.DistinctNames as names
-use Rattle.up_rows.specs.Changes.{in_place_of_row, replaced_rows, with_replaced_rows}
-use Rattle.up_rows.specs.Lookups.{stands_among}
-use Rattle.up_rows.specs.StateRows.{StateRows}
-use Rattle.up_tables.specs.declared.values.StoreFault.{StoreFault}
-use Rattle.up_tables.specs.Lines.{EcuLine, ecu_row, retired_line, swapped}
 use Rattle.up_tables.specs.Replaced.{replaced_line, with_replaced}
-use Rattle.up_tables.specs.Rows.{has_text, with_row}
-use Rattle.up_tables.specs.Stands.{IsWithin, GoesOn, HasTables, Alters, Lists}
-use Rattle.up_tables.specs.Tables.{up_schema, vehicle_table, ecu_table, retired_table}
-use Rattle.up_tables.proofs.EcuRows.{text_is}
-use Rattle.up_tables.proofs.ListedLemmas.{goes_on, lists_ecus, lists_retired}
-use Rattle.up_store.specs.Fitting.{IsReplacement}
-use Rattle.up_store.specs.Lines.{vehicle_lines, ecu_line, ecu_lines, ecus_lines, retired_lines}
-use Rattle.up_store.specs.Listing.{ListsRows, table_rows}
-use Rattle.up_store.specs.Typed.{IsTypedEcu}
+use Rattle.up_store.proofs.Common.{if◌then◌else◌, list_any, bytes_decides, Row, Connected, Name, Table, EcuRow, NewEcu, in_place_of_row, replaced_rows, with_replaced_rows, stands_among, StateRows, StoreFault, EcuLine, ecu_row, retired_line, swapped, has_text, with_row, IsWithin, GoesOn, HasTables, Alters, Lists, up_schema, vehicle_table, ecu_table, retired_table, text_is, goes_on, lists_ecus, lists_retired, IsReplacement, vehicle_lines, ecu_line, ecu_lines, ecus_lines, retired_lines, ListsRows, table_rows, IsTypedEcu}
 use Rattle.up_store.proofs.Alike.{lists_as, alters_as}
 use Rattle.up_store.proofs.Closed.{got}
 use Rattle.up_store.proofs.Inserted.{changed_inserted}

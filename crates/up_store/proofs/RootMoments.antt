@@ -1,22 +1,17 @@
 -- The text of a Root file tells the moment of its root version.
 use Rattle.std.proofs.Common.{◌≡◌, ◌+◌, ◌/◌, ◌%◌, ◌<◌, ◌≤◌, ℕ, List, [], ◌∷◌, ◌++◌, Option, length, refl, sym, ap, ◌∙◌, arith, append_assoc, length-append, codes}
-use Rattle.std.specs.Prelude.{flat_map, map, unwrap_or}
 use Rattle.std.proofs.lemmas.Bool.Decides.{nat_tests}
 use Rattle.std.proofs.lemmas.List.{append_cancel_right}
-use Rattle.serde_json.specs.Data.{Members, string}
 use Rattle.up_canon.specs.Build.{members_with, count_value, list_with}
-use Rattle.up_canon.specs.Canon.{text, quoted, escaped, more_members_text}
-use Rattle.up_canon.specs.Moments.{last_moment, last_command_moment, year_of, month_of, day_in_month, moment_text, parts_text, read_moment, MomentsAreRead}
+use Rattle.up_canon.specs.Moments.{moment_text}
 use Rattle.up_canon.proofs.MomentTexts.{moment_parts, civil_bounds}
 use Rattle.up_sign.specs.Envelopes.{sealed}
 use Rattle.up_sign.specs.Formats.{signature_value, envelope_text}
-use Rattle.up_sign.specs.Schemes.{Rules}
 use Rattle.up_roles.specs.Lifetimes.{lifetimes}
 use Rattle.up_roles.specs.Payload.{repository_text, sealed_text}
 use Rattle.up_roles.specs.Root.{root_more, root_payload, root_text_of}
-use Rattle.up_roles.specs.declared.repository.Repository.TheVariants.{Director}
-use Rattle.up_metadata.specs.declared.keys.KeySet.{KeySet}
-use Rattle.up_metadata.specs.Files.{root_signers, root_file, root_text, Root}
+use Rattle.up_metadata.specs.Files.{root_text}
+use Rattle.up_store.proofs.Common.{flat_map, map, unwrap_or, Members, string, text, quoted, escaped, more_members_text, last_moment, last_command_moment, year_of, month_of, day_in_month, parts_text, read_moment, MomentsAreRead, Rules, Director, KeySet, root_signers, root_file, Root}
 
 -- ---- a moment in quotes
 

@@ -1,23 +1,8 @@
 -- Root versions that tables show have their texts there under the names of their numbers, and these tell the moments.
 use Rattle.std.proofs.Common.{◌≡◌, ◌≤◌, ◌<◌, ◌+◌, ◌^◌, ℕ, suc, List, [], ◌∷◌, Bool, true, false, cond, Option, Some, None, map, length, refl, sym, ap, ap₂, ◌∙◌, arith, length-append, bytes_eq, codes}
-use Rattle.std.specs.Prelude.{decimal, find, if◌then◌else◌, option_map, slice_get, ◌-◌}
-use Rattle.std.specs.List.{AllByRecursion, enumerate_from}
-use Rattle.std.specs.Option.{option_or}
-use Rattle.std.specs.Cmp.Lexicographic.{bytes_decides}
-use Rattle.up_canon.specs.Moments.{MomentsAreRead}
-use Rattle.up_canon.specs.Names.{Name}
-use Rattle.up_sign.specs.Schemes.{Rules}
-use Rattle.up_roles.specs.declared.repository.Repository.TheVariants.{Director}
-use Rattle.up_metadata.specs.declared.keys.KeySet.{KeySet}
-use Rattle.up_metadata.specs.Files.{Root}
-use Rattle.up_machine.specs.Files.{numbered_root_name, root_text_at}
 use Rattle.up_machine.specs.Sound.{IsSoundRoot}
 use Rattle.up_machine.specs.State.{State, root_at}
-use Rattle.up_rows.specs.declared.root_row.RootRow.{RootRow}
-use Rattle.up_rows.specs.Lookups.{text_in, row_named, text_held}
-use Rattle.up_rows.specs.StateRows.{StateRows, root_row}
-use Rattle.up_rows.proofs.Files.{or_none}
-use Rattle.up_store.specs.Lines.{file_lines}
+use Rattle.up_store.proofs.Common.{decimal, find, if◌then◌else◌, option_map, slice_get, ◌-◌, AllByRecursion, enumerate_from, option_or, bytes_decides, MomentsAreRead, Name, Rules, Director, KeySet, Root, numbered_root_name, root_text_at, RootRow, text_in, row_named, text_held, StateRows, root_row, or_none, file_lines}
 use Rattle.up_store.proofs.RootMoments.{text_tells}
 use Rattle.up_store.proofs.RootPuts.{Numbered, numbers_apart}
 

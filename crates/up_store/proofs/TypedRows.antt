@@ -1,29 +1,11 @@
 -- Rows stay typed where typed ones are written.
 use Rattle.std.proofs.Common.{◌≡◌, List, [], ◌∷◌, ◌++◌, Bool, true, false, cond, Some, None, map, subst, refl, sym, ap, ◌∙◌}
-use Rattle.std.specs.Prelude.{option_map, unwrap_or, if◌then◌else◌, bytes_eq}
-use Rattle.std.specs.List.{AllByRecursion}
-use Rattle.std.specs.Cmp.Lexicographic.{slice_cmp, bytes_decides}
-use Rattle.std.specs.Ordering.{nat_cmp, eq_by_cmp}
 use Rattle.std.specs.FinMap as table
-use Rattle.up_canon.specs.Names.{Name, Table}
-use Rattle.up_plan.specs.Campaigns.{CampaignData}
-use Rattle.up_plan.specs.Images.{ImageData}
-use Rattle.up_machine.specs.declared.decision.AcceptedRows.{AcceptedRows}
-use Rattle.up_machine.specs.declared.decision.RegisterRows.{RegisterRows}
 use Rattle.up_machine.specs.declared.decision.RootRows.{RootRows}
-use Rattle.up_machine.specs.declared.rows.EcuRow.{EcuRow}
-use Rattle.up_machine.specs.declared.rows.VehicleRows.{VehicleRows}
-use Rattle.up_machine.specs.declared.vehicle.NewEcu.{NewEcu}
 use Rattle.up_machine.specs.declared.vehicle.Replacement.{Replacement}
 use Rattle.up_machine.specs.Rows.{new_row}
-use Rattle.up_machine.proofs.Tables.{get_new, get_same, get_after-insert}
 use Rattle.up_machine.proofs.Lists.{each_one_more}
-use Rattle.up_rows.specs.Changes.{new_root, with_root_rows, with_register_rows, with_vehicle_rows, in_place_of_row, replaced_rows, with_replaced_rows, with_campaign_row, with_accepted_rows}
-use Rattle.up_rows.specs.SecondHashes.{TellsItsHash}
-use Rattle.up_rows.specs.StateRows.{StateRows}
-use Rattle.up_store.specs.ColumnRows.{with_image}
-use Rattle.up_store.specs.Fitting.{IsReplacement}
-use Rattle.up_store.specs.Typed.{AreTyped, AreTypedTexts, IsTypedCampaign, IsTypedEcu, IsTypedFounding, IsTypedImage, IsTypedKept, IsTypedRoot, IsTypedVehicle}
+use Rattle.up_store.proofs.Common.{option_map, unwrap_or, if◌then◌else◌, bytes_eq, AllByRecursion, slice_cmp, bytes_decides, nat_cmp, eq_by_cmp, Name, Table, CampaignData, ImageData, AcceptedRows, RegisterRows, EcuRow, VehicleRows, NewEcu, get_new, get_same, get_after-insert, new_root, with_root_rows, with_register_rows, with_vehicle_rows, in_place_of_row, replaced_rows, with_replaced_rows, with_campaign_row, with_accepted_rows, TellsItsHash, StateRows, with_image, IsReplacement, AreTyped, AreTypedTexts, IsTypedCampaign, IsTypedEcu, IsTypedFounding, IsTypedImage, IsTypedKept, IsTypedRoot, IsTypedVehicle}
 
 -- ---- writes
 

@@ -1,17 +1,11 @@
 -- What is found in the part of a table of which a test holds.
 use Rattle.std.proofs.Common.{◌≡◌, List, [], ◌∷◌, Bool, true, false, cond, Some, None, Ordering, Less, Equal, Greater, filter, refl, sym, ap, subst, ◌∙◌}
-use Rattle.std.specs.Prelude.{T}
-use Rattle.std.specs.Ordering.{nat_cmp, eq_by_cmp, is_lt, is_eq}
-use Rattle.std.specs.Cmp.Lexicographic.{slice_cmp}
 use Rattle.std.specs.FinMap as table
 use Rattle.std.specs.FinMap.Entries.{below_all, is_sorted}
 use Rattle.std.specs.FinMap.Entries as entries
 use Rattle.std.proofs.lemmas.Bool.{and_parts}
-use Rattle.up_canon.specs.Names.{Name, Table}
-use Rattle.up_canon.specs.Steps.{if_passes}
 use Rattle.up_canon.proofs.Printable.{both}
-use Rattle.up_machine.proofs.Tables.{one_name}
-use Rattle.up_store.specs.Found.{values_where}
+use Rattle.up_store.proofs.Common.{T, nat_cmp, eq_by_cmp, is_lt, is_eq, slice_cmp, Name, Table, if_passes, one_name, values_where}
 
 abbrev names : Name → Name → Ordering
 names = slice_cmp nat_cmp

@@ -1,28 +1,12 @@
 -- Parts of a write, one after another: what they carried out, and why the next one tells `Store`.
 use Rattle.std.proofs.Common.{◌≡◌, ℕ, List, ◌++◌, Result, Ok, Err, IsTrue, sym, ◌∙◌}
-use Rattle.std.specs.Prelude.{IsErrAnd}
-use Rattle.sqlite.specs.Order.{Row}
-use Rattle.sqlite.specs.State.{State as Connected, HasCleanDisk}
-use Rattle.up_tables.specs.Stands.{IfClean, IsOpen, HasTables, Steps}
-use Rattle.up_tables.specs.Tried.{BlamesOne, Ran}
-use Rattle.up_tables.specs.declared.values.StoreFault.{StoreFault}
-use Rattle.up_tables.specs.declared.values.StoreFault.TheVariants.{Store}
-use Rattle.up_tables.proofs.StepLemmas.{steps_then}
-use Rattle.up_tables.proofs.TriedLemmas.{Went, ran_then, blames_then}
+use Rattle.up_store.proofs.Common.{IsErrAnd, Row, Connected, HasCleanDisk, IfClean, IsOpen, HasTables, Steps, BlamesOne, Ran, StoreFault, Store, Went, ran_then, blames_then}
 
 -- so far these statements went through
 pub record WentOn (these : List (List ℕ × Row)) (old mid : Connected) : Type 0 where
   pub steps : Steps old mid
   pub went : Went these old mid
   pub opened : IfClean IsOpen mid
-
--- and those of the next part
-pub then_on : (these those : List (List ℕ × Row)) (old mid new : Connected) → WentOn these old mid → WentOn those mid new → WentOn (these ++ those) old new
-then_on these those old mid new on next = record {
-  steps = steps_then old mid new on.steps next.steps;
-  went = ran_then {T = Unit {0}} these those old mid new on.steps.survives next.steps.survives {E = Unit {0}} (Ok tt) on.went next.went;
-  opened = next.opened;
-}
 
 pub ran_on : {A E : Type 0} (these those : List (List ℕ × Row)) (old mid new : Connected) (r : Result A E) → WentOn these old mid → Steps mid new → Ran those mid new r → Ran (these ++ those) old new r
 ran_on these those old mid new r on steps ran = ran_then these those old mid new on.steps.survives steps.survives r on.went ran

@@ -1,18 +1,12 @@
 -- A table that is read whole: its rows are put under their names one after another.
 use Rattle.std.proofs.Common.{◌≡◌, ℕ, ◌+◌, ◌<◌, List, [], ◌∷◌, ◌++◌, Bool, true, false, Option, Some, None, length, take, drop, get_or, map, filter, refl, sym, ap, ◌∙◌, bytes_eq}
-use Rattle.std.specs.Prelude.{◌||◌, if◌then◌else◌}
-use Rattle.std.specs.List.{list_any}
-use Rattle.std.specs.Cmp.Lexicographic.{slice_cmp, bytes_decides}
 use Rattle.std.specs.FinMap as table
 use Rattle.std.specs.FinMap.{get-empty, same_map, slice_cmp-IsAntisymmetric, nat_cmp-IsAntisymmetric}
-use Rattle.std.specs.Ordering.{nat_cmp}
 use Rattle.std.proofs.lemmas.Cmp.{nat_list_cmp_total}
 use Rattle.std.proofs.lemmas.List.{take_more, drop_more, take-append-drop}
 use Rattle.std.proofs.lemmas.List.Elements.{filter-append}
 use Rattle.std.proofs.lemmas.List.Folds.{list_any-append}
-use Rattle.sqlite.specs.Order.{Row}
-use Rattle.up_canon.specs.Names.{Name, Table}
-use Rattle.up_canon.specs.Steps.{if_passes}
+use Rattle.up_store.proofs.Common.{◌||◌, if◌then◌else◌, list_any, slice_cmp, bytes_decides, nat_cmp, Row, Name, Table, if_passes}
 use Rattle.up_store.proofs.Closed.{got}
 
 -- tables of the same values are the same

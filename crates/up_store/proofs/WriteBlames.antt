@@ -1,19 +1,6 @@
 -- Why a write tells `Store`: a part of it did, or the commit failed.
 use Rattle.std.proofs.Common.{◌≡◌, inl, inr, ℕ, List, Ok, Err, Result, IfErr, OnOk, true, false, sym, subst, ◌∙◌, arith}
-use Rattle.sqlite.specs.Held.{Held, state}
-use Rattle.sqlite.specs.Order.{Row}
-use Rattle.sqlite.specs.State.{State as Connected, HasCleanDisk, Survives}
-use Rattle.sqlite.specs.Tree.{Trees}
-use Rattle.sqlite_trees.specs.declared.store.Store.{Ghosts}
-use Rattle.up_rows.specs.StateRows.{StateRows}
-use Rattle.up_tables.specs.Ours.{HasFailed}
-use Rattle.up_tables.specs.Stands.{IfClean, IsOpen, Steps}
-use Rattle.up_tables.specs.Tried.{BlamesOne, Makes}
-use Rattle.up_tables.proofs.TriedLemmas.{Went}
-use Rattle.up_tables.specs.declared.values.StoreFault.{StoreFault}
-use Rattle.up_tables.specs.declared.values.StoreFault.TheVariants.{Store}
-use Rattle.up_store.specs.Connections.{BlamesWrite, Commits, Handed, HandsBack, RanWrite}
-use Rattle.up_store.specs.Listing.{ListsRows}
+use Rattle.up_store.proofs.Common.{Held, state, Row, Connected, HasCleanDisk, Survives, Trees, Ghosts, StateRows, HasFailed, IfClean, IsOpen, Steps, BlamesOne, Makes, Went, StoreFault, Store, BlamesWrite, Commits, RanWrite, ListsRows}
 
 module _ {S : Type 0} (g : Ghosts S) {viewed : Held S} (old first mid last : Held S) (these : List (List ℕ × Row)) (fits : StateRows → Type 0) (same : viewed ≡ old) (started : first ≡ record viewed { in_transaction = true })
     (steps : Steps (state g first) (state g mid)) where
@@ -52,11 +39,3 @@ module _ {S : Type 0} (g : Ghosts S) {viewed : Held S} (old first mid last : Hel
       let now : HasCleanDisk (state g mid) = omega (arith, ends.clean) in
       let done : Went these (state g (record old { in_transaction = true })) (state g mid) = subst (λ h. Went these (state g h) (state g mid)) begun ran in
       subst (λ db. Makes (state g old).step_limit these (state g old).now db) (sym (commits clean).now_is) (done now).1
-
-  -- and what was handed back on the way
-  pub handed_write : {A : Type 0} (r : Result A StoreFault) (left : Trees → Type 0) (written : List Row) → Survives (state g mid) (state g last) left
-      → (HasCleanDisk (state g mid) → Handed (state g first).step_limit written (state g first).now) → HandsBack written (state g old) (state g last) r
-  handed_write (Err f) left written ends told clean = tt
-  handed_write (Ok x) left written ends told clean =
-      let now : HasCleanDisk (state g mid) = omega (arith, ends.clean) in
-      subst (λ h. Handed (state g h).step_limit written (state g h).now) begun (told now)

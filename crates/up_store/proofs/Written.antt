@@ -1,23 +1,14 @@
 -- A write from the start of its transaction to its commit.
 use Rattle.std.proofs.Common.{◌≡◌, Result, Ok, Err, OnOk, IsTrue, subst, true, arith}
-use Rattle.sqlite.specs.Held.{Held, state}
-use Rattle.sqlite.specs.State.{State, HasCleanDisk, Survives}
-use Rattle.sqlite.specs.Tree.{Trees}
-use Rattle.sqlite_trees.specs.declared.store.Store.{Ghosts}
-use Rattle.up_rows.specs.StateRows.{StateRows}
-use Rattle.up_tables.specs.Stands.{IfClean, IsOpen, IsWithin, GoesOn, Steps}
-use Rattle.up_tables.specs.declared.values.StoreFault.{StoreFault}
-use Rattle.up_tables.specs.Tables.{up_schema}
 use Rattle.up_tables.proofs.TransactionLemmas.{within_begun, crash_after, stands_after, durable_after}
-use Rattle.up_store.specs.Connections.{MayWrite, Commits, TakesRows, CommitsRows, SparesRows}
-use Rattle.up_store.specs.Listing.{ListsRows}
+use Rattle.up_store.proofs.Common.{Held, state, State, HasCleanDisk, Survives, Trees, Ghosts, StateRows, IfClean, IsOpen, IsWithin, GoesOn, Steps, StoreFault, up_schema, MayWrite, Commits, TakesRows, CommitsRows, SparesRows, ListsRows}
 
 -- what holds whatever is answered
 pub surely : {A E P : Type 0} (r : Result A E) → P → OnOk r P
 surely (Ok x) h = h
 surely (Err e) h = tt
 
-on_ok : {A E : Type 0} {P Q : Type 0} (r : Result A E) → OnOk r P → (P → Q) → OnOk r Q
+pub on_ok : {A E : Type 0} {P Q : Type 0} (r : Result A E) → OnOk r P → (P → Q) → OnOk r Q
 on_ok (Ok x) h f = f h
 on_ok (Err e) h f = tt
 

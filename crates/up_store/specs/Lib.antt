@@ -1,8 +1,10 @@
 pub mod Lines
 pub mod Typed
+pub mod Within
 pub mod Listing
 pub mod Connections
 pub mod Fitting
+pub mod Opening
 pub mod Puts
 pub mod Writes
 pub mod Found

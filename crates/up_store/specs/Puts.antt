@@ -1,76 +1,80 @@
 -- What the parts of a write change of the rows of the tables.
-use Rattle.std.specs.Prelude.{◌≡◌, ℕ, ◌≤◌, ◌<◌, ◌^◌, ◌++◌, List, [], ◌∷◌, All, Some, IfSome, IsUtf8, length, map}
-use Rattle.std.specs.List.{AllByRecursion}
+use Rattle.std.specs.Prelude.{◌≡◌, true, ℕ, ◌≤◌, ◌<◌, ◌^◌, ◌++◌, List, [], ◌∷◌, All, Some, length, map, string_bytes}
+use Rattle.std.specs.List.{list_all}
 use Rattle.sqlite.specs.State.{State as Connected}
 use Rattle.sqlite.specs.Order.{Row}
-use Rattle.up_canon.specs.Names.{Name}
+use Rattle.up_canon.specs.Names.{Name, is_file_name, is_ident}
+use Rattle.up_plan.specs.Campaigns.{CampaignData}
 use Rattle.up_plan.specs.Images.{ImageData}
+use Rattle.up_machine.specs.Files.{numbered_root_name}
 use Rattle.up_machine.specs.declared.decision.AcceptedRows.{AcceptedRows}
 use Rattle.up_machine.specs.declared.decision.RootRows.{RootRows}
 use Rattle.up_machine.specs.declared.rows.Founding.{Founding}
 use Rattle.up_machine.specs.declared.rows.Kept.{Kept}
 use Rattle.up_machine.specs.declared.rows.VehicleRows.{VehicleRows}
-use Rattle.up_metadata.specs.declared.role_files.RoleTexts.{RoleTexts}
 use Rattle.up_rows.specs.StateRows.{StateRows}
-use Rattle.up_tables.specs.declared.ecu.EcuRow.{EcuRow as EcuShown}
-use Rattle.up_tables.specs.declared.image.ImageRow.{ImageRow}
-use Rattle.up_tables.specs.declared.kept.KeptRow.{KeptRow}
-use Rattle.up_tables.specs.declared.repo_file.FileRow.{FileRow as FileShown}
+use Rattle.up_tables.specs.declared.meta.MetaRow.{MetaRow}
 use Rattle.up_tables.specs.declared.role_key.RoleKeyRow.{RoleKeyRow}
-use Rattle.up_tables.specs.declared.vehicle.VehicleRow.{VehicleRow as VehicleShown}
-use Rattle.up_tables.specs.Ecus.{FitEcu}
-use Rattle.up_tables.specs.Forms.{FitImage, FitKept, FitRoleKey, FitVehicle, role_key_row}
+use Rattle.up_tables.specs.Forms.{FitMeta, FitRoleKey, role_key_row}
 use Rattle.up_tables.specs.Lines.{EcuLine, ecu_row, vehicle_line, AreSameEcus, AreDistinct, set_ecus}
 use Rattle.up_tables.specs.Listed.{TableRows, ListsTables}
 use Rattle.up_tables.specs.Rows.{changed_at, with_only}
 use Rattle.up_roles.specs.declared.repository.Repository.TheVariants.{Director, Image}
-use Rattle.up_store.specs.ColumnRows.{IsImage, IsKept}
+use Rattle.up_columns.specs.CampaignColumns.{items_column, reach_column}
+use Rattle.up_columns.specs.Columns.{names_column, needs_column}
+use Rattle.up_columns.specs.PlanColumns.{plan_column}
+use Rattle.up_columns.specs.Typed.{is_typed_item, is_typed_need, is_typed_plan, is_typed_reach}
+use Rattle.up_store.specs.declared.files.ServedFile.{ServedFile}
+use Rattle.up_store.specs.declared.image_rows.ImageColumns.{ImageColumns}
 use Rattle.up_store.specs.Fitting.{IsRecorded}
-use Rattle.up_store.specs.Lines.{FileLine, repository_lines, role_file_lines, root_file_lines, set_lines, image_lines, sha512_lines, ecu_lines}
+use Rattle.up_store.specs.Lines.{repository_lines, set_lines, image_lines, sha512_lines, ecu_lines}
 use Rattle.up_store.specs.Listing.{ListsRows}
-use Rattle.up_store.specs.Shown.{as_told, ecu_read, file_read, vehicle_read}
-use Rattle.up_store.specs.Typed.{AreTypedTexts, IsTypedEcu, IsTypedImage, IsTypedKept, IsTypedVehicleRow}
+use Rattle.up_store.specs.Shown.{meta_told}
+use Rattle.up_store.specs.Typed.{IsTypedFounding}
 use Rattle.up_store.specs.Writes.{FitsAccepted, FitsVehicle}
 
--- rows as they stand in the tables, made of a vehicle and its ECUs
-pub record AreMadeOf (new : VehicleRows) (vehicle : VehicleShown) (ecus : List EcuShown) : Type 0 where
-  pub vehicle_is : vehicle_read vehicle ≡ new.vehicle
-  pub ecus_are : map ecu_read ecus ≡ map as_told new.ecus
-  pub fit : FitVehicle vehicle
-  pub fit_each : All FitEcu ecus
-  pub few : length ecus < 2 ^ 63
-  pub typed : IsTypedVehicleRow new.vehicle
-  pub typed_each : AllByRecursion IsTypedEcu new.ecus
+-- the column of a kept manifest's plan, whose numbers fit their columns
+pub record IsMadeOfKept (new : Kept) (plan : List ℕ) : Type 0 where
+  pub is : plan ≡ plan_column new.plan
+  pub typed : is_typed_plan new.plan ≡ true
+  pub version : new.version < 2 ^ 63
+  pub root : new.root < 2 ^ 63
 
--- a row as it stands in the table, made of a kept manifest
-pub record IsMadeOfKept (new : Kept) (row : KeptRow) : Type 0 where
-  pub is : IsKept row new
-  pub fit : FitKept row
-  pub typed : IsTypedKept new.vehicle new
-
--- rows of files, made of the image repository's files
-pub record AreMadeOfTexts (new : RoleTexts) (files : List FileShown) : Type 0 where
-  pub are : map file_read files ≡ role_file_lines new
-  pub typed : AreTypedTexts new
-
--- rows of keys and of files, made of a root version
-pub record AreMadeOfRoot (new : RootRows) (keys : List RoleKeyRow) (root_files role_files : List FileShown) : Type 0 where
+-- the founding's numbers, rows of keys, and the name of the Root files, made of a root version
+pub record AreMadeOfRoot (new : RootRows) (numbers : MetaRow) (keys : List RoleKeyRow) (name : Name) : Type 0 where
+  pub numbers_are : numbers ≡ meta_told (Some new.founding)
+  pub fit_numbers : FitMeta numbers
+  pub typed : IsTypedFounding new.founding
   pub keys_are : map role_key_row keys ≡ repository_lines new.founding.root Director new.founding.keys.director
       ++ repository_lines new.founding.root Image new.founding.keys.image
   pub fit : All FitRoleKey keys
-  pub root_files_are : map file_read root_files ≡ root_file_lines new
-  pub typed : IsUtf8 new.director × IsUtf8 new.image
-  pub role_files_are : AreMadeOfTexts new.files role_files
+  pub name_is : name ≡ numbered_root_name new.founding.root
 
--- a row as it stands in the table, made of an image
-pub record IsMadeOfImage (new : ImageData) (row : ImageRow) : Type 0 where
-  pub is : IsImage row new
-  pub fit : FitImage row
-  pub typed : IfSome new.sha512 (λ hash. length hash ≡ 64) → IsTypedImage new.file new
+-- the columns of an image's lists, and those of a campaign, of names and filenames
+pub record IsMadeOfImage (new : ImageData) (of_hardware of_needs of_conflicts : List ℕ) : Type 0 where
+  pub hardware : of_hardware ≡ names_column new.hardware
+  pub needs : of_needs ≡ needs_column new.needs
+  pub conflicts : of_conflicts ≡ names_column new.conflicts
+  pub idents : list_all is_ident new.hardware ≡ true
+  pub typed_needs : list_all is_typed_need new.needs ≡ true
+  pub file_names : list_all is_file_name new.conflicts ≡ true
+
+-- these are the columns of its lists
+abbrev pub HasColumns : ImageData → ImageColumns → Type 0
+HasColumns image lists = IsMadeOfImage image (string_bytes lists.hardware) (string_bytes lists.needs) (string_bytes lists.conflicts)
+
+pub record IsMadeOfCampaign (new : CampaignData) (of_reach of_items : List ℕ) : Type 0 where
+  pub reach : of_reach ≡ reach_column new.reach
+  pub items : of_items ≡ items_column new.items
+  pub typed_reach : is_typed_reach new.reach ≡ true
+  pub typed_items : list_all is_typed_item new.items ≡ true
 
 -- the founding's numbers
+abbrev pub with_numbers : MetaRow → TableRows → TableRows
+with_numbers m rows = record rows { root = m.root; image_version = m.image_version; stamp = m.stamp }
+
 abbrev pub with_founding : Founding → TableRows → TableRows
-with_founding f rows = record rows { root = f.root; image_version = f.image_version; stamp = f.stamp }
+with_founding f = with_numbers (meta_told (Some f))
 
 -- behind the other keys, these
 abbrev pub with_key_lines : List Row → TableRows → TableRows
@@ -85,7 +89,7 @@ abbrev pub HasFilesOnce : TableRows → Type 0
 HasFilesOnce rows = (repository name : List ℕ) → length (rows.files repository name) ≤ 1
 
 -- the texts of these files
-abbrev pub with_files : List FileLine → TableRows → TableRows
+abbrev pub with_files : List ServedFile → TableRows → TableRows
 with_files files rows = record rows { files = set_lines files rows.files }
 
 -- one more image

@@ -1,7 +1,6 @@
 -- What rows of tables are read as.
-use Rattle.std.specs.Prelude.{◌≡◌, ℕ, ◌&&◌, Bool, List, Option, Some, map, filter, find, option_map, option_and_then, bytes_eq, codes, string_bytes}
+use Rattle.std.specs.Prelude.{◌≡◌, ℕ, ◌&&◌, Bool, List, Option, Some, map, filter, find, option_map, option_and_then, bytes_eq, codes}
 use Rattle.up_manifest.specs.Manifests.{report_sha512_of}
-use Rattle.up_manifest.specs.declared.report.Installed.{Installed}
 use Rattle.up_metadata.specs.declared.keys.RoleSecrets.{RoleSecrets}
 use Rattle.up_metadata.specs.declared.keys.RepoKeys.{RepoKeys}
 use Rattle.up_canon.specs.Names.{Name}
@@ -10,57 +9,33 @@ use Rattle.up_plan.specs.Images.{ImageData}
 use Rattle.up_plan.specs.declared.campaign.Item.{Item}
 use Rattle.up_plan.specs.declared.campaign.Reach.{Reach}
 use Rattle.up_plan.specs.declared.image.Need.{Need}
-use Rattle.up_machine.specs.declared.rows.EcuRow.{EcuRow}
 use Rattle.up_machine.specs.declared.rows.Founding.{Founding}
 use Rattle.up_machine.specs.declared.rows.VehicleRow.{VehicleRow}
-use Rattle.up_tables.specs.declared.ecu.EcuRow.{EcuRow as EcuShown}
-use Rattle.up_tables.specs.declared.ecu.Installed.{Installed as InstalledShown}
 use Rattle.up_tables.specs.declared.meta.MetaRow.{MetaRow}
 use Rattle.up_tables.specs.declared.repo_file.FileRow.{FileRow as FileShown}
-use Rattle.up_tables.specs.declared.role_key.RoleKeyRow.{RoleKeyRow}
+use Rattle.up_store.specs.declared.keys.RoleKey.{RoleKey}
 use Rattle.up_tables.specs.declared.vehicle.VehicleRow.{VehicleRow as VehicleShown}
-use Rattle.up_store.specs.Lines.{FileLine, founding_number}
+use Rattle.up_store.specs.declared.files.ServedFile.{ServedFile}
+use Rattle.up_store.specs.Lines.{founding_number}
 
 -- ---- vehicles
 
 abbrev pub vehicle_read : VehicleShown → VehicleRow
 vehicle_read shown = record {
-  vehicle = string_bytes shown.vehicle;
-  primary = string_bytes shown.primary_ecu;
+  vehicle = shown.vehicle.now;
+  primary = shown.primary_ecu.now;
   version = shown.version;
   last = shown.last_counter;
 }
 
--- the second hash has no column of its own
-abbrev pub installed_read : Option (List ℕ) → InstalledShown → Installed
-installed_read sha512 shown = record { file = string_bytes shown.file; length = shown.length; sha256 = shown.sha256.items; sha512 = sha512 }
-
--- the second hash that the text of a report has
+-- the second hash that the text of a report has, which no column has of its own
 abbrev pub reported_sha512 : Option (List ℕ) → Option (List ℕ)
 reported_sha512 report = option_and_then report_sha512_of report
 
--- an image that is installed, with this second hash
-abbrev pub with_sha512 : Option (List ℕ) → Installed → Installed
-with_sha512 sha512 installed = record installed { sha512 = sha512 }
-
--- an ECU as its line tells it: what is installed has the second hash of the report's text
-abbrev pub as_told : EcuRow → EcuRow
-as_told row = record row { installed = option_map (with_sha512 (reported_sha512 row.report)) row.installed }
-
-abbrev pub ecu_read : EcuShown → EcuRow
-ecu_read shown = record {
-  ecu = string_bytes shown.ecu;
-  hardware = string_bytes shown.hardware;
-  public = shown.public_key.items;
-  installed = option_map (installed_read (reported_sha512 (option_map string_bytes shown.report))) shown.installed;
-  counter = shown.counter;
-  report = option_map string_bytes shown.report;
-}
-
 -- ---- files
 
-abbrev pub file_read : FileShown → FileLine
-file_read shown = record { repository = string_bytes shown.repository; name = string_bytes shown.name; body = string_bytes shown.body }
+abbrev pub file_read : FileShown → ServedFile
+file_read shown = record { repository = shown.repository.now; name = shown.name.now; body = shown.body.now }
 
 -- ---- the founding
 
@@ -75,28 +50,28 @@ meta_told founding = record {
 -- ---- keys
 
 -- the row is of this role of this repository
-abbrev pub is_key_of : List ℕ → List ℕ → RoleKeyRow → Bool
-is_key_of repository role row = bytes_eq (string_bytes row.repository) repository && bytes_eq (string_bytes row.role) role
+abbrev pub is_key_of : List ℕ → List ℕ → RoleKey → Bool
+is_key_of repository role row = bytes_eq row.repository repository && bytes_eq row.role role
 
-abbrev pub secrets_of : List ℕ → List ℕ → List RoleKeyRow → List (List ℕ)
-secrets_of repository role rows = map (λ row. row.secret.items) (filter (is_key_of repository role) rows)
+abbrev pub secrets_of : List ℕ → List ℕ → List RoleKey → List (List ℕ)
+secrets_of repository role rows = map (λ row. row.secret) (filter (is_key_of repository role) rows)
 
 -- the first of its rows has it
-abbrev pub threshold_of : List ℕ → List ℕ → List RoleKeyRow → Option ℕ
+abbrev pub threshold_of : List ℕ → List ℕ → List RoleKey → Option ℕ
 threshold_of repository role rows = option_map (λ row. row.threshold) (find (is_key_of repository role) rows)
 
-pub record IsRoleOf (repository role : List ℕ) (rows : List RoleKeyRow) (keys : RoleSecrets) : Type 0 where
+pub record IsRoleOf (repository role : List ℕ) (rows : List RoleKey) (keys : RoleSecrets) : Type 0 where
   pub secrets : keys.keys ≡ secrets_of repository role rows
   pub threshold : threshold_of repository role rows ≡ Some keys.threshold
 
-pub record AreKeysOf (repository : List ℕ) (rows : List RoleKeyRow) (keys : RepoKeys) : Type 0 where
+pub record AreKeysOf (repository : List ℕ) (rows : List RoleKey) (keys : RepoKeys) : Type 0 where
   pub root : IsRoleOf repository (codes "root") rows keys.root
   pub targets : IsRoleOf repository (codes "targets") rows keys.targets
   pub snapshot : IsRoleOf repository (codes "snapshot") rows keys.snapshot
   pub timestamp : IsRoleOf repository (codes "timestamp") rows keys.timestamp
 
 -- the founding has these numbers and the keys of these rows
-pub record IsFoundingOf (row : MetaRow) (rows : List RoleKeyRow) (read : Option Founding) : Type 0 where
+pub record IsFoundingOf (row : MetaRow) (rows : List RoleKey) (read : Option Founding) : Type 0 where
   pub founding : Founding
   pub is : read ≡ Some founding
   pub numbers : meta_told (Some founding) ≡ row

@@ -22,6 +22,11 @@ use Rattle.up_machine.specs.declared.rows.Kept.{Kept}
 use Rattle.up_rows.specs.SecondHashes.{TellsItsHash}
 use Rattle.up_rows.specs.StateRows.{StateRows}
 use Rattle.up_rows.specs.declared.root_row.RootRow.{RootRow}
+use Rattle.up_store.specs.declared.campaign_rows.CampaignShown.{CampaignShown}
+use Rattle.up_store.specs.declared.image_rows.ImageShown.{ImageShown}
+use Rattle.up_store.specs.declared.keys.RoleKey.{RoleKey}
+use Rattle.up_store.specs.declared.files.ServedFile.{ServedFile}
+use Rattle.up_store.specs.declared.second_hashes.SecondHash.{SecondHash}
 use Rattle.up_columns.specs.Typed.{is_typed_need, is_typed_item, is_typed_reach, is_typed_plan}
 
 -- ---- keys
@@ -52,12 +57,13 @@ pub record AreTypedKeys (keys : RepoKeys) : Type 0 where
 
 -- ---- the founding, root versions, files
 
--- its root version is a number that a column holds
+-- its versions are numbers that a column holds
 pub record IsTypedFounding (founding : Founding) : Type 0 where
   pub director : AreTypedKeys founding.keys.director
   pub image : AreTypedKeys founding.keys.image
   pub stamp : founding.stamp ≤ last_moment
   pub root : founding.root < 2 ^ 63
+  pub image_version : founding.image_version < 2 ^ 63
 
 pub record IsTypedRoot (root : RootRow) : Type 0 where
   pub keys : EachHasKeys root.keys
@@ -68,6 +74,17 @@ pub record AreTypedTexts (texts : RoleTexts) : Type 0 where
   pub targets : IsUtf8 texts.targets
   pub snapshot : IsUtf8 texts.snapshot
   pub timestamp : IsUtf8 texts.timestamp
+
+-- its texts are in UTF-8
+pub record IsTypedFile (f : ServedFile) : Type 0 where
+  pub repository : IsUtf8 f.repository
+  pub name : IsUtf8 f.name
+  pub body : IsUtf8 f.body
+
+-- the texts of a key's row
+pub record IsTypedKey (k : RoleKey) : Type 0 where
+  pub repository : IsUtf8 k.repository
+  pub role : IsUtf8 k.role
 
 -- ---- images, campaigns
 
@@ -84,6 +101,16 @@ pub record IsTypedImage (file : Name) (image : ImageData) : Type 0 where
   pub conflicts : list_all is_file_name image.conflicts ≡ true
   pub fits : image_fits image ≡ true
 
+-- the same of its row, its lists still texts
+pub record IsTypedImageRow (i : ImageShown) : Type 0 where
+  pub file : is_file_name i.file ≡ true
+  pub size : i.length ≤ max_count
+  pub sha256 : length i.sha256 ≡ 32
+  pub hardware : IsUtf8 i.hardware
+  pub release : i.release ≤ max_count
+  pub needs : IsUtf8 i.needs
+  pub conflicts : IsUtf8 i.conflicts
+
 -- under its own name, and within a campaign's limits
 pub record IsTypedCampaign (name : Name) (campaign : CampaignData) : Type 0 where
   pub named : campaign.name ≡ name
@@ -91,6 +118,17 @@ pub record IsTypedCampaign (name : Name) (campaign : CampaignData) : Type 0 wher
   pub reach : is_typed_reach campaign.reach ≡ true
   pub items : list_all is_typed_item campaign.items ≡ true
   pub fits : campaign_fits campaign ≡ true
+
+-- the same of its row, its reach and its items still texts
+pub record IsTypedCampaignRow (c : CampaignShown) : Type 0 where
+  pub name : is_ident c.name ≡ true
+  pub reach : IsUtf8 c.reach
+  pub items : IsUtf8 c.items
+
+-- the second hash of an image, of 64 bytes
+pub record IsTypedHash (h : SecondHash) : Type 0 where
+  pub file : IsUtf8 h.file
+  pub whole : length h.sha512 ≡ 64
 
 -- ---- vehicles
 
@@ -105,6 +143,10 @@ pub record IsTypedEcu (row : EcuRow) : Type 0 where
   pub installed : IfSome row.installed IsTypedInstalled
   pub counter : row.counter ≤ max_count
   pub report : IfSome row.report IsUtf8
+
+-- the same, whose report tells the second hash of what is installed
+abbrev pub IsToldEcu : EcuRow → Type 0
+IsToldEcu row = IsTypedEcu row × TellsItsHash row
 
 pub record IsTypedVehicleRow (row : VehicleRow) : Type 0 where
   pub vehicle : is_ident row.vehicle ≡ true

@@ -1,46 +1,38 @@
 //! Campaigns.
-ghost use Rattle.std.specs.Prelude.{◌≡◌, ⊤, Some, IfOk, IfErr, IsSomeAnd, OnErr};
-ghost use Rattle.sqlite.specs.Held.{state};
-ghost use Rattle.sqlite.specs.State.{HasCleanDisk, Survives};
+ghost use Rattle.std.specs.Prelude.{◌≡◌, ⊤, Some, IfOk, IsSomeAnd};
 ghost use Rattle.std.specs.FinMap as table;
-ghost use Rattle.up_canon.specs.Names.{Name};
-ghost use Rattle.up_plan.specs.Campaigns.{CampaignData};
+ghost use Rattle.sqlite.specs.Held.{state};
 ghost use Rattle.up_rows.specs.Changes.{with_campaign_row};
-ghost use Rattle.up_store.specs.ColumnRows.{IsCampaign};
-ghost use Rattle.up_store.specs.ReadAs.{IsReadCampaign, ReadsCampaign, ReadsReaching, ReadsRunning};
-ghost use Rattle.up_store.specs.Typed.{IsTypedCampaign};
+ghost use Rattle.up_tables.specs.Statements.{Finds};
+ghost use Rattle.up_tables.specs.Tables.{campaign_table};
 ghost use Rattle.up_tables.specs.declared.values.StoreFault.TheVariants.{Memory};
+ghost use Rattle.up_store.specs.ColumnRows.{OfCampaign, OnlyMemory};
+ghost use Rattle.up_store.specs.Connections.{PutsRows, ReadsStore, WritesStore};
 ghost use Rattle.up_store.specs.Fitting.{IsNewCampaign, IsClosing};
 ghost use Rattle.up_store.specs.Found.{campaigns_found, running_found};
-ghost use Rattle.up_tables.specs.Stands.{IfClean, IsAsCommitted, IsInside};
-ghost use Rattle.up_tables.specs.Statements.{IsStep, IsOpenStep, Finds};
-ghost use Rattle.up_tables.specs.Tables.{campaign_table};
-ghost use Rattle.up_tables.specs.Tried.{BlamesOne, Ran, Undoes};
+ghost use Rattle.up_store.specs.ReadAs.{IsReadCampaign, ReadsCampaign, ReadsReaching, ReadsRunning};
+ghost use Rattle.up_store.specs.Within.{FindsWithin, MakesAndPuts, PutsWithin};
 ghost use Rattle.up_store.specs.Writes.{campaign_writes, close_writes};
-ghost use Rattle.up_store.specs.Connections.{NeedsOpen, Answers, Blames, BlamesWithin, FindsRows, PutsRows, TakesRows, CommitsRows, SparesRows};
-ghost use Rattle.up_store.specs.Connections.{BlamesWrite, RanWrite, UndoesOrStays};
 
-use crate::campaign_rows::{make_campaign, read_campaign, read_reaching, read_running};
-use crate::store::{Store, StoreFault, commit};
+use crate::campaign_rows::{
+    CampaignReading, CampaignShown, read_campaign, read_reaching, read_running, row_of,
+};
+use crate::store::{Store, StoreFault, end};
 use sqlite::{Alter, Transaction};
 use std::alloc::Global;
 use up_canon::ident::Ident;
 use up_canon::table::Table;
+use up_columns::campaigns::{items_text, reach_text};
 use up_plan::campaign::Campaign;
 use up_tables::campaign::{
-    CampaignRow, campaign as campaign_shown, close_campaign, insert_campaign,
-    running_campaigns as running_shown,
+    campaign as campaign_shown, close_campaign, insert_campaign, running_campaigns as running_shown,
 };
 
 impl<D: Alter> Store<D> {
     /// The campaign of this name, none where there is none.
     pub fn campaign(&mut self, alloc: Global, name: &Ident) -> Result<Option<Campaign>, StoreFault>
-        ensures told { Answers (λ rows. table.get rows.campaigns name.now) (state D.Store self.old) (state D.Store self.new) result }
-        ensures shown { Finds campaign_table 1 (ReadsCampaign name.now) (state D.Store self.old) (state D.Store self.new) result }
-        ensures kept { IfClean (IsAsCommitted (state D.Store self.old)) (state D.Store self.new) }
-        ensures crash { Survives (state D.Store self.old) (state D.Store self.new) (λ _. ⊥) }
-        ensures open { NeedsOpen (state D.Store self.old) (state D.Store self.new) result }
-        ensures blame { Blames (state D.Store self.old) (state D.Store self.new) result }
+        ensures { ReadsStore (λ rows. table.get rows.campaigns name.now)
+            (Finds campaign_table 1 (ReadsCampaign name.now)) (state D.Store self.old) (state D.Store self.new) result }
     {
         let mut tx = self.conn.transaction();
         find_campaign(&mut tx, alloc, name)
@@ -52,12 +44,8 @@ impl<D: Alter> Store<D> {
         alloc: Global,
         vehicle: &Ident,
     ) -> Result<Table<Campaign>, StoreFault>
-        ensures told { Answers (campaigns_found vehicle.now) (state D.Store self.old) (state D.Store self.new) result }
-        ensures shown { Finds campaign_table 1 (ReadsReaching vehicle.now) (state D.Store self.old) (state D.Store self.new) result }
-        ensures kept { IfClean (IsAsCommitted (state D.Store self.old)) (state D.Store self.new) }
-        ensures crash { Survives (state D.Store self.old) (state D.Store self.new) (λ _. ⊥) }
-        ensures open { NeedsOpen (state D.Store self.old) (state D.Store self.new) result }
-        ensures blame { Blames (state D.Store self.old) (state D.Store self.new) result }
+        ensures { ReadsStore (campaigns_found vehicle.now) (Finds campaign_table 1 (ReadsReaching vehicle.now))
+            (state D.Store self.old) (state D.Store self.new) result }
     {
         let mut tx = self.conn.transaction();
         find_campaigns(&mut tx, alloc, vehicle)
@@ -65,12 +53,8 @@ impl<D: Alter> Store<D> {
 
     /// The running campaigns by their names.
     pub fn running(&mut self, alloc: Global) -> Result<Table<Campaign>, StoreFault>
-        ensures told { Answers running_found (state D.Store self.old) (state D.Store self.new) result }
-        ensures shown { Finds campaign_table 1 ReadsRunning (state D.Store self.old) (state D.Store self.new) result }
-        ensures kept { IfClean (IsAsCommitted (state D.Store self.old)) (state D.Store self.new) }
-        ensures crash { Survives (state D.Store self.old) (state D.Store self.new) (λ _. ⊥) }
-        ensures open { NeedsOpen (state D.Store self.old) (state D.Store self.new) result }
-        ensures blame { Blames (state D.Store self.old) (state D.Store self.new) result }
+        ensures { ReadsStore running_found (Finds campaign_table 1 ReadsRunning)
+            (state D.Store self.old) (state D.Store self.new) result }
     {
         let mut tx = self.conn.transaction();
         find_running(&mut tx, alloc)
@@ -78,57 +62,29 @@ impl<D: Alter> Store<D> {
 
     /// Writes a campaign whose name is new.
     pub fn write_campaign(&mut self, alloc: Global, new: &Campaign) -> Result<(), StoreFault>
-        ensures written { TakesRows (IsNewCampaign new.now) (λ rows. with_campaign_row rows new.now)
-            (state D.Store self.old) (state D.Store self.new) result }
-        ensures durable { CommitsRows (IsNewCampaign new.now) (λ rows. with_campaign_row rows new.now)
-            (state D.Store self.old) (state D.Store self.new) result }
-        ensures kept { OnErr result (IfClean (IsAsCommitted (state D.Store self.old)) (state D.Store self.new)) }
-        ensures crash { SparesRows (IsNewCampaign new.now) (λ rows. with_campaign_row rows new.now)
-            (state D.Store self.old) (state D.Store self.new) }
-        ensures clean { HasCleanDisk (state D.Store self.new) → HasCleanDisk (state D.Store self.old) }
-        ensures open { NeedsOpen (state D.Store self.old) (state D.Store self.new) result }
-        ensures ran { RanWrite (campaign_writes new.now) (state D.Store self.old) (state D.Store self.new) result }
-        ensures blame { BlamesWrite (campaign_writes new.now) (λ _. ⊤) (state D.Store self.old) (state D.Store self.new) result }
+        ensures { WritesStore (IsNewCampaign new.now) (λ rows. with_campaign_row rows new.now) (campaign_writes new.now)
+            (λ _. ⊤) (state D.Store self.old) (state D.Store self.new) result }
     {
         let mut tx = self.conn.transaction();
-        if let Err(fault) = put_campaign(&mut tx, alloc, new) {
-            return Err(fault);
-        }
-        commit(tx)
+        let put = put_campaign(&mut tx, alloc, new);
+        end(tx, put)
     }
 
     /// Closes a campaign that is there: `closed` is the same, not running.
-    pub fn write_close(&mut self, alloc: Global, closed: &Campaign) -> Result<(), StoreFault>
-        ensures written { TakesRows (IsClosing closed.now) (λ rows. with_campaign_row rows closed.now)
-            (state D.Store self.old) (state D.Store self.new) result }
-        ensures durable { CommitsRows (IsClosing closed.now) (λ rows. with_campaign_row rows closed.now)
-            (state D.Store self.old) (state D.Store self.new) result }
-        ensures kept { OnErr result (IfClean (IsAsCommitted (state D.Store self.old)) (state D.Store self.new)) }
-        ensures crash { SparesRows (IsClosing closed.now) (λ rows. with_campaign_row rows closed.now)
-            (state D.Store self.old) (state D.Store self.new) }
-        ensures clean { HasCleanDisk (state D.Store self.new) → HasCleanDisk (state D.Store self.old) }
-        ensures open { NeedsOpen (state D.Store self.old) (state D.Store self.new) result }
-        ensures ran { RanWrite (close_writes closed.now) (state D.Store self.old) (state D.Store self.new) result }
-        ensures blame { BlamesWrite (close_writes closed.now) (λ _. ⊤) (state D.Store self.old) (state D.Store self.new) result }
+    pub fn write_close(&mut self, closed: &Campaign) -> Result<(), StoreFault>
+        ensures { WritesStore (IsClosing closed.now) (λ rows. with_campaign_row rows closed.now)
+            (close_writes closed.now) (λ _. ⊤) (state D.Store self.old) (state D.Store self.new) result }
     {
-        let _ = alloc;
         let mut tx = self.conn.transaction();
-        if let Err(fault) = put_closed(&mut tx, closed) {
-            return Err(fault);
-        }
-        commit(tx)
+        let put = put_closed(&mut tx, closed);
+        end(tx, put)
     }
 }
 
 /// Says in its row that a campaign doesn't run.
 fn put_closed<D: Alter>(tx: &mut Transaction<'_, D>, closed: &Campaign) -> Result<(), StoreFault>
-    requires mode { IfClean IsInside (state D.Store tx.old.conn.now) }
-    ensures put { PutsRows (IsClosing closed.now) (λ rows. with_campaign_row rows closed.now)
-        (state D.Store tx.old.conn.now) (state D.Store tx.new.conn.now) result }
-    ensures ran { Ran (close_writes closed.now) (state D.Store tx.old.conn.now) (state D.Store tx.new.conn.now) result }
-    ensures blame { BlamesOne (close_writes closed.now) (λ _. ⊤) (state D.Store tx.old.conn.now) (state D.Store tx.new.conn.now) result }
-    ensures memory { Undoes (state D.Store tx.new.conn.now) result }
-    ensures step { IsOpenStep D.Store tx.old.conn tx.new.conn result }
+    ensures { PutsWithin D.Store (PutsRows (IsClosing closed.now) (λ rows. with_campaign_row rows closed.now))
+        (close_writes closed.now) (λ _. ⊤) tx.old.conn tx.new.conn result }
 {
     close_campaign(tx, closed.name.text())
 }
@@ -139,14 +95,10 @@ fn find_campaign<D: Alter>(
     alloc: Global,
     name: &Ident,
 ) -> Result<Option<Campaign>, StoreFault>
-    requires mode { IfClean IsInside (state D.Store tx.old.conn.now) }
-    ensures found { FindsRows (λ rows. table.get rows.campaigns name.now) (state D.Store tx.old.conn.now) (state D.Store tx.new.conn.now) result }
-    ensures shown { Finds campaign_table 1 (ReadsCampaign name.now) (state D.Store tx.old.conn.now) (state D.Store tx.new.conn.now) result }
-    ensures open { NeedsOpen (state D.Store tx.old.conn.now) (state D.Store tx.new.conn.now) result }
-    ensures blame { BlamesWithin (λ _. ⊤) (state D.Store tx.old.conn.now) (state D.Store tx.new.conn.now) result }
-    ensures step { IsStep D.Store tx.old.conn tx.new.conn }
+    ensures { FindsWithin D.Store (λ rows found. found ≡ table.get rows.campaigns name.now)
+        (Finds campaign_table 1 (ReadsCampaign name.now)) (λ _. ⊤) tx.old.conn tx.new.conn result }
 {
-    match campaign_shown(tx, name.text()) {
+    match campaign_shown::<D, CampaignReading>(tx, alloc, name.text()) {
         Ok(Some(shown)) => some_campaign(alloc, &shown),
         Ok(None) => Ok(None),
         Err(fault) => Err(fault),
@@ -154,12 +106,10 @@ fn find_campaign<D: Alter>(
 }
 
 /// A row as it stands in the table, read; of a row that stands for a campaign, `Memory` is the one fault.
-fn some_campaign(alloc: Global, shown: &CampaignRow) -> Result<Option<Campaign>, StoreFault>
-    ensures same { IfOk result (λ read. (name : Name) (campaign : CampaignData)
-        → IsTypedCampaign name campaign → IsCampaign shown.now campaign → read ≡ Some campaign) }
+fn some_campaign(alloc: Global, shown: &CampaignShown) -> Result<Option<Campaign>, StoreFault>
+    ensures same { IfOk result (λ read. OfCampaign shown.now (λ campaign. read ≡ Some campaign)) }
     ensures told { IfOk result (λ read. IsSomeAnd read (IsReadCampaign shown.now)) }
-    ensures fault { (name : Name) (campaign : CampaignData) → IsTypedCampaign name campaign → IsCampaign shown.now campaign
-        → IfErr result (λ fault. fault ≡ Memory) }
+    ensures fault { OfCampaign shown.now (λ _. OnlyMemory result) }
 {
     match read_campaign(alloc, shown) {
         Ok(campaign) => Ok(Some(campaign)),
@@ -173,14 +123,10 @@ fn find_campaigns<D: Alter>(
     alloc: Global,
     vehicle: &Ident,
 ) -> Result<Table<Campaign>, StoreFault>
-    requires mode { IfClean IsInside (state D.Store tx.old.conn.now) }
-    ensures found { FindsRows (campaigns_found vehicle.now) (state D.Store tx.old.conn.now) (state D.Store tx.new.conn.now) result }
-    ensures shown { Finds campaign_table 1 (ReadsReaching vehicle.now) (state D.Store tx.old.conn.now) (state D.Store tx.new.conn.now) result }
-    ensures open { NeedsOpen (state D.Store tx.old.conn.now) (state D.Store tx.new.conn.now) result }
-    ensures blame { BlamesWithin (λ _. ⊤) (state D.Store tx.old.conn.now) (state D.Store tx.new.conn.now) result }
-    ensures step { IsStep D.Store tx.old.conn tx.new.conn }
+    ensures { FindsWithin D.Store (λ rows found. found ≡ campaigns_found vehicle.now rows)
+        (Finds campaign_table 1 (ReadsReaching vehicle.now)) (λ _. ⊤) tx.old.conn tx.new.conn result }
 {
-    match running_shown(tx, alloc) {
+    match running_shown::<D, CampaignReading>(tx, alloc) {
         Ok(shown) => read_reaching(alloc, vehicle, shown.as_slice()),
         Err(fault) => Err(fault),
     }
@@ -191,33 +137,25 @@ fn find_running<D: Alter>(
     tx: &mut Transaction<'_, D>,
     alloc: Global,
 ) -> Result<Table<Campaign>, StoreFault>
-    requires mode { IfClean IsInside (state D.Store tx.old.conn.now) }
-    ensures found { FindsRows running_found (state D.Store tx.old.conn.now) (state D.Store tx.new.conn.now) result }
-    ensures shown { Finds campaign_table 1 ReadsRunning (state D.Store tx.old.conn.now) (state D.Store tx.new.conn.now) result }
-    ensures open { NeedsOpen (state D.Store tx.old.conn.now) (state D.Store tx.new.conn.now) result }
-    ensures blame { BlamesWithin (λ _. ⊤) (state D.Store tx.old.conn.now) (state D.Store tx.new.conn.now) result }
-    ensures step { IsStep D.Store tx.old.conn tx.new.conn }
+    ensures { FindsWithin D.Store (λ rows found. found ≡ running_found rows) (Finds campaign_table 1 ReadsRunning)
+        (λ _. ⊤) tx.old.conn tx.new.conn result }
 {
-    match running_shown(tx, alloc) {
+    match running_shown::<D, CampaignReading>(tx, alloc) {
         Ok(shown) => read_running(alloc, shown.as_slice()),
         Err(fault) => Err(fault),
     }
 }
 
-/// Puts in the row of a campaign.
+/// Puts in the row of a campaign. Its columns are made before it is written.
 fn put_campaign<D: Alter>(
     tx: &mut Transaction<'_, D>,
     alloc: Global,
     new: &Campaign,
 ) -> Result<(), StoreFault>
-    requires mode { IfClean IsInside (state D.Store tx.old.conn.now) }
-    ensures put { PutsRows (IsNewCampaign new.now) (λ rows. with_campaign_row rows new.now)
-        (state D.Store tx.old.conn.now) (state D.Store tx.new.conn.now) result }
-    ensures ran { Ran (campaign_writes new.now) (state D.Store tx.old.conn.now) (state D.Store tx.new.conn.now) result }
-    ensures blame { BlamesOne (campaign_writes new.now) (λ _. ⊤) (state D.Store tx.old.conn.now) (state D.Store tx.new.conn.now) result }
-    ensures memory { UndoesOrStays D.Store tx.old.conn tx.new.conn result }
-    ensures step { IsOpenStep D.Store tx.old.conn tx.new.conn result }
+    ensures { MakesAndPuts D.Store (PutsRows (IsNewCampaign new.now) (λ rows. with_campaign_row rows new.now))
+        (campaign_writes new.now) (λ _. ⊤) tx.old.conn tx.new.conn result }
 {
-    let row = make_campaign(alloc, new)?;
-    insert_campaign(tx, &row)
+    let reach = reach_text(alloc, &new.reach)?;
+    let items = items_text(alloc, new.items.as_slice())?;
+    insert_campaign(tx, &row_of(new, reach.as_str(), items.as_str()))
 }

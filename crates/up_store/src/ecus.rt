@@ -1,56 +1,98 @@
-//! The rows of a vehicle's ECUs, read and made.
-ghost use Rattle.std.specs.Prelude.{◌≡◌, ◌<◌, ◌^◌, ℕ, All, IfOk, List, Option, map, option_map, string_bytes};
+//! The rows of a vehicle's ECUs, read and written.
+ghost use Rattle.std.specs.Prelude.{◌≡◌, ◌<◌, ◌^◌, ⊤, ℕ, List, Option, None, Ok, Err, IfOk, IfErr, IfSome, IsUtf8, MatchOption, OnOk, length, map};
+ghost use Rattle.std.specs.Prelude.{◌≢◌, ◌++◌};
 ghost use Rattle.std.specs.List.{AllByRecursion};
-ghost use Rattle.std.specs.Prelude.{◌≢◌, ◌≤◌, true, length, None, Ok, IfErr, IfSome, OnOk, IsUtf8, MatchOption};
-ghost use Rattle.up_canon.specs.Canon.{max_count};
-ghost use Rattle.up_canon.specs.Names.{is_file_name};
-ghost use Rattle.up_tables.specs.declared.values.StoreFault.TheVariants.{Memory, Store};
-ghost use Rattle.up_tables.specs.Ecus.{FitEcu};
-ghost use Rattle.up_store.specs.Shown.{as_told, ecu_read, installed_read, reported_sha512, with_sha512};
+ghost use Rattle.sqlite.specs.Order.{column};
+ghost use Rattle.sqlite.specs.declared.types.Value.TheVariants.{Null, Text as TextValue};
+ghost use Rattle.up_manifest.specs.declared.report.Installed.{Installed as InstalledData};
+ghost use Rattle.up_tables.specs.declared.values.StoreFault.TheVariants.{Store};
+ghost use Rattle.up_tables.specs.Ecus.{FitEcu, line};
+ghost use Rattle.up_tables.specs.Lines.{ecu_row};
+ghost use Rattle.up_tables.specs.Rows.{changed_at};
+ghost use Rattle.up_tables.specs.Statements.{AltersRows, SetsEcus, WhereOpen};
+ghost use Rattle.up_tables.specs.Stored.{AreWritten};
+ghost use Rattle.up_tables.specs.Tables.{ecu_table};
+ghost use Rattle.up_tables.specs.Texts.{insert_ecu_text, upsert_ecu_text};
+ghost use Rattle.up_store.specs.Lines.{ecu_line, ecu_lines};
+ghost use Rattle.up_store.specs.ReadAs.{IsPartlyNull, SaysInstalled};
+ghost use Rattle.up_store.specs.Shown.{reported_sha512};
 ghost use Rattle.up_store.specs.Typed.{IsTypedEcu, IsTypedInstalled};
 
-use crate::column_values::{count_in, file_name_in, ident_in, sha256_in};
+use crate::column_values::{count_at, file_name_at, ident_at, sha256_at, words_or_null_at};
 use crate::store::StoreFault;
+use sqlite::{Alter, Row, Transaction};
 use std::alloc::{AllocError, Global};
 use up_canon::bytes::Bytes;
-use up_canon::listed::Listed;
+use up_canon::ident::Ident;
 use up_canon::text::Text;
 use up_machine::rows::EcuRow;
 use up_manifest::manifest_read::report_sha512;
 use up_manifest::report::Installed;
-use up_tables::ecu::{EcuRow as EcuShown, Installed as InstalledShown};
+use up_tables::ecu::{EcuRow as EcuShown, Installed as InstalledShown, insert_ecu, upsert_ecu};
+use up_tables::reading::RowReading;
+use up_tables::values::{bytes_at, is_null};
 
-/// Rows as they stand in the table, read; of rows that stand for ECUs, `Memory` is the one fault.
-pub fn read_ecus(alloc: Global, shown: Vec<EcuShown>) -> Result<Listed<EcuRow>, StoreFault>
-    ensures same { IfOk result (λ read. read ≡ map ecu_read shown.items) }
-    ensures fault { AllByRecursion IsTypedEcu (map ecu_read shown.items) → IfErr result (λ fault. fault ≡ Memory) }
-{
-    let mut read = Vec::with_capacity(alloc, shown.len())?;
-    for row in shown {
-        read.push(read_ecu(alloc, row)?)?;
+/// How a row of `ecu` is read.
+pub struct EcuReading;
+
+impl RowReading for EcuReading {
+    ghost use Rattle.up_store.specs.Lines.{ecu_shown};
+    ghost use Rattle.up_store.specs.ReadAs.{SaysEcu};
+    ghost use Rattle.up_store.specs.Typed.{IsToldEcu};
+
+    type Item = EcuRow;
+
+    ghost says = { SaysEcu };
+
+    ghost fits = { IsToldEcu };
+
+    ghost line = { ecu_shown };
+
+    fn read(alloc: Global, row: &Row) -> Result<EcuRow, StoreFault> {
+        let report = words_or_null_at(row, 7)?;
+        let installed = installed_at(alloc, row, &report)?;
+        Ok(EcuRow {
+            ecu: ident_at(row, 0)?,
+            hardware: ident_at(row, 1)?,
+            public: Bytes::new(bytes_at(row, 2)?),
+            installed,
+            counter: count_at(row, 6)?,
+            report,
+        })
     }
-    Ok(Listed::new(read))
 }
 
-/// A row as it stands in the table, read; of a row that stands for an ECU, `Memory` is the one fault.
-fn read_ecu(alloc: Global, shown: EcuShown) -> Result<EcuRow, StoreFault>
-    ensures same { IfOk result (λ read. read ≡ ecu_read shown) }
-    ensures fault { IsTypedEcu (ecu_read shown) → IfErr result (λ fault. fault ≡ Memory) }
+/// What is installed, which three columns say or none, with the second hash that the report has; `Store` where one of them is null and another
+/// isn't.
+fn installed_at(
+    alloc: Global,
+    row: &Row,
+    report: &Option<Text>,
+) -> Result<Option<Installed>, StoreFault>
+    ensures said { IfOk result (SaysInstalled row.now) }
+    ensures sha512 { IfOk result (λ installed. IfSome installed (λ i. i.sha512 ≡ reported_sha512 report.now)) }
+    ensures fault { IfErr result (λ fault. fault ≡ Store
+        → (installed : Option InstalledData) → IfSome installed IsTypedInstalled → ¬ SaysInstalled row.now installed) }
+    ensures none { SaysInstalled row.now None → result ≡ Ok None }
+    ensures mixed { IsPartlyNull row.now → result ≡ Err Store }
+    ensures kind { column row.now 3 ≢ Null → ((s : List ℕ) → IsUtf8 s → column row.now 3 ≢ TextValue s)
+        → result ≡ Err Store }
 {
-    let sha512 = told_sha512(alloc, &shown.report)?;
-    Ok(EcuRow {
-        ecu: ident_in(shown.ecu)?,
-        hardware: ident_in(shown.hardware)?,
-        public: Bytes::new(shown.public_key),
-        installed: read_installed(shown.installed, sha512)?,
-        counter: count_in(shown.counter)?,
-        report: shown.report.map(Text::new),
-    })
+    match (is_null(row, 3), is_null(row, 4), is_null(row, 5)) {
+        (false, false, false) => Ok(Some(Installed {
+            file: file_name_at(row, 3)?,
+            length: count_at(row, 4)?,
+            sha256: sha256_at(row, 5)?,
+            sha512: told_sha512(alloc, report)?,
+        })),
+        (true, true, true) => Ok(None),
+        _ => Err(StoreFault::Store),
+    }
 }
 
 /// The second hash that the text of a report has; of no report none, which takes no memory.
-fn told_sha512(alloc: Global, report: &Option<String>) -> Result<Option<[u8; 64]>, AllocError>
-    ensures same { IfOk result (λ hash. hash ≡ reported_sha512 (option_map string_bytes report.now)) }
+fn told_sha512(alloc: Global, report: &Option<Text>) -> Result<Option<[u8; 64]>, AllocError>
+    ensures same { IfOk result (λ hash. hash ≡ reported_sha512 report.now) }
     ensures none { report.now ≡ None → result ≡ Ok None }
 {
     match report {
@@ -59,84 +101,84 @@ fn told_sha512(alloc: Global, report: &Option<String>) -> Result<Option<[u8; 64]
     }
 }
 
-/// What is installed, read, with its second hash.
-fn read_installed(
-    shown: Option<InstalledShown>,
-    sha512: Option<[u8; 64]>,
-) -> Result<Option<Installed>, StoreFault>
-    ensures ok { IfOk result (λ read. read ≡ option_map (installed_read sha512) shown) }
-    ensures fault { IfErr result (λ fault. (fault ≡ Store) × MatchOption shown ⊥ (λ image.
-        is_file_name (string_bytes image.file) ≡ true → image.length ≤ max_count → length image.sha256.items ≢ 32)) }
+/// What is installed, as a row has it.
+fn installed_of<'a>(row: &'a EcuRow) -> Option<InstalledShown<'a>>
+    ensures same { MatchOption row.now.installed (result ≡ None)
+        (λ i. IfSome result (λ s. (s.file.now ≡ i.file) × (s.length ≡ i.length) × (s.sha256.now ≡ i.sha256)) ×
+        (result ≢ None)) }
+    ensures fit { IfSome result (λ s. s.length < 2 ^ 63) }
+    ensures typed { IfSome row.now.installed IsTypedInstalled }
 {
-    match shown {
-        Some(image) => Ok(Some(Installed {
-            file: file_name_in(image.file)?,
-            length: count_in(image.length)?,
-            sha256: sha256_in(image.sha256.as_slice())?,
-            sha512,
-        })),
-        None => Ok(None),
-    }
-}
-
-/// The rows of ECUs as they stand in the table. They are read as the same, each with the second hash that its report tells.
-pub fn make_ecus(alloc: Global, rows: &[EcuRow]) -> Result<Vec<EcuShown>, AllocError>
-    ensures same { IfOk result (λ made. map ecu_read made.items ≡ map as_told rows.now) }
-    ensures fit { IfOk result (λ made. All FitEcu made.items) }
-    ensures typed { OnOk result (AllByRecursion IsTypedEcu rows.now) }
-{
-    let mut made = Vec::with_capacity(alloc, rows.len())?;
-    for row in rows {
-        made.push(make_ecu(alloc, row)?)?;
-    }
-    Ok(made)
-}
-
-/// The row of an ECU as it stands in the table.
-fn make_ecu(alloc: Global, row: &EcuRow) -> Result<EcuShown, AllocError>
-    ensures same { IfOk result (λ made. ecu_read made ≡ as_told row.now) }
-    ensures fit { IfOk result FitEcu }
-    ensures typed { OnOk result (IsTypedEcu row.now) }
-{
-    Ok(EcuShown {
-        ecu: row.ecu.text().to_string(alloc)?,
-        hardware: row.hardware.text().to_string(alloc)?,
-        public_key: row.public.as_slice().to_vec(alloc)?,
-        installed: make_installed(alloc, &row.installed)?,
-        counter: row.counter.get(),
-        report: make_report(alloc, &row.report)?,
-    })
-}
-
-/// What is installed, as it stands in the table; nothing takes no memory.
-fn make_installed(
-    alloc: Global,
-    installed: &Option<Installed>,
-) -> Result<Option<InstalledShown>, AllocError>
-    ensures same { IfOk result (λ made. (hash : Option (List ℕ))
-        → option_map (installed_read hash) made ≡ option_map (with_sha512 hash) installed.now) }
-    ensures none { installed.now ≡ None → result ≡ Ok None }
-    ensures fit { IfOk result (λ made. IfSome made (λ image. image.length < 2 ^ 63)) }
-    ensures typed { OnOk result (IfSome installed.now IsTypedInstalled) }
-{
-    match installed {
-        Some(image) => Ok(Some(InstalledShown {
-            file: image.file.text().to_string(alloc)?,
+    match &row.installed {
+        Some(image) => Some(InstalledShown {
+            file: image.file.text(),
             length: image.length.get(),
-            sha256: image.sha256.to_vec(alloc)?,
-        })),
-        None => Ok(None),
+            sha256: &image.sha256[..],
+        }),
+        None => None,
     }
 }
 
-/// The text of the last report, as it stands in the table; none takes no memory.
-fn make_report(alloc: Global, report: &Option<Text>) -> Result<Option<String>, AllocError>
-    ensures same { IfOk result (λ made. option_map string_bytes made ≡ report.now) }
-    ensures none { report.now ≡ None → result ≡ Ok None }
-    ensures typed { OnOk result (IfSome report.now IsUtf8) }
+/// The text of the last report, as a row has it.
+fn report_of<'a>(row: &'a EcuRow) -> Option<&'a str>
+    ensures same { MatchOption row.now.report (result ≡ None) (λ t. IfSome result (λ s. s.now ≡ t) × (result ≢ None)) }
+    ensures typed { IfSome row.now.report IsUtf8 }
 {
-    match report {
-        Some(text) => Ok(Some(text.as_str().to_string(alloc)?)),
-        None => Ok(None),
+    match &row.report {
+        Some(text) => Some(text.as_str()),
+        None => None,
     }
+}
+
+/// The row of an ECU.
+fn ecu_of<'a>(row: &'a EcuRow) -> EcuShown<'a>
+    ensures is { (vehicle : List ℕ) (place : ℕ) → line vehicle place result ≡ ecu_line vehicle place row.now }
+    ensures fit { FitEcu result }
+    ensures typed { IsTypedEcu row.now }
+{
+    EcuShown {
+        ecu: row.ecu.text(),
+        hardware: row.hardware.text(),
+        public_key: row.public.as_slice(),
+        installed: installed_of(row),
+        counter: row.counter.get(),
+        report: report_of(row),
+    }
+}
+
+/// Sets what the ECUs of a vehicle reported, in inventory order.
+pub(crate) fn set_ecus<D: Alter>(
+    tx: &mut Transaction<'_, D>,
+    vehicle: &Ident,
+    ecus: &[EcuRow],
+) -> Result<(), StoreFault>
+    requires few { length ecus.now < 2 ^ 63 }
+    ensures set { WhereOpen D.Store tx.old.conn (AreWritten D.Store (map (λ e. (upsert_ecu_text, ecu_row e))
+        (ecu_lines vehicle.now 0 ecus.now)) (λ _. ⊤) (SetsEcus vehicle.now (ecu_lines vehicle.now 0 ecus.now))
+        tx.old.conn tx.new.conn result) }
+    ensures typed { OnOk result (AllByRecursion IsTypedEcu ecus.now) }
+{
+    for (place, row) in ecus.iter().enumerate() {
+        upsert_ecu(tx, vehicle.text(), place as u64, &ecu_of(row))?;
+    }
+    Ok(())
+}
+
+/// Puts in the rows of a vehicle's ECUs, in inventory order, their places counted from 0; `Store` where one has the name of an ECU that is there.
+pub(crate) fn add_ecus<D: Alter>(
+    tx: &mut Transaction<'_, D>,
+    vehicle: &Ident,
+    ecus: &[EcuRow],
+) -> Result<(), StoreFault>
+    requires few { length ecus.now < 2 ^ 63 }
+    ensures added { WhereOpen D.Store tx.old.conn (AreWritten D.Store (map (λ e. (insert_ecu_text, ecu_row e))
+        (ecu_lines vehicle.now 0 ecus.now)) (λ _. ⊤)
+        (AltersRows ecu_table 2 (changed_at vehicle.now (λ were. were ++ map ecu_row
+        (ecu_lines vehicle.now 0 ecus.now)))) tx.old.conn tx.new.conn result) }
+    ensures typed { OnOk result (AllByRecursion IsTypedEcu ecus.now) }
+{
+    for (place, row) in ecus.iter().enumerate() {
+        insert_ecu(tx, vehicle.text(), place as u64, &ecu_of(row))?;
+    }
+    Ok(())
 }

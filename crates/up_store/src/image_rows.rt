@@ -1,18 +1,21 @@
 //! The rows of images, read and made.
-ghost use Rattle.std.specs.Prelude.{◌≡◌, false, length, string_bytes, Ok, IfOk, IfErr, IfSome, OnOk};
-ghost use Rattle.up_canon.specs.Names.{Name, Table as Named};
+ghost use Rattle.std.specs.Prelude.{◌≡◌, false, length, Ok, IfOk, IfErr, IfSome, OnOk};
+ghost use Rattle.up_canon.specs.Names.{Table as Named};
 ghost use Rattle.up_columns.specs.Columns.{names_in, needs_in, file_names_in};
 ghost use Rattle.up_plan.specs.Images.{ImageData, image_fits};
-ghost use Rattle.up_tables.specs.Forms.{FitImage};
-ghost use Rattle.up_store.specs.ColumnRows.{IsImage, AreImages, AreHashesOf};
+ghost use Rattle.up_tables.specs.Forms.{FitImage, image_row};
+ghost use Rattle.up_store.specs.Lines.{image_line};
+ghost use Rattle.up_store.specs.Puts.{HasColumns};
+ghost use Rattle.up_store.specs.ColumnRows.{AreHashesOf, AreImages, OfImage, OnlyMemory};
 ghost use Rattle.up_store.specs.Typed.{IsTypedImage};
 ghost use Rattle.up_tables.specs.declared.values.StoreFault.TheVariants.{Memory, Store};
 ghost use Rattle.up_store.specs.Shown.{image_made};
 ghost use Rattle.up_store.specs.ReadAs.{InTurn, IsReadImage, PutsImage};
 ghost use Rattle.std.specs.FinMap as table;
 
-use crate::column_values::{count_in, file_name_in, read_column, sha256_in};
+use crate::column_values::{count_at, file_name_at, read_column, sha256_at, words_at};
 use crate::store::StoreFault;
+use sqlite::Row;
 use std::alloc::{AllocError, Global};
 use up_canon::count::Count;
 use up_canon::file_name::FileName;
@@ -25,6 +28,48 @@ use up_columns::names::{names_text, read_names};
 use up_columns::needs::{needs_text, read_needs};
 use up_plan::image::{Image, Need};
 use up_tables::image::ImageRow;
+use up_tables::reading::RowReading;
+
+/// A row of `image`, as it is read: its lists still texts.
+#[derive(Drop)]
+pub struct ImageShown {
+    pub file: FileName,
+    pub length: Count,
+    pub sha256: [u8; 32],
+    pub hardware: Text,
+    pub release: Count,
+    pub needs: Text,
+    pub conflicts: Text,
+}
+
+/// How a row of `image` is read.
+pub struct ImageReading;
+
+impl RowReading for ImageReading {
+    ghost use Rattle.up_store.specs.Lines.{image_shown_line};
+    ghost use Rattle.up_store.specs.ReadAs.{SaysImage};
+    ghost use Rattle.up_store.specs.Typed.{IsTypedImageRow};
+
+    type Item = ImageShown;
+
+    ghost says = { SaysImage };
+
+    ghost fits = { IsTypedImageRow };
+
+    ghost line = { image_shown_line };
+
+    fn read(_: Global, row: &Row) -> Result<ImageShown, StoreFault> {
+        Ok(ImageShown {
+            file: file_name_at(row, 0)?,
+            length: count_at(row, 1)?,
+            sha256: sha256_at(row, 2)?,
+            hardware: words_at(row, 3)?,
+            release: count_at(row, 4)?,
+            needs: words_at(row, 5)?,
+            conflicts: words_at(row, 6)?,
+        })
+    }
+}
 
 /// The lists of an image.
 #[derive(Drop)]
@@ -35,12 +80,12 @@ struct ImageLists {
 }
 
 /// The lists of a row as it stands in the table, read as its columns say; of a row that stands for an image, `Memory` is the one fault.
-fn read_lists(alloc: Global, shown: &ImageRow) -> Result<ImageLists, StoreFault>
-    ensures same { IfOk result (λ lists. (file : Name) (image : ImageData) → IsTypedImage file image → IsImage shown.now image
-        → (lists.hardware ≡ image.hardware) × (lists.needs ≡ image.needs) × (lists.conflicts ≡ image.conflicts)) }
-    ensures told { IfOk result (λ lists. (names_in (string_bytes shown.now.hardware) ≡ Ok lists.hardware)
-        × (needs_in (string_bytes shown.now.needs) ≡ Ok lists.needs) × (file_names_in (string_bytes shown.now.conflicts) ≡ Ok lists.conflicts)) }
-    ensures fault { (file : Name) (image : ImageData) → IsTypedImage file image → IsImage shown.now image → IfErr result (λ fault. fault ≡ Memory) }
+fn read_lists(alloc: Global, shown: &ImageShown) -> Result<ImageLists, StoreFault>
+    ensures same { IfOk result (λ lists. OfImage shown.now (λ image. (lists.hardware ≡ image.hardware)
+        × (lists.needs ≡ image.needs) × (lists.conflicts ≡ image.conflicts))) }
+    ensures told { IfOk result (λ lists. (names_in shown.now.hardware ≡ Ok lists.hardware)
+        × (needs_in shown.now.needs ≡ Ok lists.needs) × (file_names_in shown.now.conflicts ≡ Ok lists.conflicts)) }
+    ensures fault { OfImage shown.now (λ _. OnlyMemory result) }
 {
     let hardware = read_column(read_names(alloc, shown.hardware.as_str()))?;
     let needs = read_column(read_needs(alloc, shown.needs.as_str()))?;
@@ -55,19 +100,21 @@ fn read_lists(alloc: Global, shown: &ImageRow) -> Result<ImageLists, StoreFault>
 /// A row as it stands in the table, read, with the image's second hash; of a row that stands for an image, `Memory` is the one fault.
 pub fn read_image(
     alloc: Global,
-    shown: ImageRow,
+    shown: ImageShown,
     sha512: Option<[u8; 64]>,
 ) -> Result<Image, StoreFault>
-    ensures same { IfOk result (λ read. (file : Name) (image : ImageData)
-        → IsTypedImage file image → IsImage shown image → sha512 ≡ image.sha512 → read ≡ image) }
+    ensures same { IfOk result (λ read. OfImage shown (λ image. sha512 ≡ image.sha512 → read ≡ image)) }
     ensures told { IfOk result (IsReadImage shown sha512) }
-    ensures fault { (file : Name) (image : ImageData) → IsTypedImage file image → IsImage shown image → IfErr result (λ fault. fault ≡ Memory) }
+    ensures fault { OfImage shown (λ _. OnlyMemory result) }
 {
-    let sha256 = sha256_in(shown.sha256.as_slice())?;
-    let length = count_in(shown.length)?;
-    let release = count_in(shown.release_count)?;
     let lists = read_lists(alloc, &shown)?;
-    let file = file_name_in(shown.file)?;
+    let ImageShown {
+        file,
+        length,
+        sha256,
+        release,
+        ..
+    } = shown;
     image_of(file, length, sha256, sha512, release, lists)
 }
 
@@ -80,9 +127,11 @@ fn image_of(
     release: Count,
     lists: ImageLists,
 ) -> Result<Image, StoreFault>
-    ensures ok { IfOk result (λ image. image ≡ image_made file length sha256 sha512 lists.hardware release lists.needs lists.conflicts) }
-    ensures fault { IfErr result (λ fault. (fault ≡ Store)
-        × (image_fits (image_made file length sha256 sha512 lists.hardware release lists.needs lists.conflicts) ≡ false)) }
+    ensures ok { IfOk result (λ image. image ≡ image_made file length sha256 sha512 lists.hardware release lists.needs
+        lists.conflicts) }
+    ensures fault { IfErr result (λ fault. (fault ≡ Store) ×
+        (image_fits (image_made file length sha256 sha512 lists.hardware release lists.needs lists.conflicts)
+        ≡ false)) }
 {
     let hardware = lists.hardware.into_vec();
     let needs = lists.needs.into_vec();
@@ -99,12 +148,13 @@ fn image_of(
 /// `Memory` is the one fault.
 pub fn read_images(
     alloc: Global,
-    shown: Vec<ImageRow>,
+    shown: Vec<ImageShown>,
     hashes: &Table<[u8; 64]>,
 ) -> Result<Table<Image>, StoreFault>
-    ensures same { IfOk result (λ read. (images : Named ImageData) → AreImages shown.items images → AreHashesOf hashes.now images → read ≡ images) }
+    ensures same { IfOk result (λ read. (images : Named ImageData) → AreImages shown.items images
+        → AreHashesOf hashes.now images → read ≡ images) }
     ensures told { IfOk result (InTurn (PutsImage hashes.now) shown.items table.empty) }
-    ensures fault { (images : Named ImageData) → AreImages shown.items images → IfErr result (λ fault. fault ≡ Memory) }
+    ensures fault { (images : Named ImageData) → AreImages shown.items images → OnlyMemory result }
 {
     let mut images = Table::new(alloc);
     for row in shown {
@@ -117,15 +167,15 @@ pub fn read_images(
 fn add_image(
     images: &mut Table<Image>,
     alloc: Global,
-    shown: ImageRow,
+    shown: ImageShown,
     hashes: &Table<[u8; 64]>,
 ) -> Result<(), StoreFault>
-    ensures same { OnOk result ((file : Name) (image : ImageData) → IsTypedImage file image → IsImage shown image
-        → table.get hashes.now image.file ≡ image.sha512 → images.new ≡ table.insert images.old image.file image) }
+    ensures same { OnOk result (OfImage shown (λ image. table.get hashes.now image.file ≡ image.sha512
+        → images.new ≡ table.insert images.old image.file image)) }
     ensures told { OnOk result (PutsImage hashes.now shown images.old images.new) }
-    ensures fault { (file : Name) (image : ImageData) → IsTypedImage file image → IsImage shown image → IfErr result (λ fault. fault ≡ Memory) }
+    ensures fault { OfImage shown (λ _. OnlyMemory result) }
 {
-    let sha512 = hash_named(hashes, shown.file.as_str());
+    let sha512 = hash_named(hashes, shown.file.text());
     let image = read_image(alloc, shown, sha512)?;
     let name = name_of(alloc, image.file.text())?;
     images.insert(name, image)?;
@@ -146,23 +196,39 @@ pub(crate) fn name_of(alloc: Global, name: &str) -> Result<Text, AllocError>
     Ok(Text::new(name.to_string(alloc)?))
 }
 
-/// The row of an image as it stands in the table, without its second hash.
-pub fn make_image(alloc: Global, image: &Image) -> Result<ImageRow, AllocError>
-    ensures same { IfOk result (λ made. IsImage made image.now) }
-    ensures fit { IfOk result FitImage }
-    ensures typed { OnOk result (IfSome image.now.sha512 (λ hash. length hash ≡ 64) → IsTypedImage image.now.file image.now) }
+/// The columns of an image's lists.
+#[derive(Drop)]
+pub(crate) struct ImageColumns {
+    pub hardware: String,
+    pub needs: String,
+    pub conflicts: String,
+}
+
+/// The columns of its lists.
+pub(crate) fn make_lists(alloc: Global, image: &Image) -> Result<ImageColumns, AllocError>
+    ensures { IfOk result (HasColumns image.now) }
 {
-    let hardware = names_text(alloc, image.hardware.as_slice())?;
-    let needs = needs_text(alloc, image.needs.as_slice())?;
-    let conflicts = file_names_text(alloc, image.conflicts.as_slice())?;
-    let file = image.file.text().to_string(alloc)?;
-    Ok(ImageRow {
-        file,
-        length: image.length.get(),
-        sha256: image.sha256.to_vec(alloc)?,
-        hardware,
-        release_count: image.release.get(),
-        needs,
-        conflicts,
+    Ok(ImageColumns {
+        hardware: names_text(alloc, image.hardware.as_slice())?,
+        needs: needs_text(alloc, image.needs.as_slice())?,
+        conflicts: file_names_text(alloc, image.conflicts.as_slice())?,
     })
+}
+
+/// Its row, without its second hash.
+pub(crate) fn row_of<'a>(image: &'a Image, lists: &'a ImageColumns) -> ImageRow<'a>
+    requires made { HasColumns image.now lists.now }
+    ensures is { image_row result ≡ image_line image.now }
+    ensures fit { FitImage result }
+    ensures typed { IfSome image.now.sha512 (λ hash. length hash ≡ 64) → IsTypedImage image.now.file image.now }
+{
+    ImageRow {
+        file: image.file.text(),
+        length: image.length.get(),
+        sha256: &image.sha256[..],
+        hardware: lists.hardware.as_str(),
+        release_count: image.release.get(),
+        needs: lists.needs.as_str(),
+        conflicts: lists.conflicts.as_str(),
+    }
 }

@@ -1,48 +1,39 @@
 //! Registered images.
-ghost use Rattle.std.specs.Prelude.{◌≡◌, None, Some, ⊤, IfOk, IfErr, IsSomeAnd, OnErr};
-ghost use Rattle.sqlite.specs.Held.{state};
-ghost use Rattle.sqlite.specs.State.{HasCleanDisk, Survives};
+ghost use Rattle.std.specs.Prelude.{◌≡◌, None, Some, ⊤, IfOk, IsSomeAnd};
 ghost use Rattle.std.specs.FinMap as table;
-ghost use Rattle.up_canon.specs.Names.{Name};
+ghost use Rattle.sqlite.specs.Held.{state};
 ghost use Rattle.up_plan.specs.Images.{ImageData};
 ghost use Rattle.up_rows.specs.Changes.{with_image_rows};
-ghost use Rattle.up_store.specs.Fitting.{IsNewImage};
-ghost use Rattle.up_tables.specs.Stands.{IfClean, IsAsCommitted, IsInside};
-ghost use Rattle.up_tables.specs.Statements.{IsStep, IsOpenStep, Finds};
+ghost use Rattle.up_tables.specs.Statements.{Finds};
 ghost use Rattle.up_tables.specs.Tables.{image_table, image_sha512_table};
-ghost use Rattle.up_tables.specs.Tried.{BlamesOne, Ran, Undoes};
-ghost use Rattle.up_store.specs.ColumnRows.{IsImage, AreImages, with_image};
-ghost use Rattle.up_store.specs.Puts.{AreMadeOfTexts, IsMadeOfImage};
-ghost use Rattle.up_store.specs.ReadAs.{FindsBoth, IsRead, IsReadImage, ReadsBeside, ReadsImage, ReadsImages, ReadsSha512};
-ghost use Rattle.up_store.specs.Writes.{FitsFounding, image_row_writes, image_writes};
-ghost use Rattle.up_store.specs.Typed.{IsTypedImage};
 ghost use Rattle.up_tables.specs.declared.values.StoreFault.TheVariants.{Memory};
-ghost use Rattle.up_store.specs.Connections.{NeedsOpen, Answers, Blames, BlamesWithin, FindsRows, FindsSuch, PutsRows, TakesRows};
-ghost use Rattle.up_store.specs.Connections.{BlamesWrite, CommitsRows, RanWrite, SparesRows, UndoesOrStays};
+ghost use Rattle.up_store.specs.ColumnRows.{AreImages, IsImage, OfImage, OnlyMemory, with_image};
+ghost use Rattle.up_store.specs.Connections.{PutsRows, ReadsStore, WritesStore};
+ghost use Rattle.up_store.specs.Fitting.{IsNewImage};
+ghost use Rattle.up_store.specs.Puts.{HasColumns};
+ghost use Rattle.up_store.specs.ReadAs.{FindsBoth, IsRead, IsReadImage, ReadsBeside, ReadsImage, ReadsImages, ReadsSha512};
+ghost use Rattle.up_store.specs.Within.{FindsWithin, MakesAndPuts, PutsWithin};
+ghost use Rattle.up_store.specs.Writes.{FitsFounding, image_row_writes, image_writes};
 
-use crate::files::make_role_files;
-use crate::image_rows::{make_image, read_image, read_images};
-use crate::roots::put_register_made;
+use crate::image_rows::{
+    ImageColumns, ImageReading, ImageShown, make_lists, read_image, read_images, row_of,
+};
+use crate::roots::put_register;
 use crate::second_hashes::{find_sha512, find_sha512s, put_sha512};
-use crate::store::{Store, StoreFault, commit};
+use crate::store::{Store, StoreFault, end};
 use sqlite::{Alter, Transaction};
 use std::alloc::Global;
 use up_canon::file_name::FileName;
 use up_canon::table::Table;
 use up_machine::decision::RegisterRows;
 use up_plan::image::Image;
-use up_tables::image::{ImageRow, image as image_shown, images as images_shown, insert_image};
-use up_tables::repo_file::FileRow;
+use up_tables::image::{image as image_shown, images as images_shown, insert_image};
 
 impl<D: Alter> Store<D> {
     /// The image of this filename, none where there is none.
     pub fn image(&mut self, alloc: Global, file: &FileName) -> Result<Option<Image>, StoreFault>
-        ensures told { Answers (λ rows. table.get rows.images file.now) (state D.Store self.old) (state D.Store self.new) result }
-        ensures shown { FindsBoth image_table 1 image_sha512_table 1 (ReadsImage file.now) (state D.Store self.old) (state D.Store self.new) result }
-        ensures kept { IfClean (IsAsCommitted (state D.Store self.old)) (state D.Store self.new) }
-        ensures crash { Survives (state D.Store self.old) (state D.Store self.new) (λ _. ⊥) }
-        ensures open { NeedsOpen (state D.Store self.old) (state D.Store self.new) result }
-        ensures blame { Blames (state D.Store self.old) (state D.Store self.new) result }
+        ensures { ReadsStore (λ rows. table.get rows.images file.now) (FindsBoth image_table 1 image_sha512_table 1
+            (ReadsImage file.now)) (state D.Store self.old) (state D.Store self.new) result }
     {
         let mut tx = self.conn.transaction();
         find_image(&mut tx, alloc, file)
@@ -50,12 +41,8 @@ impl<D: Alter> Store<D> {
 
     /// All images by their filenames.
     pub fn images(&mut self, alloc: Global) -> Result<Table<Image>, StoreFault>
-        ensures told { Answers (λ rows. rows.images) (state D.Store self.old) (state D.Store self.new) result }
-        ensures shown { FindsBoth image_table 1 image_sha512_table 1 ReadsImages (state D.Store self.old) (state D.Store self.new) result }
-        ensures kept { IfClean (IsAsCommitted (state D.Store self.old)) (state D.Store self.new) }
-        ensures crash { Survives (state D.Store self.old) (state D.Store self.new) (λ _. ⊥) }
-        ensures open { NeedsOpen (state D.Store self.old) (state D.Store self.new) result }
-        ensures blame { Blames (state D.Store self.old) (state D.Store self.new) result }
+        ensures { ReadsStore (λ rows. rows.images) (FindsBoth image_table 1 image_sha512_table 1 ReadsImages)
+            (state D.Store self.old) (state D.Store self.new) result }
     {
         let mut tx = self.conn.transaction();
         find_images(&mut tx, alloc)
@@ -68,24 +55,13 @@ impl<D: Alter> Store<D> {
         image: &Image,
         new: &RegisterRows,
     ) -> Result<(), StoreFault>
-        ensures written { TakesRows (IsNewImage image.now new.now) (λ rows. with_image_rows rows image.now new.now)
-            (state D.Store self.old) (state D.Store self.new) result }
-        ensures durable { CommitsRows (IsNewImage image.now new.now) (λ rows. with_image_rows rows image.now new.now)
-            (state D.Store self.old) (state D.Store self.new) result }
-        ensures kept { OnErr result (IfClean (IsAsCommitted (state D.Store self.old)) (state D.Store self.new)) }
-        ensures crash { SparesRows (IsNewImage image.now new.now) (λ rows. with_image_rows rows image.now new.now)
-            (state D.Store self.old) (state D.Store self.new) }
-        ensures clean { HasCleanDisk (state D.Store self.new) → HasCleanDisk (state D.Store self.old) }
-        ensures open { NeedsOpen (state D.Store self.old) (state D.Store self.new) result }
-        ensures ran { RanWrite (image_writes image.now new.now) (state D.Store self.old) (state D.Store self.new) result }
-        ensures blame { BlamesWrite (image_writes image.now new.now) (λ _. FitsFounding new.now.founding)
-            (state D.Store self.old) (state D.Store self.new) result }
+        ensures { WritesStore (IsNewImage image.now new.now) (λ rows. with_image_rows rows image.now new.now)
+            (image_writes image.now new.now) (λ _. FitsFounding new.now.founding) (state D.Store self.old)
+            (state D.Store self.new) result }
     {
         let mut tx = self.conn.transaction();
-        if let Err(fault) = put_image(&mut tx, alloc, image, new) {
-            return Err(fault);
-        }
-        commit(tx)
+        let put = put_image(&mut tx, alloc, image, new);
+        end(tx, put)
     }
 }
 
@@ -95,15 +71,10 @@ fn find_image<D: Alter>(
     alloc: Global,
     file: &FileName,
 ) -> Result<Option<Image>, StoreFault>
-    requires mode { IfClean IsInside (state D.Store tx.old.conn.now) }
-    ensures found { FindsRows (λ rows. table.get rows.images file.now) (state D.Store tx.old.conn.now) (state D.Store tx.new.conn.now) result }
-    ensures shown { FindsBoth image_table 1 image_sha512_table 1 (ReadsImage file.now)
-        (state D.Store tx.old.conn.now) (state D.Store tx.new.conn.now) result }
-    ensures open { NeedsOpen (state D.Store tx.old.conn.now) (state D.Store tx.new.conn.now) result }
-    ensures blame { BlamesWithin (λ _. ⊤) (state D.Store tx.old.conn.now) (state D.Store tx.new.conn.now) result }
-    ensures step { IsStep D.Store tx.old.conn tx.new.conn }
+    ensures { FindsWithin D.Store (λ rows found. found ≡ table.get rows.images file.now)
+        (FindsBoth image_table 1 image_sha512_table 1 (ReadsImage file.now)) (λ _. ⊤) tx.old.conn tx.new.conn result }
 {
-    match image_shown(tx, file.text()) {
+    match image_shown::<D, ImageReading>(tx, alloc, file.text()) {
         Ok(Some(shown)) => find_with_sha512(tx, alloc, file, shown),
         Ok(None) => Ok(None),
         Err(fault) => Err(fault),
@@ -115,21 +86,14 @@ fn find_with_sha512<D: Alter>(
     tx: &mut Transaction<'_, D>,
     alloc: Global,
     file: &FileName,
-    shown: ImageRow,
+    shown: ImageShown,
 ) -> Result<Option<Image>, StoreFault>
-    requires mode { IfClean IsInside (state D.Store tx.old.conn.now) }
-    ensures found { FindsSuch (λ rows read. (image : ImageData)
-        → table.get rows.images file.now ≡ Some image → IsImage shown image → read ≡ Some image)
-        (state D.Store tx.old.conn.now) (state D.Store tx.new.conn.now) result }
-    ensures told { IfOk result (λ read. IsSomeAnd read (IsRead shown)) }
-    ensures shown { Finds image_sha512_table 1 (λ rows_of read. IsSomeAnd read (λ image. ReadsSha512 file.now rows_of image.sha512))
-        (state D.Store tx.old.conn.now) (state D.Store tx.new.conn.now) result }
-    ensures open { NeedsOpen (state D.Store tx.old.conn.now) (state D.Store tx.new.conn.now) result }
-    ensures blame { BlamesWithin (λ rows. (image : ImageData) × (table.get rows.images file.now ≡ Some image) × IsImage shown image)
-        (state D.Store tx.old.conn.now) (state D.Store tx.new.conn.now) result }
-    ensures step { IsStep D.Store tx.old.conn tx.new.conn }
+    ensures { FindsWithin D.Store (λ rows read. (image : ImageData) → table.get rows.images file.now ≡ Some image
+        → IsImage shown image → read ≡ Some image) (Finds image_sha512_table 1 (λ rows_of read. IsSomeAnd read
+        (λ image. IsRead shown image × ReadsSha512 file.now rows_of image.sha512))) (λ rows. (image : ImageData) ×
+        (table.get rows.images file.now ≡ Some image) × IsImage shown image) tx.old.conn tx.new.conn result }
 {
-    match find_sha512(tx, file) {
+    match find_sha512(tx, alloc, file) {
         Ok(hash) => some_image(alloc, shown, hash),
         Err(fault) => Err(fault),
     }
@@ -138,13 +102,12 @@ fn find_with_sha512<D: Alter>(
 /// A row as it stands in the table, read, with the image's second hash; of a row that stands for an image, `Memory` is the one fault.
 fn some_image(
     alloc: Global,
-    shown: ImageRow,
+    shown: ImageShown,
     sha512: Option<[u8; 64]>,
 ) -> Result<Option<Image>, StoreFault>
-    ensures same { IfOk result (λ read. (file : Name) (image : ImageData)
-        → IsTypedImage file image → IsImage shown image → sha512 ≡ image.sha512 → read ≡ Some image) }
+    ensures same { IfOk result (λ read. OfImage shown (λ image. sha512 ≡ image.sha512 → read ≡ Some image)) }
     ensures told { IfOk result (λ read. IsSomeAnd read (IsReadImage shown sha512)) }
-    ensures fault { (file : Name) (image : ImageData) → IsTypedImage file image → IsImage shown image → IfErr result (λ fault. fault ≡ Memory) }
+    ensures fault { OfImage shown (λ _. OnlyMemory result) }
 {
     match read_image(alloc, shown, sha512) {
         Ok(image) => Ok(Some(image)),
@@ -157,14 +120,10 @@ fn find_images<D: Alter>(
     tx: &mut Transaction<'_, D>,
     alloc: Global,
 ) -> Result<Table<Image>, StoreFault>
-    requires mode { IfClean IsInside (state D.Store tx.old.conn.now) }
-    ensures found { FindsRows (λ rows. rows.images) (state D.Store tx.old.conn.now) (state D.Store tx.new.conn.now) result }
-    ensures shown { FindsBoth image_table 1 image_sha512_table 1 ReadsImages (state D.Store tx.old.conn.now) (state D.Store tx.new.conn.now) result }
-    ensures open { NeedsOpen (state D.Store tx.old.conn.now) (state D.Store tx.new.conn.now) result }
-    ensures blame { BlamesWithin (λ _. ⊤) (state D.Store tx.old.conn.now) (state D.Store tx.new.conn.now) result }
-    ensures step { IsStep D.Store tx.old.conn tx.new.conn }
+    ensures { FindsWithin D.Store (λ rows found. found ≡ rows.images)
+        (FindsBoth image_table 1 image_sha512_table 1 ReadsImages) (λ _. ⊤) tx.old.conn tx.new.conn result }
 {
-    match images_shown(tx, alloc) {
+    match images_shown::<D, ImageReading>(tx, alloc) {
         Ok(shown) => find_with_sha512s(tx, alloc, shown),
         Err(fault) => Err(fault),
     }
@@ -174,15 +133,11 @@ fn find_images<D: Alter>(
 fn find_with_sha512s<D: Alter>(
     tx: &mut Transaction<'_, D>,
     alloc: Global,
-    shown: Vec<ImageRow>,
+    shown: Vec<ImageShown>,
 ) -> Result<Table<Image>, StoreFault>
-    requires mode { IfClean IsInside (state D.Store tx.old.conn.now) }
-    ensures found { FindsSuch (λ rows read. AreImages shown.items rows.images → read ≡ rows.images)
-        (state D.Store tx.old.conn.now) (state D.Store tx.new.conn.now) result }
-    ensures shown { Finds image_sha512_table 1 (ReadsBeside shown.items) (state D.Store tx.old.conn.now) (state D.Store tx.new.conn.now) result }
-    ensures open { NeedsOpen (state D.Store tx.old.conn.now) (state D.Store tx.new.conn.now) result }
-    ensures blame { BlamesWithin (λ rows. AreImages shown.items rows.images) (state D.Store tx.old.conn.now) (state D.Store tx.new.conn.now) result }
-    ensures step { IsStep D.Store tx.old.conn tx.new.conn }
+    ensures { FindsWithin D.Store (λ rows read. AreImages shown.items rows.images → read ≡ rows.images)
+        (Finds image_sha512_table 1 (ReadsBeside shown.items)) (λ rows. AreImages shown.items rows.images)
+        tx.old.conn tx.new.conn result }
 {
     match find_sha512s(tx, alloc) {
         Ok(hashes) => read_images(alloc, shown, &hashes),
@@ -190,69 +145,47 @@ fn find_with_sha512s<D: Alter>(
     }
 }
 
-/// Puts in an image, and sets the files of the image repository. All rows are made before the first is written.
+/// Puts in an image, and sets the files of the image repository. The columns of its lists are made before anything is written.
 fn put_image<D: Alter>(
     tx: &mut Transaction<'_, D>,
     alloc: Global,
     image: &Image,
     new: &RegisterRows,
 ) -> Result<(), StoreFault>
-    requires mode { IfClean IsInside (state D.Store tx.old.conn.now) }
-    ensures put { PutsRows (IsNewImage image.now new.now) (λ rows. with_image_rows rows image.now new.now)
-        (state D.Store tx.old.conn.now) (state D.Store tx.new.conn.now) result }
-    ensures ran { Ran (image_writes image.now new.now) (state D.Store tx.old.conn.now) (state D.Store tx.new.conn.now) result }
-    ensures blame { BlamesOne (image_writes image.now new.now) (λ _. FitsFounding new.now.founding)
-        (state D.Store tx.old.conn.now) (state D.Store tx.new.conn.now) result }
-    ensures memory { UndoesOrStays D.Store tx.old.conn tx.new.conn result }
-    ensures step { IsOpenStep D.Store tx.old.conn tx.new.conn result }
+    ensures { MakesAndPuts D.Store (PutsRows (IsNewImage image.now new.now)
+        (λ rows. with_image_rows rows image.now new.now)) (image_writes image.now new.now)
+        (λ _. FitsFounding new.now.founding) tx.old.conn tx.new.conn result }
 {
-    let row = make_image(alloc, image)?;
-    let files = make_role_files(alloc, &new.files)?;
-    put_image_made(tx, image, new, &row, files.as_slice())
+    let lists = make_lists(alloc, image)?;
+    put_image_made(tx, image, new, &lists)
 }
 
-/// Puts in the rows that were made of an image and of the image repository's files, which takes no memory but the database's own.
+/// The same with the columns of its lists, which takes no memory but the database's own.
 fn put_image_made<D: Alter>(
     tx: &mut Transaction<'_, D>,
     image: &Image,
     new: &RegisterRows,
-    row: &ImageRow,
-    files: &[FileRow],
+    lists: &ImageColumns,
 ) -> Result<(), StoreFault>
-    requires made { IsMadeOfImage image.now row.now }
-    requires files { AreMadeOfTexts new.now.files files.now }
-    requires mode { IfClean IsInside (state D.Store tx.old.conn.now) }
-    ensures put { PutsRows (IsNewImage image.now new.now) (λ rows. with_image_rows rows image.now new.now)
-        (state D.Store tx.old.conn.now) (state D.Store tx.new.conn.now) result }
-    ensures ran { Ran (image_writes image.now new.now) (state D.Store tx.old.conn.now) (state D.Store tx.new.conn.now) result }
-    ensures blame { BlamesOne (image_writes image.now new.now) (λ _. FitsFounding new.now.founding)
-        (state D.Store tx.old.conn.now) (state D.Store tx.new.conn.now) result }
-    ensures memory { Undoes (state D.Store tx.new.conn.now) result }
-    ensures step { IsOpenStep D.Store tx.old.conn tx.new.conn result }
+    requires made { HasColumns image.now lists.now }
+    ensures { PutsWithin D.Store (PutsRows (IsNewImage image.now new.now)
+        (λ rows. with_image_rows rows image.now new.now)) (image_writes image.now new.now)
+        (λ _. FitsFounding new.now.founding) tx.old.conn tx.new.conn result }
 {
-    if let Err(fault) = put_image_rows(tx, image, row) {
-        return Err(fault);
-    }
-    put_register_made(tx, new, files)
+    put_image_rows(tx, image, lists)?;
+    put_register(tx, new)
 }
 
-/// Puts in the row that was made of an image, and that of its second hash where it has one.
+/// Puts in the row of an image, and that of its second hash where it has one.
 fn put_image_rows<D: Alter>(
     tx: &mut Transaction<'_, D>,
     image: &Image,
-    row: &ImageRow,
+    lists: &ImageColumns,
 ) -> Result<(), StoreFault>
-    requires made { IsMadeOfImage image.now row.now }
-    requires mode { IfClean IsInside (state D.Store tx.old.conn.now) }
-    ensures put { PutsRows (λ rows. table.get rows.images image.now.file ≡ None) (λ rows. with_image rows image.now)
-        (state D.Store tx.old.conn.now) (state D.Store tx.new.conn.now) result }
-    ensures ran { Ran (image_row_writes image.now) (state D.Store tx.old.conn.now) (state D.Store tx.new.conn.now) result }
-    ensures blame { BlamesOne (image_row_writes image.now) (λ _. ⊤) (state D.Store tx.old.conn.now) (state D.Store tx.new.conn.now) result }
-    ensures memory { Undoes (state D.Store tx.new.conn.now) result }
-    ensures step { IsOpenStep D.Store tx.old.conn tx.new.conn result }
+    requires made { HasColumns image.now lists.now }
+    ensures { PutsWithin D.Store (PutsRows (λ rows. table.get rows.images image.now.file ≡ None)
+        (λ rows. with_image rows image.now)) (image_row_writes image.now) (λ _. ⊤) tx.old.conn tx.new.conn result }
 {
-    if let Err(fault) = insert_image(tx, row) {
-        return Err(fault);
-    }
+    insert_image(tx, &row_of(image, lists))?;
     put_sha512(tx, image)
 }

@@ -1,6 +1,6 @@
 //! The rows of the keys of roles, read and made.
 ghost use Rattle.std.specs.Prelude.{◌≡◌, ◌<◌, ◌^◌, ◌++◌, ◌∷◌, [], pos, All, Some, OnOk, IfOk, map, codes};
-ghost use Rattle.sqlite.specs.declared.types.Value.TheVariants.{Int, Text, Blob};
+ghost use Rattle.sqlite.specs.declared.types.Value.TheVariants as Value;
 ghost use Rattle.up_roles.specs.declared.repository.Repository.TheVariants.{Director, Image};
 ghost use Rattle.std.specs.Prelude.{◌≤◌, ℕ, IfErr};
 ghost use Rattle.up_tables.specs.declared.values.StoreFault.TheVariants.{Memory, Store};
@@ -12,14 +12,57 @@ ghost use Rattle.up_store.specs.Typed.{IsTypedRole, AreTypedKeys};
 ghost use Rattle.up_store.specs.Lines.{repository_lines, role_lines, repository_word as word_of};
 ghost use Rattle.up_store.specs.Shown.{is_key_of, secrets_of, threshold_of, IsRoleOf, AreKeysOf};
 
-use crate::column_values::threshold_in;
+use crate::column_values::{threshold_in, words_at};
 use crate::store::StoreFault;
+use sqlite::Row;
 use std::alloc::{AllocError, Global};
 use up_canon::bytes::Bytes;
 use up_canon::listed::Listed;
+use up_canon::text::Text;
 use up_metadata::keys::{KeySet, RepoKeys, RoleSecrets};
 use up_roles::repository::Repository;
+use up_tables::reading::RowReading;
 use up_tables::role_key::RoleKeyRow;
+use up_tables::values::{bytes_at, number_at};
+
+/// A row of `role_key`, as it is read.
+#[derive(Drop)]
+pub struct RoleKey {
+    pub root: u64,
+    pub repository: Text,
+    pub role: Text,
+    pub place: u64,
+    pub secret: Bytes,
+    pub threshold: u64,
+}
+
+/// How a row of `role_key` is read.
+pub struct KeyReading;
+
+impl RowReading for KeyReading {
+    ghost use Rattle.up_store.specs.Lines.{key_row};
+    ghost use Rattle.up_store.specs.ReadAs.{SaysKey};
+    ghost use Rattle.up_store.specs.Typed.{IsTypedKey};
+
+    type Item = RoleKey;
+
+    ghost says = { SaysKey };
+
+    ghost fits = { IsTypedKey };
+
+    ghost line = { key_row };
+
+    fn read(_: Global, row: &Row) -> Result<RoleKey, StoreFault> {
+        Ok(RoleKey {
+            root: number_at(row, 0)?,
+            repository: words_at(row, 1)?,
+            role: words_at(row, 2)?,
+            place: number_at(row, 3)?,
+            secret: Bytes::new(bytes_at(row, 4)?),
+            threshold: number_at(row, 5)?,
+        })
+    }
+}
 
 /// The word for a repository in the tables.
 pub fn repository_word(repository: Repository) -> &'static str
@@ -34,11 +77,12 @@ pub fn repository_word(repository: Repository) -> &'static str
 // ---- read
 
 /// The keys of both repositories among the rows of a root version; where the rows are of such keys, `Memory` is the one fault.
-pub fn read_keys(alloc: Global, rows: &[RoleKeyRow]) -> Result<KeySet, StoreFault>
+pub fn read_keys(alloc: Global, rows: &[RoleKey]) -> Result<KeySet, StoreFault>
     ensures director { IfOk result (λ keys. AreKeysOf (codes "director") rows.now keys.director) }
     ensures image { IfOk result (λ keys. AreKeysOf (codes "image") rows.now keys.image) }
-    ensures fault { (keys : Keys) → AreKeysOf (codes "director") rows.now keys.director → AreKeysOf (codes "image") rows.now keys.image
-        → AreTypedKeys keys.director → AreTypedKeys keys.image → IfErr result (λ fault. fault ≡ Memory) }
+    ensures fault { (keys : Keys) → AreKeysOf (codes "director") rows.now keys.director → AreKeysOf
+        (codes "image") rows.now keys.image → AreTypedKeys keys.director → AreTypedKeys keys.image → IfErr result
+        (λ fault. fault ≡ Memory) }
 {
     Ok(KeySet {
         director: read_repository(alloc, rows, "director")?,
@@ -49,11 +93,12 @@ pub fn read_keys(alloc: Global, rows: &[RoleKeyRow]) -> Result<KeySet, StoreFaul
 /// The keys of a repository among these rows; `Memory` is the one fault where they are there.
 fn read_repository(
     alloc: Global,
-    rows: &[RoleKeyRow],
+    rows: &[RoleKey],
     repository: &str,
 ) -> Result<RepoKeys, StoreFault>
     ensures ok { IfOk result (λ keys. AreKeysOf repository.now rows.now keys) }
-    ensures fault { (keys : Repo) → AreKeysOf repository.now rows.now keys → AreTypedKeys keys → IfErr result (λ fault. fault ≡ Memory) }
+    ensures fault { (keys : Repo) → AreKeysOf repository.now rows.now keys → AreTypedKeys keys → IfErr result
+        (λ fault. fault ≡ Memory) }
 {
     Ok(RepoKeys {
         root: read_role(alloc, rows, repository, "root")?,
@@ -66,12 +111,13 @@ fn read_repository(
 /// The keys of a role among these rows; `Store` where it has none, else `Memory` is the one fault.
 fn read_role(
     alloc: Global,
-    rows: &[RoleKeyRow],
+    rows: &[RoleKey],
     repository: &str,
     role: &str,
 ) -> Result<RoleSecrets, StoreFault>
     ensures ok { IfOk result (λ keys. IsRoleOf repository.now role.now rows.now keys) }
-    ensures fault { (keys : Role) → IsRoleOf repository.now role.now rows.now keys → IsTypedRole keys → IfErr result (λ fault. fault ≡ Memory) }
+    ensures fault { (keys : Role) → IsRoleOf repository.now role.now rows.now keys → IsTypedRole keys → IfErr result
+        (λ fault. fault ≡ Memory) }
 {
     Ok(RoleSecrets {
         keys: read_secrets(alloc, rows, repository, role)?,
@@ -80,7 +126,7 @@ fn read_role(
 }
 
 /// Whether the row is of this role.
-fn is_key(row: &RoleKeyRow, repository: &str, role: &str) -> bool
+fn is_key(row: &RoleKey, repository: &str, role: &str) -> bool
     ensures { result ≡ is_key_of repository.now role.now row.now }
 {
     row.repository.as_str() == repository && row.role.as_str() == role
@@ -89,7 +135,7 @@ fn is_key(row: &RoleKeyRow, repository: &str, role: &str) -> bool
 /// The secrets of a role, in the order of the rows.
 fn read_secrets(
     alloc: Global,
-    rows: &[RoleKeyRow],
+    rows: &[RoleKey],
     repository: &str,
     role: &str,
 ) -> Result<Listed<Bytes>, AllocError>
@@ -105,9 +151,10 @@ fn read_secrets(
 }
 
 /// The threshold of a role, as its first row has it.
-fn read_threshold(rows: &[RoleKeyRow], repository: &str, role: &str) -> Result<u32, StoreFault>
+fn read_threshold(rows: &[RoleKey], repository: &str, role: &str) -> Result<u32, StoreFault>
     ensures ok { IfOk result (λ n. threshold_of repository.now role.now rows.now ≡ Some n) }
-    ensures fault { IfErr result (λ fault. (fault ≡ Store) × ((n : ℕ) → threshold_of repository.now role.now rows.now ≡ Some n → 2 ^ 32 ≤ n)) }
+    ensures fault { IfErr result (λ fault. (fault ≡ Store) ×
+        ((n : ℕ) → threshold_of repository.now role.now rows.now ≡ Some n → 2 ^ 32 ≤ n)) }
 {
     for row in rows {
         if is_key(row, repository, role) {
@@ -136,87 +183,83 @@ fn keeps_threshold(role: &RoleSecrets) -> u32
 }
 
 /// The rows of the keys of a root version.
-pub fn make_keys(alloc: Global, root: u64, keys: &KeySet) -> Result<Vec<RoleKeyRow>, AllocError>
+pub fn make_keys<'a>(
+    alloc: Global,
+    root: u64,
+    keys: &'a KeySet,
+) -> Result<Vec<RoleKeyRow<'a>>, AllocError>
     requires root { root < 2 ^ 63 }
     ensures rows { IfOk result (λ made. map role_key_row made.items
         ≡ repository_lines root Director keys.now.director ++ repository_lines root Image keys.now.image) }
     ensures fit { IfOk result (λ made. All FitRoleKey made.items) }
 {
     let mut made = Vec::new(alloc);
-    make_repository(alloc, root, Repository::Director, &keys.director, &mut made)?;
-    make_repository(alloc, root, Repository::Image, &keys.image, &mut made)?;
+    make_repository(root, Repository::Director, &keys.director, &mut made)?;
+    make_repository(root, Repository::Image, &keys.image, &mut made)?;
     Ok(made)
 }
 
 /// Appends the rows of a repository's keys.
-fn make_repository(
-    alloc: Global,
+fn make_repository<'a>(
     root: u64,
     repository: Repository,
-    keys: &RepoKeys,
-    made: &mut Vec<RoleKeyRow>,
+    keys: &'a RepoKeys,
+    made: &mut Vec<RoleKeyRow<'a>>,
 ) -> Result<(), AllocError>
     requires root { root < 2 ^ 63 }
     requires fit { All FitRoleKey made.old.items }
-    ensures rows { OnOk result (map role_key_row made.new.items ≡ map role_key_row made.old.items ++ repository_lines root repository keys.now) }
+    ensures rows { OnOk result (map role_key_row made.new.items ≡ map role_key_row made.old.items ++ repository_lines
+        root repository keys.now) }
     ensures fit { OnOk result (All FitRoleKey made.new.items) }
 {
-    make_role(alloc, root, repository, "root", &keys.root, made)?;
-    make_role(alloc, root, repository, "targets", &keys.targets, made)?;
-    make_role(alloc, root, repository, "snapshot", &keys.snapshot, made)?;
-    make_role(alloc, root, repository, "timestamp", &keys.timestamp, made)
+    make_role(root, repository, "root", &keys.root, made)?;
+    make_role(root, repository, "targets", &keys.targets, made)?;
+    make_role(root, repository, "snapshot", &keys.snapshot, made)?;
+    make_role(root, repository, "timestamp", &keys.timestamp, made)
 }
 
 /// Appends the rows of a role's keys.
-fn make_role(
-    alloc: Global,
+fn make_role<'a>(
     root: u64,
     repository: Repository,
-    role: &str,
-    keys: &RoleSecrets,
-    made: &mut Vec<RoleKeyRow>,
+    role: &'a str,
+    keys: &'a RoleSecrets,
+    made: &mut Vec<RoleKeyRow<'a>>,
 ) -> Result<(), AllocError>
     requires root { root < 2 ^ 63 }
     requires fit { All FitRoleKey made.old.items }
-    ensures rows { OnOk result (map role_key_row made.new.items ≡ map role_key_row made.old.items ++ role_lines root repository role.now keys.now) }
+    ensures rows { OnOk result (map role_key_row made.new.items ≡ map role_key_row made.old.items ++ role_lines root
+        repository role.now keys.now) }
     ensures fit { OnOk result (All FitRoleKey made.new.items) }
 {
     for (place, key) in keys.keys.as_slice().iter().enumerate() {
-        made.push(make_key(
-            alloc,
-            root,
-            repository,
-            role,
-            place as u64,
-            key,
-            keys.threshold,
-        )?)?;
+        made.push(key_of(root, repository, role, place as u64, key, keys.threshold))?;
     }
     Ok(())
 }
 
 /// The row of a key.
-fn make_key(
-    alloc: Global,
+fn key_of<'a>(
     root: u64,
     repository: Repository,
-    role: &str,
+    role: &'a str,
     place: u64,
-    key: &Bytes,
+    key: &'a Bytes,
     threshold: u32,
-) -> Result<RoleKeyRow, AllocError>
+) -> RoleKeyRow<'a>
     requires root { root < 2 ^ 63 }
     requires place { place < 2 ^ 63 }
-    ensures row { IfOk result (λ made. role_key_row made
-        ≡ Int (pos root) ∷ Text (word_of repository) ∷ Text role.now ∷ Int (pos place) ∷ Blob key.now ∷ Int (pos threshold) ∷ []) }
-    ensures fit { IfOk result FitRoleKey }
+    ensures row { role_key_row result ≡ Value.Int (pos root) ∷ Value.Text
+        (word_of repository) ∷ Value.Text role.now ∷ Value.Int (pos place) ∷ Value.Blob key.now ∷ Value.Int
+        (pos threshold) ∷ [] }
+    ensures fit { FitRoleKey result }
 {
-    Ok(RoleKeyRow {
+    RoleKeyRow {
         root,
-        repository: repository_word(repository).to_string(alloc)?,
-        role: role.to_string(alloc)?,
+        repository: repository_word(repository),
+        role,
         place,
-        secret: key.as_slice().to_vec(alloc)?,
+        secret: key.as_slice(),
         threshold: threshold as u64,
-    })
+    }
 }

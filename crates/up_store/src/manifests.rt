@@ -1,45 +1,33 @@
 //! Accepted manifests.
-ghost use Rattle.std.specs.Prelude.{◌≡◌, ⊤, Some, IfOk, IsSomeAnd, OnErr, OnOk};
-ghost use Rattle.sqlite.specs.Held.{state};
-ghost use Rattle.sqlite.specs.State.{HasCleanDisk, Survives};
-ghost use Rattle.std.specs.Prelude.{◌<◌, ◌^◌, ◌∷◌, [], IfErr};
+ghost use Rattle.std.specs.Prelude.{◌≡◌, ◌<◌, ◌^◌, ⊤, OnOk, length};
 ghost use Rattle.std.specs.List.{AllByRecursion};
-ghost use Rattle.up_canon.specs.Canon.{max_count};
-ghost use Rattle.up_canon.specs.Names.{Name};
-ghost use Rattle.up_machine.specs.declared.rows.Kept.{Kept as KeptData};
+ghost use Rattle.sqlite.specs.Held.{state};
 ghost use Rattle.up_rows.specs.Changes.{with_accepted_rows};
 ghost use Rattle.up_rows.specs.Lookups.{kept_with, latest_kept};
 ghost use Rattle.up_rows.specs.SecondHashes.{TellsItsHash};
-ghost use Rattle.up_tables.specs.declared.values.StoreFault.TheVariants as StoreFault;
-ghost use Rattle.up_store.specs.ColumnRows.{IsKept, last_found, with_kept};
-ghost use Rattle.up_store.specs.ReadAs.{FindsBoth, IsReadKept, ReadsKept, ReadsLast, ReadsLatest};
-ghost use Rattle.up_store.specs.Typed.{IsTypedKept, IsTypedVehicle};
-ghost use Rattle.up_store.specs.Fitting.{IsRecorded};
-ghost use Rattle.up_store.specs.Puts.{AreMadeOf, IsMadeOfKept, IsReported, MayAccept, MayReport, with_reported};
-ghost use Rattle.up_tables.specs.Stands.{IfClean, IsAsCommitted, IsInside};
-ghost use Rattle.up_tables.specs.Statements.{IsStep, IsOpenStep, Finds, OnlyReads};
+ghost use Rattle.up_tables.specs.Statements.{Finds};
 ghost use Rattle.up_tables.specs.Tables.{kept_table, vehicle_table};
-ghost use Rattle.up_tables.specs.Texts.{insert_kept_text};
-ghost use Rattle.up_tables.specs.Tried.{BlamesOne, Ran, Undoes};
-ghost use Rattle.up_store.specs.Lines.{kept_line, vehicle_lines};
-ghost use Rattle.up_store.specs.Writes.{FitsAccepted, accept_writes, each_with, reported_writes};
-ghost use Rattle.up_store.specs.Connections.{NeedsOpen, Answers, FindsRows, Blames, BlamesWithin, PutsRows, PutsTables, TakesRows};
-ghost use Rattle.up_store.specs.Connections.{BlamesWrite, CommitsRows, HandsBack, RanWrite, SparesRows, UndoesOrStays};
+ghost use Rattle.up_store.specs.Connections.{PutsRows, PutsTables, ReadsStore, WritesStore};
+ghost use Rattle.up_store.specs.Fitting.{IsRecorded};
+ghost use Rattle.up_store.specs.Puts.{IsMadeOfKept, IsReported, MayAccept, MayReport, with_reported};
+ghost use Rattle.up_store.specs.ReadAs.{FindsBoth, ReadsKept, ReadsLatest};
+ghost use Rattle.up_store.specs.Typed.{IsTypedVehicle};
+ghost use Rattle.up_store.specs.Within.{FindsWithin, MakesAndPuts, PutsWithin};
+ghost use Rattle.up_store.specs.Writes.{FitsAccepted, accept_writes, reported_writes};
 
-use crate::column_values::{check_places, count_in};
-use crate::ecus::make_ecus;
-use crate::kept_rows::{make_kept, read_kept};
-use crate::store::{Store, StoreFault, commit};
-use crate::vehicles::make_vehicle;
+use crate::column_values::{check_places, check_version};
+use crate::ecus::set_ecus;
+use crate::kept_rows::{KeptReading, make_plan, row_of};
+use crate::store::{Store, StoreFault, end};
+use crate::vehicles::{VehicleReading, row_of as vehicle_row_of};
 use sqlite::{Alter, Transaction};
 use std::alloc::Global;
 use up_canon::count::Count;
 use up_canon::ident::Ident;
 use up_machine::decision::AcceptedRows;
 use up_machine::rows::{Kept, VehicleRows};
-use up_tables::ecu::{EcuRow as EcuShown, upsert_ecus};
-use up_tables::kept::{KeptRow, insert_kept, kept as kept_shown};
-use up_tables::vehicle::{VehicleRow as VehicleShown, upsert_vehicle, vehicle as vehicle_shown};
+use up_tables::kept::{insert_kept, kept as kept_found};
+use up_tables::vehicle::{upsert_vehicle, vehicle as vehicle_shown};
 
 impl<D: Alter> Store<D> {
     /// The vehicle's row with this counter, none where there is none.
@@ -49,12 +37,8 @@ impl<D: Alter> Store<D> {
         vehicle: &Ident,
         counter: Count,
     ) -> Result<Option<Kept>, StoreFault>
-        ensures told { Answers (kept_with vehicle.now counter) (state D.Store self.old) (state D.Store self.new) result }
-        ensures shown { Finds kept_table 1 (ReadsKept vehicle.now counter) (state D.Store self.old) (state D.Store self.new) result }
-        ensures blame { Blames (state D.Store self.old) (state D.Store self.new) result }
-        ensures kept { IfClean (IsAsCommitted (state D.Store self.old)) (state D.Store self.new) }
-        ensures crash { Survives (state D.Store self.old) (state D.Store self.new) (λ _. ⊥) }
-        ensures open { NeedsOpen (state D.Store self.old) (state D.Store self.new) result }
+        ensures { ReadsStore (kept_with vehicle.now counter) (Finds kept_table 1 (ReadsKept vehicle.now counter))
+            (state D.Store self.old) (state D.Store self.new) result }
     {
         let mut tx = self.conn.transaction();
         find_kept(&mut tx, alloc, vehicle, counter)
@@ -62,12 +46,8 @@ impl<D: Alter> Store<D> {
 
     /// The vehicle's row with its greatest counter, none of an unknown vehicle and before its first manifest.
     pub fn latest(&mut self, alloc: Global, vehicle: &Ident) -> Result<Option<Kept>, StoreFault>
-        ensures told { Answers (latest_kept vehicle.now) (state D.Store self.old) (state D.Store self.new) result }
-        ensures shown { FindsBoth vehicle_table 1 kept_table 1 (ReadsLatest vehicle.now) (state D.Store self.old) (state D.Store self.new) result }
-        ensures blame { Blames (state D.Store self.old) (state D.Store self.new) result }
-        ensures kept { IfClean (IsAsCommitted (state D.Store self.old)) (state D.Store self.new) }
-        ensures crash { Survives (state D.Store self.old) (state D.Store self.new) (λ _. ⊥) }
-        ensures open { NeedsOpen (state D.Store self.old) (state D.Store self.new) result }
+        ensures { ReadsStore (latest_kept vehicle.now) (FindsBoth vehicle_table 1 kept_table 1
+            (ReadsLatest vehicle.now)) (state D.Store self.old) (state D.Store self.new) result }
     {
         let mut tx = self.conn.transaction();
         find_latest(&mut tx, alloc, vehicle)
@@ -75,91 +55,58 @@ impl<D: Alter> Store<D> {
 
     /// Writes an accepted manifest: its vehicle's row, what its ECUs reported, and the row that is kept for it.
     pub fn write_accept(&mut self, alloc: Global, new: &AcceptedRows) -> Result<(), StoreFault>
-        ensures written { TakesRows (IsRecorded new.now) (λ rows. with_accepted_rows rows new.now)
-            (state D.Store self.old) (state D.Store self.new) result }
-        ensures durable { CommitsRows (IsRecorded new.now) (λ rows. with_accepted_rows rows new.now)
-            (state D.Store self.old) (state D.Store self.new) result }
-        ensures kept { OnErr result (IfClean (IsAsCommitted (state D.Store self.old)) (state D.Store self.new)) }
-        ensures crash { SparesRows (IsRecorded new.now) (λ rows. with_accepted_rows rows new.now) (state D.Store self.old) (state D.Store self.new) }
-        ensures clean { HasCleanDisk (state D.Store self.new) → HasCleanDisk (state D.Store self.old) }
-        ensures open { NeedsOpen (state D.Store self.old) (state D.Store self.new) result }
-        ensures ran { RanWrite (accept_writes new.now) (state D.Store self.old) (state D.Store self.new) result }
-        ensures handed { HandsBack (vehicle_lines (Some new.now.vehicle)) (state D.Store self.old) (state D.Store self.new) result }
-        ensures blame { BlamesWrite (accept_writes new.now) (λ rows. IsRecorded new.now rows × FitsAccepted new.now)
-            (state D.Store self.old) (state D.Store self.new) result }
+        ensures { WritesStore (IsRecorded new.now) (λ rows. with_accepted_rows rows new.now) (accept_writes new.now)
+            (λ rows. IsRecorded new.now rows × FitsAccepted new.now) (state D.Store self.old)
+            (state D.Store self.new) result }
     {
         let mut tx = self.conn.transaction();
-        if let Err(fault) = put_accepted(&mut tx, alloc, new) {
-            return Err(fault);
-        }
-        commit(tx)
+        let put = put_accepted(&mut tx, alloc, new);
+        end(tx, put)
     }
 }
 
-/// Sets the rows of a vehicle, and keeps a manifest. All rows are made before the first is written.
+/// Sets the rows of a vehicle, and keeps a manifest.
 fn put_accepted<D: Alter>(
     tx: &mut Transaction<'_, D>,
     alloc: Global,
     new: &AcceptedRows,
 ) -> Result<(), StoreFault>
-    requires mode { IfClean IsInside (state D.Store tx.old.conn.now) }
-    ensures put { PutsRows (IsRecorded new.now) (λ rows. with_accepted_rows rows new.now)
-        (state D.Store tx.old.conn.now) (state D.Store tx.new.conn.now) result }
-    ensures ran { Ran (accept_writes new.now) (state D.Store tx.old.conn.now) (state D.Store tx.new.conn.now) result }
-    ensures handed { HandsBack (vehicle_lines (Some new.now.vehicle)) (state D.Store tx.old.conn.now) (state D.Store tx.new.conn.now) result }
-    ensures blame { BlamesOne (accept_writes new.now) (MayAccept new.now) (state D.Store tx.old.conn.now) (state D.Store tx.new.conn.now) result }
-    ensures memory { UndoesOrStays D.Store tx.old.conn tx.new.conn result }
-    ensures step { IsOpenStep D.Store tx.old.conn tx.new.conn result }
+    ensures { MakesAndPuts D.Store (PutsRows (IsRecorded new.now) (λ rows. with_accepted_rows rows new.now))
+        (accept_writes new.now) (MayAccept new.now) tx.old.conn tx.new.conn result }
 {
-    let vehicle = make_vehicle(alloc, &new.vehicle.vehicle)?;
-    let ecus = make_ecus(alloc, new.vehicle.ecus.as_slice())?;
-    check_places(ecus.len())?;
-    let kept = make_kept(alloc, &new.kept)?;
-    put_made(tx, new, &vehicle, ecus.as_slice(), &kept)
+    check_version(new.vehicle.vehicle.version)?;
+    check_places(new.vehicle.ecus.as_slice().len())?;
+    let plan = make_plan(alloc, &new.kept)?;
+    put_planned(tx, new, plan.as_str())
 }
 
-/// Sets and puts in the rows that were made of an accepted manifest, which takes no memory but the database's own.
-fn put_made<D: Alter>(
+/// The same with the column of its plan, which takes no memory but the database's own.
+fn put_planned<D: Alter>(
     tx: &mut Transaction<'_, D>,
     new: &AcceptedRows,
-    vehicle: &VehicleShown,
-    ecus: &[EcuShown],
-    kept: &KeptRow,
+    plan: &str,
 ) -> Result<(), StoreFault>
-    requires made { AreMadeOf new.now.vehicle vehicle.now ecus.now }
-    requires kept { IsMadeOfKept new.now.kept kept.now }
-    requires mode { IfClean IsInside (state D.Store tx.old.conn.now) }
-    ensures put { PutsRows (IsRecorded new.now) (λ rows. with_accepted_rows rows new.now)
-        (state D.Store tx.old.conn.now) (state D.Store tx.new.conn.now) result }
-    ensures ran { Ran (accept_writes new.now) (state D.Store tx.old.conn.now) (state D.Store tx.new.conn.now) result }
-    ensures handed { HandsBack (vehicle_lines (Some new.now.vehicle)) (state D.Store tx.old.conn.now) (state D.Store tx.new.conn.now) result }
-    ensures blame { BlamesOne (accept_writes new.now) (MayAccept new.now) (state D.Store tx.old.conn.now) (state D.Store tx.new.conn.now) result }
-    ensures memory { Undoes (state D.Store tx.new.conn.now) result }
-    ensures step { IsOpenStep D.Store tx.old.conn tx.new.conn result }
+    requires version { new.now.vehicle.vehicle.version < 2 ^ 63 }
+    requires few { length new.now.vehicle.ecus < 2 ^ 63 }
+    requires kept { IsMadeOfKept new.now.kept plan.now }
+    ensures { PutsWithin D.Store (PutsRows (IsRecorded new.now) (λ rows. with_accepted_rows rows new.now))
+        (accept_writes new.now) (MayAccept new.now) tx.old.conn tx.new.conn result }
 {
-    put_reported(tx, &new.vehicle, vehicle, ecus)?;
-    insert_kept(tx, kept)
+    put_reported(tx, &new.vehicle)?;
+    insert_kept(tx, &row_of(&new.kept, plan))
 }
 
 /// Sets the row of a vehicle that is there, and what its ECUs reported.
-fn put_reported<D: Alter>(
-    tx: &mut Transaction<'_, D>,
-    new: &VehicleRows,
-    vehicle: &VehicleShown,
-    ecus: &[EcuShown],
-) -> Result<(), StoreFault>
-    requires made { AreMadeOf new.now vehicle.now ecus.now }
-    requires mode { IfClean IsInside (state D.Store tx.old.conn.now) }
-    ensures put { PutsTables (IsReported new.now) (with_reported new.now) (state D.Store tx.old.conn.now) (state D.Store tx.new.conn.now) result }
-    ensures typed { OnOk result (AllByRecursion TellsItsHash new.now.ecus → IsTypedVehicle new.now.vehicle.vehicle new.now) }
-    ensures ran { Ran (reported_writes new.now) (state D.Store tx.old.conn.now) (state D.Store tx.new.conn.now) result }
-    ensures handed { HandsBack (vehicle_lines (Some new.now)) (state D.Store tx.old.conn.now) (state D.Store tx.new.conn.now) result }
-    ensures blame { BlamesOne (reported_writes new.now) (MayReport new.now) (state D.Store tx.old.conn.now) (state D.Store tx.new.conn.now) result }
-    ensures memory { Undoes (state D.Store tx.new.conn.now) result }
-    ensures step { IsOpenStep D.Store tx.old.conn tx.new.conn result }
+fn put_reported<D: Alter>(tx: &mut Transaction<'_, D>, new: &VehicleRows) -> Result<(), StoreFault>
+    requires version { new.now.vehicle.version < 2 ^ 63 }
+    requires few { length new.now.ecus < 2 ^ 63 }
+    ensures put { PutsWithin D.Store (PutsTables (IsReported new.now) (with_reported new.now)) (reported_writes new.now)
+        (MayReport new.now) tx.old.conn tx.new.conn result }
+    ensures typed { OnOk result (AllByRecursion TellsItsHash new.now.ecus
+        → IsTypedVehicle new.now.vehicle.vehicle new.now) }
 {
-    upsert_vehicle(tx, vehicle)?;
-    upsert_ecus(tx, new.vehicle.vehicle.text(), ecus)
+    upsert_vehicle(tx, &vehicle_row_of(&new.vehicle))?;
+    set_ecus(tx, &new.vehicle.vehicle, new.ecus.as_slice())
 }
 
 /// The vehicle's row with this counter.
@@ -169,79 +116,24 @@ fn find_kept<D: Alter>(
     vehicle: &Ident,
     counter: Count,
 ) -> Result<Option<Kept>, StoreFault>
-    requires mode { IfClean IsInside (state D.Store tx.old.conn.now) }
-    ensures found { FindsRows (kept_with vehicle.now counter) (state D.Store tx.old.conn.now) (state D.Store tx.new.conn.now) result }
-    ensures shown { Finds kept_table 1 (ReadsKept vehicle.now counter) (state D.Store tx.old.conn.now) (state D.Store tx.new.conn.now) result }
-    ensures blame { BlamesWithin (λ _. ⊤) (state D.Store tx.old.conn.now) (state D.Store tx.new.conn.now) result }
-    ensures open { NeedsOpen (state D.Store tx.old.conn.now) (state D.Store tx.new.conn.now) result }
-    ensures step { IsStep D.Store tx.old.conn tx.new.conn }
+    ensures { FindsWithin D.Store (λ rows found. found ≡ kept_with vehicle.now counter rows)
+        (Finds kept_table 1 (ReadsKept vehicle.now counter)) (λ _. ⊤) tx.old.conn tx.new.conn result }
 {
-    match kept_shown(tx, vehicle.text(), counter.get()) {
-        Ok(Some(shown)) => some_kept(alloc, shown),
-        Ok(None) => Ok(None),
-        Err(fault) => Err(fault),
-    }
+    kept_found::<D, KeptReading>(tx, alloc, vehicle.text(), counter.get())
 }
 
-/// A row as it stands in the table, read; of a row that stands for a kept manifest, `Memory` is the one fault.
-fn some_kept(alloc: Global, shown: KeptRow) -> Result<Option<Kept>, StoreFault>
-    ensures same { IfOk result (λ read. (vehicle : Name) (row : KeptData) → IsTypedKept vehicle row → IsKept shown row → read ≡ Some row) }
-    ensures told { IfOk result (λ read. IsSomeAnd read (IsReadKept shown)) }
-    ensures fault { (vehicle : Name) (row : KeptData) → IsTypedKept vehicle row → IsKept shown row
-        → IfErr result (λ fault. fault ≡ StoreFault.Memory) }
-{
-    match read_kept(alloc, shown) {
-        Ok(row) => Ok(Some(row)),
-        Err(fault) => Err(fault),
-    }
-}
-
-/// The vehicle's row with its greatest counter.
+/// The vehicle's row with its greatest counter, which its own row tells.
 fn find_latest<D: Alter>(
     tx: &mut Transaction<'_, D>,
     alloc: Global,
     vehicle: &Ident,
 ) -> Result<Option<Kept>, StoreFault>
-    requires mode { IfClean IsInside (state D.Store tx.old.conn.now) }
-    ensures found { FindsRows (latest_kept vehicle.now) (state D.Store tx.old.conn.now) (state D.Store tx.new.conn.now) result }
-    ensures shown { FindsBoth vehicle_table 1 kept_table 1 (ReadsLatest vehicle.now)
-        (state D.Store tx.old.conn.now) (state D.Store tx.new.conn.now) result }
-    ensures blame { BlamesWithin (λ _. ⊤) (state D.Store tx.old.conn.now) (state D.Store tx.new.conn.now) result }
-    ensures open { NeedsOpen (state D.Store tx.old.conn.now) (state D.Store tx.new.conn.now) result }
-    ensures step { IsStep D.Store tx.old.conn tx.new.conn }
+    ensures { FindsWithin D.Store (λ rows found. found ≡ latest_kept vehicle.now rows)
+        (FindsBoth vehicle_table 1 kept_table 1 (ReadsLatest vehicle.now)) (λ _. ⊤) tx.old.conn tx.new.conn result }
 {
-    match find_last(tx, vehicle) {
-        Ok(Some(last)) => find_kept(tx, alloc, vehicle, last),
+    match vehicle_shown::<D, VehicleReading>(tx, alloc, vehicle.text()) {
+        Ok(Some(row)) => find_kept(tx, alloc, vehicle, row.last),
         Ok(None) => Ok(None),
         Err(fault) => Err(fault),
     }
-}
-
-/// The vehicle's greatest counter, none of an unknown vehicle.
-fn find_last<D: Alter>(
-    tx: &mut Transaction<'_, D>,
-    vehicle: &Ident,
-) -> Result<Option<Count>, StoreFault>
-    requires mode { IfClean IsInside (state D.Store tx.old.conn.now) }
-    ensures found { FindsRows (last_found vehicle.now) (state D.Store tx.old.conn.now) (state D.Store tx.new.conn.now) result }
-    ensures shown { Finds vehicle_table 1 (ReadsLast vehicle.now) (state D.Store tx.old.conn.now) (state D.Store tx.new.conn.now) result }
-    ensures blame { BlamesWithin (λ _. ⊤) (state D.Store tx.old.conn.now) (state D.Store tx.new.conn.now) result }
-    ensures reads { OnlyReads (state D.Store tx.old.conn.now) (state D.Store tx.new.conn.now) result }
-    ensures inside { OnOk result (IfClean IsInside (state D.Store tx.new.conn.now)) }
-    ensures open { NeedsOpen (state D.Store tx.old.conn.now) (state D.Store tx.new.conn.now) result }
-    ensures step { IsStep D.Store tx.old.conn tx.new.conn }
-{
-    match vehicle_shown(tx, vehicle.text()) {
-        Ok(Some(shown)) => some_count(shown.last_counter),
-        Ok(None) => Ok(None),
-        Err(fault) => Err(fault),
-    }
-}
-
-/// A counter as it stands in the table, read.
-fn some_count(shown: u64) -> Result<Option<Count>, StoreFault>
-    ensures ok { IfOk result (λ read. read ≡ Some shown) }
-    ensures fault { IfErr result (λ fault. (fault ≡ StoreFault.Store) × (max_count < shown)) }
-{
-    Ok(Some(count_in(shown)?))
 }

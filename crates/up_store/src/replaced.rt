@@ -1,55 +1,34 @@
 //! An ECU that another one replaces.
-ghost use Rattle.std.specs.Prelude.{⊤, OnErr};
+ghost use Rattle.std.specs.Prelude.{⊤};
 ghost use Rattle.sqlite.specs.Held.{state};
-ghost use Rattle.sqlite.specs.State.{HasCleanDisk};
 ghost use Rattle.up_rows.specs.Changes.{with_replaced_rows};
+ghost use Rattle.up_store.specs.Connections.{PutsRows, WritesStore};
 ghost use Rattle.up_store.specs.Fitting.{IsReplacement};
-ghost use Rattle.up_tables.specs.Stands.{IfClean, IsAsCommitted, IsInside};
-ghost use Rattle.up_tables.specs.Statements.{IsOpenStep};
-ghost use Rattle.up_tables.specs.Tried.{BlamesOne, Ran, Undoes};
+ghost use Rattle.up_store.specs.Within.{PutsWithin};
 ghost use Rattle.up_store.specs.Writes.{replace_writes};
-ghost use Rattle.up_store.specs.Connections.{NeedsOpen, BlamesWrite, PutsRows, RanWrite, TakesRows, CommitsRows, SparesRows};
 
-use crate::store::{Store, StoreFault, commit};
+use crate::store::{Store, StoreFault, end};
 use sqlite::{Alter, Transaction};
-use std::alloc::Global;
 use up_machine::vehicle::Replacement;
 use up_tables::replace::replace_ecu;
 use up_tables::retired::insert_retired;
 
 impl<D: Alter> Store<D> {
     /// Puts an ECU, before its first report, in the place of one of its vehicle, whose identifier is retired.
-    pub fn write_replace(&mut self, alloc: Global, new: &Replacement) -> Result<(), StoreFault>
-        ensures written { TakesRows (IsReplacement new.now) (λ rows. with_replaced_rows rows new.now)
-            (state D.Store self.old) (state D.Store self.new) result }
-        ensures durable { CommitsRows (IsReplacement new.now) (λ rows. with_replaced_rows rows new.now)
-            (state D.Store self.old) (state D.Store self.new) result }
-        ensures kept { OnErr result (IfClean (IsAsCommitted (state D.Store self.old)) (state D.Store self.new)) }
-        ensures crash { SparesRows (IsReplacement new.now) (λ rows. with_replaced_rows rows new.now)
-            (state D.Store self.old) (state D.Store self.new) }
-        ensures clean { HasCleanDisk (state D.Store self.new) → HasCleanDisk (state D.Store self.old) }
-        ensures open { NeedsOpen (state D.Store self.old) (state D.Store self.new) result }
-        ensures ran { RanWrite (replace_writes new.now) (state D.Store self.old) (state D.Store self.new) result }
-        ensures blame { BlamesWrite (replace_writes new.now) (λ _. ⊤) (state D.Store self.old) (state D.Store self.new) result }
+    pub fn write_replace(&mut self, new: &Replacement) -> Result<(), StoreFault>
+        ensures { WritesStore (IsReplacement new.now) (λ rows. with_replaced_rows rows new.now) (replace_writes new.now)
+            (λ _. ⊤) (state D.Store self.old) (state D.Store self.new) result }
     {
-        let _ = alloc;
         let mut tx = self.conn.transaction();
-        if let Err(fault) = put_replaced(&mut tx, new) {
-            return Err(fault);
-        }
-        commit(tx)
+        let put = put_replaced(&mut tx, new);
+        end(tx, put)
     }
 }
 
 /// Puts the new ECU in the place of the old one, and retires the old one's identifier.
 fn put_replaced<D: Alter>(tx: &mut Transaction<'_, D>, new: &Replacement) -> Result<(), StoreFault>
-    requires mode { IfClean IsInside (state D.Store tx.old.conn.now) }
-    ensures put { PutsRows (IsReplacement new.now) (λ rows. with_replaced_rows rows new.now)
-        (state D.Store tx.old.conn.now) (state D.Store tx.new.conn.now) result }
-    ensures ran { Ran (replace_writes new.now) (state D.Store tx.old.conn.now) (state D.Store tx.new.conn.now) result }
-    ensures blame { BlamesOne (replace_writes new.now) (λ _. ⊤) (state D.Store tx.old.conn.now) (state D.Store tx.new.conn.now) result }
-    ensures memory { Undoes (state D.Store tx.new.conn.now) result }
-    ensures step { IsOpenStep D.Store tx.old.conn tx.new.conn result }
+    ensures { PutsWithin D.Store (PutsRows (IsReplacement new.now) (λ rows. with_replaced_rows rows new.now))
+        (replace_writes new.now) (λ _. ⊤) tx.old.conn tx.new.conn result }
 {
     replace_ecu(
         tx,

@@ -1,18 +1,11 @@
 //! The store: the tables of the two repositories over a connection to a database.
-ghost use Rattle.std.specs.Prelude.{◌≡◌, ◌≢◌, ◌⊎◌, true, false, Ok, Err, IfOk, IfErr, OnOk, OnErr, IsTrue};
+ghost use Rattle.std.specs.Prelude.{◌≡◌, ◌⊎◌, true, false, Ok, Err, IfOk, IfErr, OnOk};
 ghost use Rattle.std.specs.Result.{IsOk};
 ghost use Rattle.sqlite.specs.Held.{state};
-ghost use Rattle.sqlite.specs.State.{HasCleanDisk, Survives, IsRolledBack};
-ghost use Rattle.up_rows.specs.StateRows.{StateRows, no_rows};
-ghost use Rattle.up_tables.specs.Making.{FailsToMake, FailsToRaise, IsTaken, RaisesTo};
-ghost use Rattle.up_tables.specs.Ours.{NamesUs, NamesOthers, HasFailed, IsHindered};
-ghost use Rattle.up_tables.specs.Stands.{IfClean, IsInside, IsAsCommitted, LeavesOnly, HasNoTables};
 ghost use Rattle.up_tables.specs.declared.open.OpenFault.TheVariants.{NotOurs};
-ghost use Rattle.up_tables.specs.declared.open.OpenFault.TheVariants as Fault;
-ghost use Rattle.up_tables.specs.declared.open.SchemaVersion.{SchemaVersion};
 ghost use Rattle.up_tables.specs.Faults.{store_fault};
-ghost use Rattle.up_tables.specs.declared.values.StoreFault.TheVariants as StoreFault;
-ghost use Rattle.up_store.specs.Connections.{KeepsAs, KeepsRows, HoldsRows, MadeIn, RaisedRows, Commits};
+ghost use Rattle.up_store.specs.Opening.{Adopts, Creates, FailsToAdopt, FailsToCreate};
+ghost use Rattle.up_store.specs.Within.{EndsWrite};
 
 use sqlite::{Alter, Connection, Error, Transaction};
 use std::marker::Model;
@@ -56,18 +49,8 @@ impl<D: Alter> Store<D> {
     /// which nothing is founded. A fault hands the connection back as it was committed, with no transaction under way.
     pub fn create(mut conn: Connection<D>) -> Result<Store<D>, (Connection<D>, OpenFault)>
         requires { (state D.Store conn).in_transaction ≡ false }
-        ensures made { IfOk result (λ s. IfClean (KeepsRows no_rows) (state D.Store s)) }
-        ensures durable { IfOk result (λ s. IfClean (LeavesOnly (HoldsRows no_rows)) (state D.Store s)) }
-        ensures empty { IfOk result (λ s. HasCleanDisk (state D.Store s) → HasNoTables (state D.Store conn)) }
-        ensures full { IfErr result (λ e. IsTrue (state D.Store conn).is_open → ¬ HasNoTables (state D.Store conn) → e.1 ≡ Fault.Store) }
-        ensures cause { IfErr result (λ e. e.1 ≡ Fault.Store → HasCleanDisk (state D.Store e.0)
-            → FailsToMake (state D.Store conn) (state D.Store e.0)) }
-        ensures crash { IfOk result (λ s. Survives (state D.Store conn) (state D.Store s) (MadeIn (state D.Store conn))) }
-        ensures open { IfOk result (λ s. HasCleanDisk (state D.Store s) → IsTrue (state D.Store conn).is_open) }
-        ensures kept { IfErr result (λ e. IfClean (IsAsCommitted (state D.Store conn)) (state D.Store e.0)) }
-        ensures crash_err { IfErr result (λ e. Survives (state D.Store conn) (state D.Store e.0) (MadeIn (state D.Store conn))) }
-        ensures fault { IfErr result (λ e. e.1 ≢ NotOurs) }
-        ensures mode { IfErr result (λ e. (state D.Store e.0).in_transaction ≡ false) }
+        ensures made { IfOk result (λ s. Creates (state D.Store conn) (state D.Store s)) }
+        ensures fault { IfErr result (λ e. FailsToCreate (state D.Store conn) (state D.Store e.0) e.1) }
     {
         match create_tables(&mut conn) {
             Ok(()) => Ok(Store { conn }),
@@ -83,22 +66,8 @@ impl<D: Alter> Store<D> {
     /// it was committed, with no transaction under way.
     pub fn adopt(mut conn: Connection<D>) -> Result<Store<D>, (Connection<D>, OpenFault)>
         requires { (state D.Store conn).in_transaction ≡ false }
-        ensures ours { IfOk result (λ s. HasCleanDisk (state D.Store s) → NamesUs (state D.Store conn)) }
-        ensures taken { IfOk result (λ s. (version : SchemaVersion) (rows : StateRows)
-            → IfClean (KeepsAs version rows) (state D.Store conn) → IfClean (KeepsRows rows) (state D.Store s)) }
-        ensures ran { IfOk result (λ s. HasCleanDisk (state D.Store s) → IsTaken (state D.Store conn) (state D.Store s)) }
-        ensures crash { IfOk result (λ s. Survives (state D.Store conn) (state D.Store s)
-            (λ trees. RaisedRows (state D.Store conn) trees × RaisesTo (state D.Store conn) trees)) }
-        ensures open { IfOk result (λ s. HasCleanDisk (state D.Store s) → IsTrue (state D.Store conn).is_open) }
-        ensures kept_err { IfErr result (λ e. IfClean (IsAsCommitted (state D.Store conn)) (state D.Store e.0)) }
-        ensures others { IfErr result (λ e. e.1 ≡ NotOurs → HasCleanDisk (state D.Store e.0) → NamesOthers (state D.Store conn)) }
-        ensures never { IfErr result (λ e. HasCleanDisk (state D.Store e.0)
-            → (version : SchemaVersion) (rows : StateRows) → IfClean (KeepsAs version rows) (state D.Store conn) → e.1 ≢ NotOurs) }
-        ensures cause { IfErr result (λ e. e.1 ≡ Fault.Store → HasCleanDisk (state D.Store e.0)
-            → IsHindered (state D.Store conn) (state D.Store e.0) ⊎ FailsToRaise (state D.Store conn)) }
-        ensures crash_err { IfErr result (λ e. Survives (state D.Store conn) (state D.Store e.0)
-            (λ trees. RaisedRows (state D.Store conn) trees × RaisesTo (state D.Store conn) trees)) }
-        ensures mode { IfErr result (λ e. (state D.Store e.0).in_transaction ≡ false) }
+        ensures taken { IfOk result (λ s. Adopts (state D.Store conn) (state D.Store s)) }
+        ensures fault { IfErr result (λ e. FailsToAdopt (state D.Store conn) (state D.Store e.0) e.1) }
     {
         match taken(take_tables(&mut conn)) {
             Ok(()) => Ok(Store { conn }),
@@ -127,18 +96,18 @@ fn taken(took: Result<bool, OpenFault>) -> Result<(), OpenFault>
     }
 }
 
-/// Commits what a transaction wrote. A fault rolls it back.
-pub(crate) fn commit<D: Alter>(tx: Transaction<'_, D>) -> Result<(), StoreFault>
-    requires mode { IfClean IsInside (state D.Store tx.conn.now) }
-    ensures ended { tx.exit.0.now.in_transaction ≡ false }
-    ensures committed { OnOk result (IfClean (Commits (state D.Store tx.entry.conn.now)) (state D.Store tx.exit.0.now)) }
-    ensures undone { OnErr result (IfClean (IsRolledBack (state D.Store tx.entry.conn.now)) (state D.Store tx.exit.0.now)) }
-    ensures cause { HasCleanDisk (state D.Store tx.exit.0.now) → IfErr result (λ fault. fault ≡ StoreFault.Store
-        → HasFailed (state D.Store tx.entry.conn.now) (state D.Store tx.exit.0.now)) }
-    ensures survives { Survives (state D.Store tx.entry.conn.now) (state D.Store tx.exit.0.now)
-        (λ trees. trees ≡ (state D.Store tx.entry.conn.now).now.trees) }
+/// Ends a write after its step: what was put is committed. A fault, of the step or of the commit, undoes it.
+pub(crate) fn end<D: Alter>(
+    tx: Transaction<'_, D>,
+    put: Result<(), StoreFault>,
+) -> Result<(), StoreFault>
+    ensures mode { tx.exit.0.now.in_transaction ≡ false }
+    ensures ends { EndsWrite put (state D.Store tx.entry.conn.now) (state D.Store tx.exit.0.now) result }
 {
-    committed(tx.commit())
+    match put {
+        Ok(()) => committed(tx.commit()),
+        Err(fault) => Err(fault),
+    }
 }
 
 /// Whether a commit went through, and else what is told of its error.

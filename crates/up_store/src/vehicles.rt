@@ -1,41 +1,61 @@
 //! Vehicles and their ECUs.
-ghost use Rattle.std.specs.Prelude.{◌≡◌, ⊤, OnErr, OnOk, IfOk, Some, string_bytes};
+ghost use Rattle.std.specs.Prelude.{◌≡◌, ◌<◌, ◌^◌, ⊤, IfOk, IfErr, Some, false, string_bytes};
 ghost use Rattle.sqlite.specs.Held.{state};
-ghost use Rattle.sqlite.specs.State.{HasCleanDisk, Survives};
-ghost use Rattle.up_rows.specs.Changes.{with_vehicle_rows};
-ghost use Rattle.up_store.specs.Fitting.{IsNewVehicle};
-ghost use Rattle.std.specs.Prelude.{◌↔◌, ◌<◌, ◌≤◌, ◌^◌, true, false, Err, IfErr};
-ghost use Rattle.up_canon.specs.Canon.{max_count};
 ghost use Rattle.up_canon.specs.Names.{is_ident};
+ghost use Rattle.up_rows.specs.Changes.{with_vehicle_rows};
+ghost use Rattle.up_rows.specs.Lookups.{last_owner, owner_found};
+ghost use Rattle.up_tables.specs.Forms.{FitVehicle};
+ghost use Rattle.up_tables.specs.Statements.{Finds};
+ghost use Rattle.up_tables.specs.Tables.{ecu_table, retired_table, vehicle_table};
 ghost use Rattle.up_tables.specs.declared.values.StoreFault.TheVariants as StoreFault;
+ghost use Rattle.up_store.specs.Connections.{PutsRows, ReadsStore, WritesStore};
+ghost use Rattle.up_store.specs.Fitting.{IsNewVehicle};
+ghost use Rattle.up_store.specs.Found.{vehicle_found, ecus_found};
 ghost use Rattle.up_store.specs.ReadAs.{FindsBoth, ReadsEcus, ReadsOwner, ReadsVehicle, StandsIn};
 ghost use Rattle.up_store.specs.Shown.{vehicle_read};
 ghost use Rattle.up_store.specs.Typed.{IsTypedVehicleRow};
-ghost use Rattle.up_rows.specs.Lookups.{last_owner, owner_found};
-ghost use Rattle.up_store.specs.Found.{vehicle_found, ecus_found};
-ghost use Rattle.up_tables.specs.Stands.{IfClean, IsAsCommitted, IsInside};
-ghost use Rattle.up_tables.specs.Statements.{IsStep, IsOpenStep, Finds};
-ghost use Rattle.up_tables.specs.Tables.{ecu_table, retired_table, vehicle_table};
-ghost use Rattle.up_tables.specs.Tried.{BlamesOne, Ran, Undoes};
+ghost use Rattle.up_store.specs.Within.{FindsWithin, MakesAndPuts};
 ghost use Rattle.up_store.specs.Writes.{FitsVehicle, vehicle_writes};
-ghost use Rattle.up_tables.specs.Forms.{FitVehicle};
-ghost use Rattle.up_store.specs.Connections.{NeedsOpen, Answers, FindsRows, Blames, BlamesWithin, PutsRows, TakesRows, CommitsRows, SparesRows};
-ghost use Rattle.up_store.specs.Connections.{BlamesWrite, RanWrite, UndoesOrStays};
-ghost use Rattle.up_store.specs.Puts.{AreMadeOf};
 
-use crate::column_values::{check_places, count_in, ident_in};
-use crate::ecus::{make_ecus, read_ecus};
-use crate::store::{MOST_NUMBER, Store, StoreFault, commit};
-use sqlite::{Alter, Transaction};
+use crate::column_values::{check_places, check_version, count_at, ident_at, ident_in};
+use crate::ecus::{EcuReading, add_ecus};
+use crate::store::{Store, StoreFault, end};
+use sqlite::{Alter, Row, Transaction};
 use std::alloc::Global;
 use up_canon::ident::Ident;
 use up_canon::listed::Listed;
 use up_machine::rows::{EcuRow, VehicleRow, VehicleRows};
-use up_tables::ecu::{
-    EcuRow as EcuShown, ecu_owner as owner_shown, ecus as ecus_shown, insert_ecus,
-};
+use up_tables::ecu::{ecu_owner as owner_shown, ecus as ecus_shown};
+use up_tables::reading::RowReading;
 use up_tables::retired::retired_owner;
+use up_tables::values::number_at;
 use up_tables::vehicle::{VehicleRow as VehicleShown, insert_vehicle, vehicle as vehicle_shown};
+
+/// How a row of `vehicle` is read.
+pub struct VehicleReading;
+
+impl RowReading for VehicleReading {
+    ghost use Rattle.up_store.specs.Lines.{row_of_vehicle};
+    ghost use Rattle.up_store.specs.ReadAs.{SaysVehicle};
+    ghost use Rattle.up_store.specs.Typed.{IsTypedVehicleRow};
+
+    type Item = VehicleRow;
+
+    ghost says = { SaysVehicle };
+
+    ghost fits = { IsTypedVehicleRow };
+
+    ghost line = { row_of_vehicle };
+
+    fn read(_: Global, row: &Row) -> Result<VehicleRow, StoreFault> {
+        Ok(VehicleRow {
+            vehicle: ident_at(row, 0)?,
+            primary: ident_at(row, 1)?,
+            version: number_at(row, 2)?,
+            last: count_at(row, 3)?,
+        })
+    }
+}
 
 impl<D: Alter> Store<D> {
     /// The vehicle's row, none of an unknown vehicle.
@@ -44,98 +64,52 @@ impl<D: Alter> Store<D> {
         alloc: Global,
         vehicle: &Ident,
     ) -> Result<Option<VehicleRow>, StoreFault>
-        ensures told { Answers (vehicle_found vehicle.now) (state D.Store self.old) (state D.Store self.new) result }
-        ensures shown { Finds vehicle_table 1 (ReadsVehicle vehicle.now) (state D.Store self.old) (state D.Store self.new) result }
-        ensures blame { Blames (state D.Store self.old) (state D.Store self.new) result }
-        ensures kept { IfClean (IsAsCommitted (state D.Store self.old)) (state D.Store self.new) }
-        ensures crash { Survives (state D.Store self.old) (state D.Store self.new) (λ _. ⊥) }
-        ensures open { NeedsOpen (state D.Store self.old) (state D.Store self.new) result }
+        ensures { ReadsStore (vehicle_found vehicle.now) (Finds vehicle_table 1 (ReadsVehicle vehicle.now))
+            (state D.Store self.old) (state D.Store self.new) result }
     {
-        let _ = alloc;
         let mut tx = self.conn.transaction();
-        find_vehicle(&mut tx, vehicle)
+        find_vehicle(&mut tx, alloc, vehicle)
     }
 
     /// The vehicle's ECUs in inventory order; empty of an unknown vehicle.
     pub fn ecus(&mut self, alloc: Global, vehicle: &Ident) -> Result<Listed<EcuRow>, StoreFault>
-        ensures told { Answers (ecus_found vehicle.now) (state D.Store self.old) (state D.Store self.new) result }
-        ensures shown { Finds ecu_table 2 (ReadsEcus vehicle.now) (state D.Store self.old) (state D.Store self.new) result }
-        ensures blame { Blames (state D.Store self.old) (state D.Store self.new) result }
-        ensures kept { IfClean (IsAsCommitted (state D.Store self.old)) (state D.Store self.new) }
-        ensures crash { Survives (state D.Store self.old) (state D.Store self.new) (λ _. ⊥) }
-        ensures open { NeedsOpen (state D.Store self.old) (state D.Store self.new) result }
+        ensures { ReadsStore (ecus_found vehicle.now) (Finds ecu_table 2 (ReadsEcus vehicle.now))
+            (state D.Store self.old) (state D.Store self.new) result }
     {
         let mut tx = self.conn.transaction();
         find_ecus(&mut tx, alloc, vehicle)
     }
 
     /// The vehicle in which the ECU stands, else the one in which an ECU of the name was replaced; none of an unknown ECU.
-    pub fn ecu_owner(&mut self, alloc: Global, ecu: &Ident) -> Result<Option<Ident>, StoreFault>
-        ensures told { Answers (owner_found ecu.now) (state D.Store self.old) (state D.Store self.new) result }
-        ensures shown { FindsBoth ecu_table 2 retired_table 2 (ReadsOwner ecu.now) (state D.Store self.old) (state D.Store self.new) result }
-        ensures blame { Blames (state D.Store self.old) (state D.Store self.new) result }
-        ensures kept { IfClean (IsAsCommitted (state D.Store self.old)) (state D.Store self.new) }
-        ensures crash { Survives (state D.Store self.old) (state D.Store self.new) (λ _. ⊥) }
-        ensures open { NeedsOpen (state D.Store self.old) (state D.Store self.new) result }
+    pub fn ecu_owner(&mut self, ecu: &Ident) -> Result<Option<Ident>, StoreFault>
+        ensures { ReadsStore (owner_found ecu.now) (FindsBoth ecu_table 2 retired_table 2 (ReadsOwner ecu.now))
+            (state D.Store self.old) (state D.Store self.new) result }
     {
-        let _ = alloc;
         let mut tx = self.conn.transaction();
         find_owner(&mut tx, ecu)
     }
 
     /// Writes a vehicle whose name is new, with its ECUs.
-    pub fn write_vehicle(&mut self, alloc: Global, new: &VehicleRows) -> Result<(), StoreFault>
-        ensures written { TakesRows (IsNewVehicle new.now) (λ rows. with_vehicle_rows rows new.now)
-            (state D.Store self.old) (state D.Store self.new) result }
-        ensures durable { CommitsRows (IsNewVehicle new.now) (λ rows. with_vehicle_rows rows new.now)
-            (state D.Store self.old) (state D.Store self.new) result }
-        ensures kept { OnErr result (IfClean (IsAsCommitted (state D.Store self.old)) (state D.Store self.new)) }
-        ensures crash { SparesRows (IsNewVehicle new.now) (λ rows. with_vehicle_rows rows new.now) (state D.Store self.old) (state D.Store self.new) }
-        ensures clean { HasCleanDisk (state D.Store self.new) → HasCleanDisk (state D.Store self.old) }
-        ensures open { NeedsOpen (state D.Store self.old) (state D.Store self.new) result }
-        ensures ran { RanWrite (vehicle_writes new.now) (state D.Store self.old) (state D.Store self.new) result }
-        ensures blame { BlamesWrite (vehicle_writes new.now) (λ _. FitsVehicle new.now)
-            (state D.Store self.old) (state D.Store self.new) result }
+    pub fn write_vehicle(&mut self, new: &VehicleRows) -> Result<(), StoreFault>
+        ensures { WritesStore (IsNewVehicle new.now) (λ rows. with_vehicle_rows rows new.now) (vehicle_writes new.now)
+            (λ _. FitsVehicle new.now) (state D.Store self.old) (state D.Store self.new) result }
     {
         let mut tx = self.conn.transaction();
-        if let Err(fault) = put_vehicle(&mut tx, alloc, new) {
-            return Err(fault);
-        }
-        commit(tx)
+        let put = put_vehicle(&mut tx, new);
+        end(tx, put)
     }
 }
 
 /// The vehicle's row.
 fn find_vehicle<D: Alter>(
     tx: &mut Transaction<'_, D>,
+    alloc: Global,
     vehicle: &Ident,
 ) -> Result<Option<VehicleRow>, StoreFault>
-    requires mode { IfClean IsInside (state D.Store tx.old.conn.now) }
-    ensures found { FindsRows (vehicle_found vehicle.now) (state D.Store tx.old.conn.now) (state D.Store tx.new.conn.now) result }
-    ensures shown { Finds vehicle_table 1 (ReadsVehicle vehicle.now) (state D.Store tx.old.conn.now) (state D.Store tx.new.conn.now) result }
-    ensures blame { BlamesWithin (λ _. ⊤) (state D.Store tx.old.conn.now) (state D.Store tx.new.conn.now) result }
-    ensures open { NeedsOpen (state D.Store tx.old.conn.now) (state D.Store tx.new.conn.now) result }
-    ensures step { IsStep D.Store tx.old.conn tx.new.conn }
+    ensures { FindsWithin D.Store (λ rows found. found ≡ vehicle_found vehicle.now rows)
+        (Finds vehicle_table 1 (ReadsVehicle vehicle.now)) (λ _. ⊤) tx.old.conn tx.new.conn result }
 {
-    match vehicle_shown(tx, vehicle.text()) {
-        Ok(Some(shown)) => read_vehicle(shown),
-        Ok(None) => Ok(None),
-        Err(fault) => Err(fault),
-    }
-}
-
-/// A row as it stands in the table, read.
-fn read_vehicle(shown: VehicleShown) -> Result<Option<VehicleRow>, StoreFault>
-    ensures ok { IfOk result (λ read. read ≡ Some (vehicle_read shown)) }
-    ensures fault { IfErr result (λ fault. (fault ≡ StoreFault.Store)
-        × (is_ident (string_bytes shown.vehicle) ≡ true → is_ident (string_bytes shown.primary_ecu) ≡ true → max_count < shown.last_counter)) }
-{
-    Ok(Some(VehicleRow {
-        vehicle: ident_in(shown.vehicle)?,
-        primary: ident_in(shown.primary_ecu)?,
-        version: shown.version,
-        last: count_in(shown.last_counter)?,
-    }))
+    vehicle_shown::<D, VehicleReading>(tx, alloc, vehicle.text())
 }
 
 /// The vehicle's ECUs.
@@ -144,15 +118,11 @@ fn find_ecus<D: Alter>(
     alloc: Global,
     vehicle: &Ident,
 ) -> Result<Listed<EcuRow>, StoreFault>
-    requires mode { IfClean IsInside (state D.Store tx.old.conn.now) }
-    ensures found { FindsRows (ecus_found vehicle.now) (state D.Store tx.old.conn.now) (state D.Store tx.new.conn.now) result }
-    ensures shown { Finds ecu_table 2 (ReadsEcus vehicle.now) (state D.Store tx.old.conn.now) (state D.Store tx.new.conn.now) result }
-    ensures blame { BlamesWithin (λ _. ⊤) (state D.Store tx.old.conn.now) (state D.Store tx.new.conn.now) result }
-    ensures open { NeedsOpen (state D.Store tx.old.conn.now) (state D.Store tx.new.conn.now) result }
-    ensures step { IsStep D.Store tx.old.conn tx.new.conn }
+    ensures { FindsWithin D.Store (λ rows found. found ≡ ecus_found vehicle.now rows)
+        (Finds ecu_table 2 (ReadsEcus vehicle.now)) (λ _. ⊤) tx.old.conn tx.new.conn result }
 {
-    match ecus_shown(tx, alloc, vehicle.text()) {
-        Ok(shown) => read_ecus(alloc, shown),
+    match ecus_shown::<D, EcuReading>(tx, alloc, vehicle.text()) {
+        Ok(ecus) => Ok(Listed::new(ecus)),
         Err(fault) => Err(fault),
     }
 }
@@ -162,16 +132,11 @@ fn find_owner<D: Alter>(
     tx: &mut Transaction<'_, D>,
     ecu: &Ident,
 ) -> Result<Option<Ident>, StoreFault>
-    requires mode { IfClean IsInside (state D.Store tx.old.conn.now) }
-    ensures found { FindsRows (owner_found ecu.now) (state D.Store tx.old.conn.now) (state D.Store tx.new.conn.now) result }
-    ensures shown { FindsBoth ecu_table 2 retired_table 2 (ReadsOwner ecu.now)
-        (state D.Store tx.old.conn.now) (state D.Store tx.new.conn.now) result }
-    ensures blame { BlamesWithin (λ _. ⊤) (state D.Store tx.old.conn.now) (state D.Store tx.new.conn.now) result }
-    ensures open { NeedsOpen (state D.Store tx.old.conn.now) (state D.Store tx.new.conn.now) result }
-    ensures step { IsStep D.Store tx.old.conn tx.new.conn }
+    ensures { FindsWithin D.Store (λ rows found. found ≡ owner_found ecu.now rows)
+        (FindsBoth ecu_table 2 retired_table 2 (ReadsOwner ecu.now)) (λ _. ⊤) tx.old.conn tx.new.conn result }
 {
     match owner_shown(tx, ecu.text()) {
-        Ok(Some(shown)) => read_owner(shown),
+        Ok(Some(shown)) => name_of(shown),
         Ok(None) => find_retired(tx, ecu),
         Err(fault) => Err(fault),
     }
@@ -182,22 +147,18 @@ fn find_retired<D: Alter>(
     tx: &mut Transaction<'_, D>,
     ecu: &Ident,
 ) -> Result<Option<Ident>, StoreFault>
-    requires mode { IfClean IsInside (state D.Store tx.old.conn.now) }
-    ensures found { FindsRows (last_owner ecu.now) (state D.Store tx.old.conn.now) (state D.Store tx.new.conn.now) result }
-    ensures shown { Finds retired_table 2 (StandsIn ecu.now) (state D.Store tx.old.conn.now) (state D.Store tx.new.conn.now) result }
-    ensures blame { BlamesWithin (λ _. ⊤) (state D.Store tx.old.conn.now) (state D.Store tx.new.conn.now) result }
-    ensures open { NeedsOpen (state D.Store tx.old.conn.now) (state D.Store tx.new.conn.now) result }
-    ensures step { IsStep D.Store tx.old.conn tx.new.conn }
+    ensures { FindsWithin D.Store (λ rows found. found ≡ last_owner ecu.now rows)
+        (Finds retired_table 2 (StandsIn ecu.now)) (λ _. ⊤) tx.old.conn tx.new.conn result }
 {
     match retired_owner(tx, ecu.text()) {
-        Ok(Some(last)) => read_owner(last),
+        Ok(Some(last)) => name_of(last),
         Ok(None) => Ok(None),
         Err(fault) => Err(fault),
     }
 }
 
-/// A name as it stands in the table, read.
-fn read_owner(shown: String) -> Result<Option<Ident>, StoreFault>
+/// A name as it stands in the table.
+fn name_of(shown: String) -> Result<Option<Ident>, StoreFault>
     ensures ok { IfOk result (λ read. read ≡ Some (string_bytes shown)) }
     ensures fault { IfErr result (λ fault. (fault ≡ StoreFault.Store) × (is_ident (string_bytes shown) ≡ false)) }
 {
@@ -208,61 +169,27 @@ fn read_owner(shown: String) -> Result<Option<Ident>, StoreFault>
 }
 
 /// Puts in a vehicle with its ECUs.
-fn put_vehicle<D: Alter>(
-    tx: &mut Transaction<'_, D>,
-    alloc: Global,
-    new: &VehicleRows,
-) -> Result<(), StoreFault>
-    requires mode { IfClean IsInside (state D.Store tx.old.conn.now) }
-    ensures put { PutsRows (IsNewVehicle new.now) (λ rows. with_vehicle_rows rows new.now)
-        (state D.Store tx.old.conn.now) (state D.Store tx.new.conn.now) result }
-    ensures ran { Ran (vehicle_writes new.now) (state D.Store tx.old.conn.now) (state D.Store tx.new.conn.now) result }
-    ensures blame { BlamesOne (vehicle_writes new.now) (λ _. FitsVehicle new.now)
-        (state D.Store tx.old.conn.now) (state D.Store tx.new.conn.now) result }
-    ensures memory { UndoesOrStays D.Store tx.old.conn tx.new.conn result }
-    ensures step { IsOpenStep D.Store tx.old.conn tx.new.conn result }
+fn put_vehicle<D: Alter>(tx: &mut Transaction<'_, D>, new: &VehicleRows) -> Result<(), StoreFault>
+    ensures { MakesAndPuts D.Store (PutsRows (IsNewVehicle new.now) (λ rows. with_vehicle_rows rows new.now))
+        (vehicle_writes new.now) (λ _. FitsVehicle new.now) tx.old.conn tx.new.conn result }
 {
-    let vehicle = make_vehicle(alloc, &new.vehicle)?;
-    let ecus = make_ecus(alloc, new.ecus.as_slice())?;
-    check_places(ecus.len())?;
-    insert_made(tx, new, &vehicle, ecus.as_slice())
+    check_version(new.vehicle.version)?;
+    check_places(new.ecus.as_slice().len())?;
+    insert_vehicle(tx, &row_of(&new.vehicle))?;
+    add_ecus(tx, &new.vehicle.vehicle, new.ecus.as_slice())
 }
 
-/// Puts in the rows that were made of a vehicle and its ECUs, which takes no memory but the database's own.
-fn insert_made<D: Alter>(
-    tx: &mut Transaction<'_, D>,
-    new: &VehicleRows,
-    vehicle: &VehicleShown,
-    ecus: &[EcuShown],
-) -> Result<(), StoreFault>
-    requires made { AreMadeOf new.now vehicle.now ecus.now }
-    requires mode { IfClean IsInside (state D.Store tx.old.conn.now) }
-    ensures put { PutsRows (IsNewVehicle new.now) (λ rows. with_vehicle_rows rows new.now)
-        (state D.Store tx.old.conn.now) (state D.Store tx.new.conn.now) result }
-    ensures ran { Ran (vehicle_writes new.now) (state D.Store tx.old.conn.now) (state D.Store tx.new.conn.now) result }
-    ensures blame { BlamesOne (vehicle_writes new.now) (λ _. FitsVehicle new.now)
-        (state D.Store tx.old.conn.now) (state D.Store tx.new.conn.now) result }
-    ensures memory { Undoes (state D.Store tx.new.conn.now) result }
-    ensures step { IsOpenStep D.Store tx.old.conn tx.new.conn result }
+/// The row of a vehicle, whose version fits its column.
+pub(crate) fn row_of<'a>(row: &'a VehicleRow) -> VehicleShown<'a>
+    requires version { row.now.version < 2 ^ 63 }
+    ensures same { vehicle_read result ≡ row.now }
+    ensures fit { FitVehicle result }
+    ensures typed { IsTypedVehicleRow row.now }
 {
-    insert_vehicle(tx, vehicle)?;
-    insert_ecus(tx, new.vehicle.vehicle.text(), ecus)
-}
-
-/// The row of a vehicle as it stands in the table; `Store` where its version is 2^63 or more.
-pub(crate) fn make_vehicle(alloc: Global, row: &VehicleRow) -> Result<VehicleShown, StoreFault>
-    ensures same { IfOk result (λ made. vehicle_read made ≡ row.now) }
-    ensures fit { IfOk result FitVehicle }
-    ensures typed { OnOk result (IsTypedVehicleRow row.now) }
-    ensures large { (result ≡ Err StoreFault.Store) ↔ (2 ^ 63 ≤ row.now.version) }
-{
-    if row.version > MOST_NUMBER {
-        return Err(StoreFault::Store);
-    }
-    Ok(VehicleShown {
-        vehicle: row.vehicle.text().to_string(alloc)?,
-        primary_ecu: row.primary.text().to_string(alloc)?,
+    VehicleShown {
+        vehicle: row.vehicle.text(),
+        primary_ecu: row.primary.text(),
         version: row.version,
         last_counter: row.last.get(),
-    })
+    }
 }

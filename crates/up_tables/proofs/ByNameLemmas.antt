@@ -1,45 +1,27 @@
 -- Tables that list rows by name: a row is put in, and all are read.
-use Rattle.std.proofs.Common.{◌≡◌, ℕ, suc, List, [], ◌∷◌, ◌++◌, map, filter, Bool, true, false, cond, if◌then◌else◌, Option, Ok, Err, Result, OnOk, IfOk, IfErr, ◌⊎◌, refl, sym, ap, subst, ◌∙◌, drop, append-nil, bytes_eq}
+use Rattle.std.proofs.Common.{◌≡◌, ℕ, List, [], ◌∷◌, ◌++◌, map, filter, Bool, true, false, cond, if◌then◌else◌, Ok, Err, Result, OnOk, refl, sym, ap, subst, ◌∙◌, drop, append-nil, bytes_eq}
 use Rattle.std.specs.List.{AllByRecursion}
-use Rattle.std.specs.List.Sorted.{IsPermutation}
 use Rattle.std.specs.Ordering.{is_eq}
 use Rattle.sqlite.specs.declared.types.Value.{Value}
 use Rattle.sqlite.specs.declared.types.Value.TheVariants.{Int, Text}
 use Rattle.sqlite.specs.declared.error.Error.{Error}
-use Rattle.sqlite.specs.Order.{Row, column, value_cmp}
-use Rattle.sqlite.specs.Term.{Term, eval_all}
-use Rattle.sqlite.specs.Program.{overlay}
-use Rattle.std.proofs.Math.Bool.{and-true}
-use Rattle.std.specs.Option.{option_to_list}
+use Rattle.sqlite.specs.Order.{Row, value_cmp}
 use Rattle.sqlite.specs.Edit.{next_rowid}
-use Rattle.sqlite.specs.State.{State, HasCleanDisk, Shown, FailsToQuery, IsTooLate}
+use Rattle.sqlite.specs.State.{State}
 use Rattle.sqlite.specs.Table.{Table}
-use Rattle.sqlite.specs.Tree.{Trees, put_row, IsTable}
+use Rattle.sqlite.specs.Tree.{put_row}
 use Rattle.sqlite_trees.specs.View.{IsShaped}
 use Rattle.sqlite_trees.specs.declared.store.Shape.TheVariants.{Table as TableShape}
-use Rattle.sqlite_catalog.specs.Listing.{IsSound}
-use Rattle.sqlite_keyed.proofs.ListLemmas.{all_map, all_weaker}
 use Rattle.sqlite_rules.specs.Lists.{Has}
 use Rattle.sqlite_rules.proofs.ListLemmas.{all_has, all_from, has_filtered, has_kept}
 use Rattle.sqlite_rules.proofs.ProbeLemmas.{mapped_has, has_mapped}
-use Rattle.up_tables.specs.Faults.{store_fault}
-use Rattle.up_tables.specs.Kinds.{ShowsOne}
 use Rattle.up_tables.specs.Rows.{bare, has_text, rows_with, with_row}
 use Rattle.up_tables.specs.Stands.{Lists, ListsAll, Alters, HasTables}
-use Rattle.up_tables.specs.Statements.{BlamesDisk, HoldsBy}
 use Rattle.up_tables.proofs.AppendLemmas.{appended, shaped_next, put_next}
 use Rattle.up_tables.proofs.EcuRows.{column_after, text_is, own_text}
 use Rattle.up_tables.proofs.OthersLemmas.{alters_to}
-use Rattle.up_tables.proofs.AnswerLemmas.{over, equals_text}
-use Rattle.up_tables.proofs.EcuUpsert.{equals}
-use Rattle.up_tables.proofs.BlameLemmas.{Takes, blames, shown_one}
-use Rattle.up_tables.proofs.ReadLemmas.{Asks, bare_filter, answers_some, by_rowid}
+use Rattle.up_tables.proofs.ReadLemmas.{bare_filter}
 use Rattle.up_tables.proofs.TypedLemmas.{HasTextAt}
-use Rattle.up_tables.proofs.StateLemmas.{one_in, each_in, ok_then}
-use Rattle.up_tables.specs.Tables.{up_schema}
-use Rattle.up_tables.specs.declared.values.StoreFault.{StoreFault}
-use Rattle.up_tables.specs.declared.values.StoreFault.TheVariants.{Store}
-use Rattle.std.specs.Result.{IsOkAnd}
 use Rattle.std.proofs.lemmas.List.{map-append}
 
 -- ---- a row is put in
@@ -73,37 +55,6 @@ added_in table row old new (Ok count) h = λ all has lists. alters_to table _ _ 
       every = ap bare (is ∙ put_next (old.now.trees table.tree) row lists.shaped) ∙ map-append (drop 1) (old.now.trees table.tree) (_ ∷ []) ∙ ap (λ xs. xs ++ row ∷ []) lists.every;
     }) (h has)
 
--- ---- the row of a name is read
-
--- a query by the text in a column, that shows all columns
-module _ {X T : Type 0} (items : X → List Row) (table : Table) (at : ℕ) (sql : List ℕ) (shown : List Term) (names : List (List ℕ)) (part : Row → Row) (values : T → Row) (name : List ℕ)
-    (is : Asks up_schema sql (over table.tree (equals (suc at) 0 ∷ []) shown []) names) (base : (db : Trees) → overlay db [] table.tree ≡ db table.tree) (shows : (r : Row) → eval_all shown ((Text name ∷ []) ∷ r ∷ []) ≡ part (drop 1 r)) (whole : (r : Row) → part (part r) ≡ part r) where
-  test : (x : Row) → has_text (suc at) name x ≡ has_text at name (drop 1 x)
-  test x = ap (λ v. is_eq (value_cmp v (Text name))) (column_after x at)
-
-  -- the rows of that name
-  its_rows : (rows_of : List ℕ → List Row) (rows : List Row) → Lists (suc at) rows_of rows → rows_of name ≡ filter (has_text at name) (bare rows)
-  its_rows rows_of rows lists = sym (lists.parts name) ∙ bare_filter (has_text (suc at) name) (has_text at name) test rows
-
-  its_answer : (old new : State) (rows : List Row) → old.now.schema ≡ up_schema → Shown sql (Text name ∷ []) old new rows → IsPermutation (map part (filter (has_text at name) (bare (old.now.trees table.tree)))) rows
-  its_answer old new = answers_some up_schema sql table.tree (equals (suc at) 0 ∷ []) shown names (Text name ∷ []) (has_text at name) part (λ x. and-true _ ∙ equals_text (column x (suc at)) name ∙ test x) shows base is old new
-
-  pub named_in : (answer : Result X Error) (r : Result (Option T) StoreFault) (old new : State) → IfOk r (λ found. IsOkAnd answer (λ v. map part (items v) ≡ map values (option_to_list found)))
-      → IfOk answer (λ v. Shown sql (Text name ∷ []) old new (items v))
-      → IfOk r (λ found. (rows_of : List ℕ → List Row) → HasTables old → Lists (suc at) rows_of (old.now.trees table.tree) → map part (rows_of name) ≡ map values (option_to_list found))
-  named_in answer r old new h ran =
-      ok_then _ _ r (λ found it rows_of has lists. ap (map part) (its_rows rows_of (old.now.trees table.tree) lists) ∙ it has)
-      (one_in items part part whole values sql (Text name ∷ []) old new (filter (has_text at name) (bare (old.now.trees table.tree))) answer r (its_answer old new) h ran)
-
-  -- it tells `Store` only by a fault of the disk, where that name has one row at most, of the right kinds
-  pub named_blames : (S : Row → Type 0) → ((r : Row) → S r → S (part r)) → Takes sql (Text name ∷ []) (over table.tree (equals (suc at) 0 ∷ []) shown []) → (answer : Result X Error) (r : Result (Option T) StoreFault) (old new : State)
-      → IfErr answer (λ e. r ≡ Err (store_fault e)) → IfOk answer (λ v. IfErr r (λ fault. fault ≡ Store → ¬ ShowsOne S (items v)))
-      → (HasCleanDisk new → IfOk answer (λ v. Shown sql (Text name ∷ []) old new (items v))) → (HasCleanDisk new → IfErr answer (λ e. FailsToQuery sql (Text name ∷ []) old new e ⊎ IsTooLate sql (Text name ∷ []) old new e))
-      → BlamesDisk (HoldsBy table (suc at) (λ rows_of. ShowsOne S (rows_of name))) old new r
-  named_blames S keeps takes answer r old new =
-      blames items sql (Text name ∷ []) table.tree (equals (suc at) 0 ∷ []) shown [] names is takes answer r old new (HoldsBy table (suc at) (λ rows_of. ShowsOne S (rows_of name))) (ShowsOne S)
-      (λ ready holds rows h. shown_one part S S keeps _ rows (its_answer old new rows ready.here.schema_is h) (subst (ShowsOne S) (its_rows holds.0 (old.now.trees table.tree) holds.1) holds.2))
-
 -- ---- all rows are read
 
 filter_swap : {A : Type 0} (p q : A → Bool) (xs : List A) → filter p (filter q xs) ≡ filter q (filter p xs)
@@ -116,7 +67,7 @@ filter_swap p q (x ∷ xs) = go (p x) (q x) refl refl (filter_swap p q xs)
     go false true e f h = rw e h
     go false false e f h = h
 
-map_filter : {A B : Type 0} (f : A → B) (p : A → Bool) (q : B → Bool) → ((x : A) → q (f x) ≡ p x) → (xs : List A) → map f (filter p xs) ≡ filter q (map f xs)
+pub map_filter : {A B : Type 0} (f : A → B) (p : A → Bool) (q : B → Bool) → ((x : A) → q (f x) ≡ p x) → (xs : List A) → map f (filter p xs) ≡ filter q (map f xs)
 map_filter f p q same [] = refl
 map_filter f p q same (x ∷ xs) = rw (same x) (go (p x) (map_filter f p q same xs))
   where
@@ -138,18 +89,6 @@ pub filter_true : {A : Type 0} (xs : List A) → filter (λ _. true) xs ≡ xs
 filter_true [] = refl
 filter_true (x ∷ xs) = ap (λ ys. x ∷ ys) (filter_true xs)
 
--- a query on the whole table, by rowid, whose rows are told apart by their first column
-module _ {X R T : Type 0} (items : X → List Row) (list : R → List T) (table : Table) (sql : List ℕ) (part : Row → Row) (values : T → Row) (name_of : T → List ℕ) (q : Row → Bool) (whole : (r : Row) → part (part r) ≡ part r)
-    (keeps : (r : Row) (n : List ℕ) → has_text 0 n (part r) ≡ has_text 0 n r) (named : (x : T) (n : List ℕ) → has_text 0 n (values x) ≡ bytes_eq (name_of x) n) where
-  pub all_in : (answer : Result X Error) (r : Result R StoreFault) (old new : State)
-      → ((shown : List Row) → old.now.schema ≡ up_schema → IsTable (old.now.trees table.tree) → Shown sql [] old new shown → shown ≡ map part (filter q (bare (old.now.trees table.tree))))
-      → IfOk r (λ found. IsOkAnd answer (λ v. map part (items v) ≡ map values (list found))) → IfOk answer (λ v. Shown sql [] old new (items v))
-      → IfOk r (λ found. (rows_of : List ℕ → List Row) → HasTables old → Lists 1 rows_of (old.now.trees table.tree)
-      → (name : List ℕ) → map part (filter q (rows_of name)) ≡ map values (filter (λ x. bytes_eq (name_of x) name) (list found)))
-  all_in answer r old new answers h ran =
-      ok_then _ _ r (λ found is rows_of has lists name. named_parts part values name_of q (old.now.trees table.tree) rows_of (list found) keeps named lists (is lists.shaped has) name)
-      (each_in items part part whole values sql [] old new (IsShaped TableShape (old.now.trees table.tree)) list (filter q (bare (old.now.trees table.tree))) answer r (λ shown shaped has. answers shown has shaped.0) h ran)
-
 -- all rows that pass are of some kind, where those of each name are, and each row has a name
 pub each_named : (S : Row → Type 0) (q : Row → Bool) (rows_of : List ℕ → List Row) (rows : List Row) → Lists 1 rows_of rows → AllByRecursion (HasTextAt 1) rows → ((name : List ℕ) → AllByRecursion S (filter q (rows_of name)))
     → AllByRecursion S (filter q (bare rows))
@@ -164,18 +103,3 @@ each_named S q rows_of rows lists texts each = all_from S (filter q (bare rows))
 
     named : (x : Row) → Has (bare rows) x × (q x ≡ true) → S x
     named x h = let r = has_mapped (drop 1) rows x h.0 in subst S (sym r.2) (of_row r.0 r.1 (sym (ap q r.2) ∙ h.1))
-
--- a read of a whole table by rowid tells `Store` only by a fault of the disk, where the rows of each name are of the right kinds
-module _ {X R : Type 0} (items : X → List Row) (table : Table) (sql : List ℕ) (part : Row → Row) (q : Row → Bool) (S : Row → Type 0) (keeps : (r : Row) → S r → S (part r)) (tests shown : List Term) (names : List (List ℕ))
-    (is : Asks up_schema sql (over table.tree tests shown by_rowid) names) (takes : Takes sql [] (over table.tree tests shown by_rowid)) where
-  pub all_blames : ((old new : State) (rows : List Row) → old.now.schema ≡ up_schema → IsTable (old.now.trees table.tree) → Shown sql [] old new rows → rows ≡ map part (filter q (bare (old.now.trees table.tree))))
-      → ((db : Trees) → IsSound up_schema db → AllByRecursion (HasTextAt 1) (db table.tree)) → (answer : Result X Error) (r : Result R StoreFault) (old new : State)
-      → IfErr answer (λ e. r ≡ Err (store_fault e)) → IfOk answer (λ v. IfErr r (λ fault. fault ≡ Store → ¬ AllByRecursion S (items v)))
-      → (HasCleanDisk new → IfOk answer (λ v. Shown sql [] old new (items v))) → (HasCleanDisk new → IfErr answer (λ e. FailsToQuery sql [] old new e ⊎ IsTooLate sql [] old new e))
-      → BlamesDisk (HoldsBy table 1 (λ rows_of. (name : List ℕ) → AllByRecursion S (filter q (rows_of name)))) old new r
-  all_blames answers texts answer r old new =
-      blames items sql [] table.tree tests shown by_rowid names is takes answer r old new (HoldsBy table 1 (λ rows_of. (name : List ℕ) → AllByRecursion S (filter q (rows_of name)))) (AllByRecursion S)
-      (λ ready holds rows h.
-      let sound : IsSound up_schema old.now.trees = subst (λ s. IsSound s old.now.trees) ready.here.schema_is ready.here.sound in
-      let all = each_named S q holds.0 (old.now.trees table.tree) holds.1 (texts old.now.trees sound) holds.2 in
-      subst (AllByRecursion S) (sym (answers old new rows ready.here.schema_is holds.1.shaped.0 h)) (all_map S part _ (all_weaker S (λ x. S (part x)) keeps _ all)))

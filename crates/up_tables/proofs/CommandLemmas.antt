@@ -1,5 +1,5 @@
 -- Of which kind a statement is, whatever tables there are, if it is a statement there at all: one that writes rows, or a query.
-use Rattle.std.proofs.Common.{◌≡◌, ℕ, List, [], Bool, true, false, if◌then◌else◌, ◌==◌, length, Option, None, Some, Ok, Err, IfOk, refl}
+use Rattle.std.proofs.Common.{◌≡◌, ℕ, List, [], Bool, true, false, if◌then◌else◌, ◌==◌, length, Option, None, Ok, Err, IfOk, refl}
 use Rattle.sqlite.specs.Listing.{understood, if_select, is_select, listing_schema, reads_listing}
 use Rattle.sqlite.specs.Schema.{Schema}
 use Rattle.sqlite_ast.specs.declared.Conflict.TheVariants as conflict

@@ -61,9 +61,6 @@ sets_in r old new e kept survives inside ran clean = then_ok r sets (run_in upse
 
 -- ---- one after another
 
-other_name : (key n : List ℕ) → bytes_eq n key ≡ false → has_text 0 key (Text n ∷ []) ≡ false
-other_name key n h = text_is n key ∙ h
-
 -- rows with other names stay
 untouched : (key : List ℕ) (row : Row) (es : List EcuLine) → AllByRecursion (λ f. bytes_eq f.ecu key ≡ false) es → swapped 0 key row (map ecu_row es) ≡ map ecu_row es
 untouched key row [] all = refl

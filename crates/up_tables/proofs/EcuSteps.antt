@@ -4,10 +4,9 @@ use Rattle.std.specs.List.{AllByRecursion, list_all}
 use Rattle.std.specs.List.Sorted.{IsPermutation}
 use Rattle.sqlite.specs.declared.types.Value.{Value}
 use Rattle.sqlite.specs.declared.types.Value.TheVariants.{Null, Int, Text, Real, Blob}
-use Rattle.sqlite.specs.Order.{Row, column, value_cmp}
+use Rattle.sqlite.specs.Order.{Row, column}
 use Rattle.sqlite.specs.Term.{eval_all, holds}
-use Rattle.sqlite.specs.Cast.{cast_row}
-use Rattle.sqlite.specs.Edit.{edit_of, edited, with_rowid, next_rowid, taken_by}
+use Rattle.sqlite.specs.Edit.{next_rowid}
 use Rattle.sqlite.specs.Effect.{Database, Answers, IsDatabase}
 use Rattle.sqlite.specs.Rows.{Written, Task, Tries, Updates, shown}
 use Rattle.sqlite.specs.State.{State, Executes}

@@ -1,36 +1,25 @@
 -- Files that are served: one after another is set, and one is read.
-use Rattle.std.proofs.Common.{◌≡◌, ◌≤◌, ◌+◌, suc, take, slice_get, arith, ℕ, List, [], ◌∷◌, ◌++◌, map, filter, Bool, true, false, ◌&&◌, if◌then◌else◌, length, Some, Result, IfOk, Option, refl, sym, ap, subst, ◌∙◌, codes, string_bytes, bytes_eq, drop, ◌⊎◌, Err, IfErr}
-use Rattle.std.specs.Option.{option_to_list}
-use Rattle.std.specs.Result.{IsOkAnd}
+use Rattle.std.proofs.Common.{◌≡◌, ◌≤◌, ◌+◌, suc, take, slice_get, arith, ℕ, List, [], ◌∷◌, ◌++◌, map, filter, Bool, true, false, ◌&&◌, if◌then◌else◌, length, Some, refl, sym, ap, subst, ◌∙◌, codes, bytes_eq, drop}
 use Rattle.std.proofs.Math.Bool.{and-true}
+use Rattle.std.specs.List.Sorted.{IsPermutation}
 use Rattle.sqlite.specs.declared.types.Value.TheVariants.{Text}
-use Rattle.sqlite.specs.declared.error.Error.{Error}
 use Rattle.sqlite.specs.Order.{Row, column}
 use Rattle.sqlite.specs.Listing.{understood}
-use Rattle.sqlite.specs.State.{State, Shown, HasCleanDisk, FailsToQuery, IsTooLate}
+use Rattle.sqlite.specs.State.{State}
 use Rattle.sqlite_tied.specs.Compute.{everything}
 use Rattle.up_tables.specs.Texts.{find_file_text}
-use Rattle.up_tables.specs.Rows.{bare, columns_at, has_text}
-use Rattle.up_tables.specs.Stands.{IsInside, Alters, HasTables}
-use Rattle.up_tables.specs.declared.values.StoreFault.{StoreFault}
+use Rattle.up_tables.specs.Rows.{bare, columns_at, has_text, has_texts, with_only_at}
+use Rattle.up_tables.specs.Stands.{IsInside, Alters, HasTables, ListsPairs, IsOpen}
 use Rattle.up_tables.proofs.AnswerLemmas.{over, all_columns, equals_text}
 use Rattle.up_tables.proofs.EcuRows.{column_after}
 use Rattle.up_tables.proofs.EcuUpsert.{equals}
 use Rattle.up_tables.specs.Tables.{up_schema, repo_file_table}
-use Rattle.up_tables.specs.Rows.{has_texts, with_only_at}
 use Rattle.up_tables.specs.Forms.{file_row, file_places, set_files}
-use Rattle.up_tables.specs.Stands.{ListsPairs, IsOpen}
 use Rattle.up_tables.specs.declared.repo_file.FileRow.{FileRow}
 use Rattle.up_tables.proofs.EcuInserts.{take_next, take_whole}
 use Rattle.up_tables.proofs.OthersLemmas.{alters_to, alters_none, has_after, alters_then}
 use Rattle.up_tables.proofs.ReadLemmas.{Asks, answers_some, bare_filter}
-use Rattle.up_tables.proofs.StateLemmas.{one_in, ok_then}
-use Rattle.std.specs.List.Sorted.{IsPermutation}
-use Rattle.up_tables.specs.Faults.{store_fault}
-use Rattle.up_tables.specs.declared.values.StoreFault.TheVariants.{Store}
-use Rattle.up_tables.specs.Statements.{BlamesDisk, HoldsOfFiles}
-use Rattle.up_tables.specs.Kinds.{ShowsOne, ShowsFile}
-use Rattle.up_tables.proofs.BlameLemmas.{Takes, blames, shown_one}
+use Rattle.up_tables.proofs.StoredLemmas.{IsQueryIn}
 
 -- ---- one after another
 
@@ -48,25 +37,25 @@ one_few first second row rows_of few m n = go (bytes_eq first m && bytes_eq seco
 
 all_few : (fs : List FileRow) (rows_of : List ℕ → List ℕ → List Row) → ((m n : List ℕ) → length (rows_of m n) ≤ 1) → (m n : List ℕ) → length (set_files fs rows_of m n) ≤ 1
 all_few [] rows_of few = few
-all_few (f ∷ fs) rows_of few = all_few fs (with_only_at (string_bytes f.repository) (string_bytes f.name) (file_row f) rows_of) (one_few (string_bytes f.repository) (string_bytes f.name) (file_row f) rows_of few)
+all_few (f ∷ fs) rows_of few = all_few fs (with_only_at f.repository.now f.name.now (file_row f) rows_of) (one_few f.repository.now f.name.now (file_row f) rows_of few)
 
-set_last : (fs : List FileRow) (f : FileRow) (rows_of : List ℕ → List ℕ → List Row) → set_files (fs ++ f ∷ []) rows_of ≡ with_only_at (string_bytes f.repository) (string_bytes f.name) (file_row f) (set_files fs rows_of)
+set_last : (fs : List FileRow) (f : FileRow) (rows_of : List ℕ → List ℕ → List Row) → set_files (fs ++ f ∷ []) rows_of ≡ with_only_at f.repository.now f.name.now (file_row f) (set_files fs rows_of)
 set_last [] f rows_of = refl
-set_last (x ∷ fs) f rows_of = set_last fs f (with_only_at (string_bytes x.repository) (string_bytes x.name) (file_row x) rows_of)
+set_last (x ∷ fs) f rows_of = set_last fs f (with_only_at x.repository.now x.name.now (file_row x) rows_of)
 
 pub none_set : (fs : List FileRow) (s : State) → IsInside s → IsOpen s → SetSoFar fs 0 s s
 none_set fs s inside is_open rows_of has lists few = alters_none repo_file_table _ s inside is_open has lists
 
 pub next_set : (fs : List FileRow) (i : ℕ) (f : FileRow) (old mid new : State) → slice_get fs i ≡ Some f → SetSoFar fs i old mid
-    → ((rows_of : List ℕ → List ℕ → List Row) → HasTables mid → ListsPairs rows_of (mid.now.trees repo_file_table.tree) → length (rows_of (string_bytes f.repository) (string_bytes f.name)) ≤ 1
-    → Alters repo_file_table (ListsPairs (with_only_at (string_bytes f.repository) (string_bytes f.name) (file_row f) rows_of)) mid new)
+    → ((rows_of : List ℕ → List ℕ → List Row) → HasTables mid → ListsPairs rows_of (mid.now.trees repo_file_table.tree) → length (rows_of f.repository.now f.name.now) ≤ 1
+    → Alters repo_file_table (ListsPairs (with_only_at f.repository.now f.name.now (file_row f) rows_of)) mid new)
     → SetSoFar fs (i + 1) old new
 next_set fs i f old mid new there so_far sets rows_of has lists few =
     let before = so_far rows_of has lists few in
     let after = sets (set_files (take i fs) rows_of) (has_after repo_file_table _ old mid before) before.rows (all_few (take i fs) rows_of few _ _) in
     let next : suc i ≡ i + 1 = omega arith in
     let same : take (suc i) fs ≡ take (i + 1) fs = ap (λ k. take k fs) next in
-    let all : with_only_at (string_bytes f.repository) (string_bytes f.name) (file_row f) (set_files (take i fs) rows_of) ≡ set_files (take (i + 1) fs) rows_of =
+    let all : with_only_at f.repository.now f.name.now (file_row f) (set_files (take i fs) rows_of) ≡ set_files (take (i + 1) fs) rows_of =
     sym (set_last (take i fs) f rows_of) ∙ ap (λ xs. set_files xs rows_of) (take_next i fs f there ∙ same) in
     alters_to repo_file_table _ _ old new (subst (λ g. ListsPairs g (new.now.trees repo_file_table.tree)) all) (alters_then repo_file_table _ _ old mid new before after)
 
@@ -84,7 +73,7 @@ part = columns_at file_places
 abbrev names : List (List ℕ)
 names = codes "repository" ∷ codes "name" ∷ codes "body" ∷ []
 
-pub find_is : Asks up_schema find_file_text (over 3 (equals 1 0 ∷ equals 2 1 ∷ []) (all_columns 3) []) names
+find_is : Asks up_schema find_file_text (over repo_file_table.tree (equals 1 0 ∷ equals 2 1 ∷ []) (all_columns 3) []) names
 unfolding understood everything
 find_is = (refl, refl, (refl, refl), refl)
 
@@ -96,31 +85,13 @@ its_rows repository name rows_of rows lists =
     let test : (x : Row) → has_texts 1 repository 2 name x ≡ its repository name (drop 1 x) = λ x. rw (column_after x 0, column_after x 1) refl in
     sym (lists.parts repository name) ∙ bare_filter (has_texts 1 repository 2 name) (its repository name) test rows
 
-its_answer : (repository name : List ℕ) (old new : State) (rows : List Row) → old.now.schema ≡ up_schema → Shown find_file_text (Text repository ∷ Text name ∷ []) old new rows
-    → IsPermutation (map part (filter (its repository name) (bare (old.now.trees repo_file_table.tree)))) rows
-its_answer repository name = answers_some up_schema find_file_text 3 (equals 1 0 ∷ equals 2 1 ∷ []) (all_columns 3) names (Text repository ∷ Text name ∷ []) (its repository name) part
-    (λ x. rw (equals_text (column x 1) repository, equals_text (column x 2) name, column_after x 0, column_after x 1) (ap (λ b. has_text 0 repository (drop 1 x) && b) (and-true _)))
-    (λ x. rw (column_after x 0, column_after x 1, column_after x 2) refl) (λ db. refl) find_is
-
-pub finds_file : {X : Type 0} (items : X → List Row) (answer : Result X Error) (r : Result (Option FileRow) StoreFault) (old new : State) (repository name : List ℕ)
-    → IfOk r (λ found. IsOkAnd answer (λ v. map part (items v) ≡ map file_row (option_to_list found))) → IfOk answer (λ v. Shown find_file_text (Text repository ∷ Text name ∷ []) old new (items v))
-    → IfOk r (λ found. (rows_of : List ℕ → List ℕ → List Row) → HasTables old → ListsPairs rows_of (old.now.trees repo_file_table.tree) → map part (rows_of repository name) ≡ map file_row (option_to_list found))
-finds_file items answer r old new repository name h ran =
-    ok_then _ _ r (λ found is rows_of has lists. ap (map part) (its_rows repository name rows_of (old.now.trees repo_file_table.tree) lists) ∙ is has)
-    (one_in items part part (λ x. refl) file_row find_file_text (Text repository ∷ Text name ∷ []) old new (filter (its repository name) (bare (old.now.trees repo_file_table.tree))) answer r (its_answer repository name old new) h ran)
-
--- ---- faults of the read
-
-find_file_takes : (repository name : List ℕ) → Takes find_file_text (Text repository ∷ Text name ∷ []) (over 3 (equals 1 0 ∷ equals 2 1 ∷ []) (all_columns 3) [])
+pub file_found : (repository name : List ℕ) → IsQueryIn ListsPairs find_file_text (Text repository ∷ Text name ∷ []) repo_file_table (λ rows_of. map part (rows_of repository name)) (equals 1 0 ∷ equals 2 1 ∷ []) (all_columns 3) names
 unfolding understood everything
-find_file_takes repository name = (refl, refl, λ trees h. absurd (let e = h in cc))
-
-pub find_file_blames : {X R : Type 0} (items : X → List Row) (answer : Result X Error) (r : Result R StoreFault) (old new : State) (repository name : List ℕ)
-    → IfErr answer (λ e. r ≡ Err (store_fault e)) → IfOk answer (λ v. IfErr r (λ fault. fault ≡ Store → ¬ ShowsOne ShowsFile (items v)))
-    → (HasCleanDisk new → IfOk answer (λ v. Shown find_file_text (Text repository ∷ Text name ∷ []) old new (items v)))
-    → (HasCleanDisk new → IfErr answer (λ e. FailsToQuery find_file_text (Text repository ∷ Text name ∷ []) old new e ⊎ IsTooLate find_file_text (Text repository ∷ Text name ∷ []) old new e))
-    → BlamesDisk (HoldsOfFiles (λ rows_of. ShowsOne ShowsFile (rows_of repository name))) old new r
-find_file_blames items answer r old new repository name =
-    blames items find_file_text (Text repository ∷ Text name ∷ []) 3 (equals 1 0 ∷ equals 2 1 ∷ []) (all_columns 3) [] names find_is (find_file_takes repository name) answer r old new (HoldsOfFiles (λ rows_of. ShowsOne ShowsFile (rows_of repository name))) (ShowsOne ShowsFile)
-    (λ ready holds rows h. shown_one part ShowsFile ShowsFile (λ x k. k) _ rows (its_answer repository name old new rows ready.here.schema_is h)
-    (subst (ShowsOne ShowsFile) (its_rows repository name holds.0 (old.now.trees repo_file_table.tree) holds.1) holds.2))
+file_found repository name = record {
+  asks = find_is;
+  takes = (refl, refl, λ trees h. absurd (let e = h in cc));
+  answers = λ old new rows_of rows has lists h. subst (λ xs. IsPermutation (map part xs) rows) (sym (its_rows repository name rows_of (old.now.trees repo_file_table.tree) lists))
+      (answers_some up_schema find_file_text repo_file_table.tree (equals 1 0 ∷ equals 2 1 ∷ []) (all_columns 3) names (Text repository ∷ Text name ∷ []) (its repository name) part
+      (λ x. rw (equals_text (column x 1) repository, equals_text (column x 2) name, column_after x 0, column_after x 1) (ap (λ b. has_text 0 repository (drop 1 x) && b) (and-true _)))
+      (λ x. rw (column_after x 0, column_after x 1, column_after x 2) refl) (λ db. refl) find_is old new rows has h);
+}

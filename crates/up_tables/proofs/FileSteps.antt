@@ -1,8 +1,8 @@
 -- What the upsert of a file's row does.
 use Rattle.std.proofs.Common.{◌≡◌, ◌≢◌, ◌≤◌, inl, inr, arith, ℕ, ℤ, List, [], ◌∷◌, ◌++◌, map, filter, Bool, true, false, ◌&&◌, if◌then◌else◌, length, Some, Ok, Result, OnOk, Option, IsTrue, refl, sym, ap, subst, ◌∙◌, append-nil, bytes_eq, drop}
 use Rattle.std.specs.Ordering.{is_eq}
-use Rattle.std.proofs.Math.Bool.{and-true}
-use Rattle.sqlite.specs.declared.types.Value.TheVariants.{Null, Int, Text, Blob}
+use Rattle.std.proofs.Math.Bool.{and-true, or-false}
+use Rattle.sqlite.specs.declared.types.Value.TheVariants.{Null, Int, Text, Blob, Real}
 use Rattle.sqlite.specs.declared.error.Error.{Error}
 use Rattle.sqlite.specs.Order.{Row, column, value_cmp}
 use Rattle.sqlite.specs.Term.{Term, col, eval_all, holds}
@@ -14,18 +14,16 @@ use Rattle.sqlite.specs.State.{State, HasCleanDisk, Survives, Executes, Executes
 use Rattle.sqlite.proofs.Callers.{IsPlain, command_of, one_step, one_permutation}
 use Rattle.sqlite_tied.specs.Compute.{everything}
 use Rattle.sqlite_schema.specs.declared.schema.Keys.TheVariants.{Enforced}
-use Rattle.up_tables.specs.Rows.{bare, has_text}
-use Rattle.up_tables.specs.Stands.{IfClean, IsInside, Alters, HasTables}
-use Rattle.up_tables.proofs.AnswerLemmas.{over, given, equals_text, equals_int}
+use Rattle.up_tables.specs.Rows.{bare, has_text, has_texts, with_only_at}
+use Rattle.up_tables.specs.Stands.{IfClean, IsInside, Alters, HasTables, ListsPairs}
+use Rattle.up_tables.proofs.AnswerLemmas.{over, given, equals_text, equals_int, answer_is, shows_passing}
 use Rattle.up_tables.proofs.Casts.{cast_int, cast_null}
-use Rattle.up_tables.proofs.EcuRows.{text_is}
+use Rattle.up_tables.proofs.EcuRows.{text_is, same_text}
 use Rattle.up_tables.proofs.EcuUpsert.{equals}
 use Rattle.std.specs.List.{AllByRecursion, list_all}
 use Rattle.std.specs.List.Sorted.{IsPermutation}
-use Rattle.std.proofs.Math.Bool.{or-false}
 use Rattle.sqlite.specs.declared.types.Value.{Value}
-use Rattle.sqlite.specs.declared.types.Value.TheVariants.{Real}
-use Rattle.sqlite.specs.Edit.{edit_of, edited, with_rowid, next_rowid, taken_by}
+use Rattle.sqlite.specs.Edit.{edit_of, next_rowid, taken_by}
 use Rattle.sqlite.specs.Effect.{Answers, Database, IsDatabase}
 use Rattle.sqlite.specs.Rowids.TheVariants.{Given}
 use Rattle.sqlite.specs.Rows.{Written, Task, Upserts, Puts, Edited, Clears, Updates, shown as shown_row}
@@ -44,12 +42,8 @@ use Rattle.sqlite_value.proofs.OrderLemmas.{value_cmp-apart}
 use Rattle.sqlite_value.specs.Keys.{first_key}
 use Rattle.up_tables.specs.Tables.{up_schema, repo_file_table}
 use Rattle.up_tables.specs.Texts.{upsert_file_text}
-use Rattle.up_tables.specs.Rows.{has_texts, with_only_at}
-use Rattle.up_tables.specs.Stands.{ListsPairs}
-use Rattle.up_tables.proofs.AnswerLemmas.{answer_is, shows_passing}
 use Rattle.up_tables.proofs.AppendLemmas.{appended_by, shaped_next}
 use Rattle.up_tables.proofs.CreateLemmas.{went, same_value}
-use Rattle.up_tables.proofs.EcuRows.{same_text}
 use Rattle.up_tables.proofs.EcuSteps.{with_id}
 use Rattle.up_tables.proofs.OnlyLemmas.{rewritten_shaped, part_in, part_out}
 use Rattle.up_tables.proofs.RunLemmas.{IsRun, run_in, then_ok, run_alters, idle}

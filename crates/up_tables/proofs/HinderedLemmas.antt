@@ -1,13 +1,12 @@
 -- Why the query on `meta` was not answered.
-use Rattle.std.proofs.Common.{◌≡◌, ◌≢◌, ◌⊎◌, ◌≤◌, inl, inr, ℕ, List, [], Option, None, Ok, Err, Result, IfErr, IsSome, Bool, true, false, refl, sym, ap, subst, ◌∙◌, arith}
+use Rattle.std.proofs.Common.{◌≡◌, ◌⊎◌, inl, inr, ℕ, List, [], Option, None, Ok, Err, Result, IfErr, IsSome, Bool, true, false, refl, sym, ap, subst, ◌∙◌}
 use Rattle.std.specs.Prelude.{⊤}
 use Rattle.sqlite.specs.declared.error.Error.{Error}
-use Rattle.sqlite.specs.Held.{Held, state}
 use Rattle.sqlite.specs.Clock.{timed}
 use Rattle.sqlite.specs.Effect.{Database, RefusesToRead}
 use Rattle.sqlite.specs.Listing.{understood, reads_listing, listing_schema, if_select, is_select}
 use Rattle.sqlite.specs.Order.{Row}
-use Rattle.sqlite.specs.State.{State, HasCleanDisk, HasCause, Survives, FailsToShow, FailsToQuery, IsNotRun, IsNoStatement, IsTooLate, store_error}
+use Rattle.sqlite.specs.State.{State, HasCleanDisk, HasCause, FailsToShow, FailsToQuery, IsNotRun, IsNoStatement, IsTooLate, store_error}
 use Rattle.sqlite_resolve.specs.Compile.{compiled, first, planned, meaning, returning, command, with_command}
 use Rattle.sqlite_resolve.specs.Lowering.{Checked, and_then}
 use Rattle.sqlite_resolve.specs.declared.compiled.Compiled.{Compiled}
@@ -21,8 +20,6 @@ use Rattle.sqlite_syntax.specs.declared.statement.Parsed.{Parsed}
 use Rattle.sqlite_tied.specs.Compute.{everything}
 use Rattle.sqlite_trees.specs.declared.error.StoreError.{StoreError}
 use Rattle.sqlite_trees.specs.declared.error.StoreError.TheVariants.{OutOfMemory, Io, Corrupt, Full, Broken, Unstorable}
-use Rattle.sqlite_trees.specs.declared.store.Store.{Ghosts}
-use Rattle.up_tables.specs.declared.open.OpenFault.{OpenFault}
 use Rattle.up_tables.specs.declared.open.OpenFault.TheVariants as opening
 use Rattle.up_tables.specs.Faults.{open_fault}
 use Rattle.up_tables.specs.Ours.{find_meta_text, is_refused, IsHindered}
@@ -113,20 +110,3 @@ hindered_in (Err e) old new inside clean (inl h) = λ kept told. hinders old new
 hindered_in (Err e) old new inside clean (inr late) = absurd (let no = sym late.3 ∙ inside clean in cc)
 
 -- ---- from the transaction to the connection
-
-pub hindered_begun : {S : Type 0} (g : Ghosts S) (old first mid dropped last : Held S) → first ≡ record old { in_transaction = true } → last ≡ dropped → Survives (state g mid) (state g dropped) (λ _. ⊥)
-    → IsHindered (state g first) (state g mid) → IsHindered (state g old) (state g last)
-hindered_begun g old first mid dropped last begun same survives h = go (subst (λ s. IsHindered (state g s) (state g mid)) begun h)
-  where
-    more : (state g mid).faults ≤ (state g last).faults
-    more = subst (λ s. (state g mid).faults ≤ (state g s).faults) (sym same) survives.counts
-
-    go : IsHindered (state g (record old { in_transaction = true })) (state g mid) → IsHindered (state g old) (state g last)
-    go (inl (inl shut)) = inl (inl shut)
-    go (inl (inr faults)) = inl (inr (omega (arith, faults, more)))
-    go (inr limited) = inr limited
-
-pub hindered_told : {A : Type 0} (H : Type 0) (e : Error) (r : Result A OpenFault) → IfErr r (λ f. (f ≢ opening.NotOurs) × (is_refused e ≡ false)) → IfErr r (λ f. f ≡ open_fault e) → (is_refused e ≡ false → open_fault e ≡ opening.Store → H)
-    → IfErr r (λ f. f ≡ opening.Store → H)
-hindered_told H e (Ok found) kept told h = tt
-hindered_told H e (Err f) kept told h = λ is. h kept.1 (sym told ∙ is)

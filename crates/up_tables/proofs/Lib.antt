@@ -59,7 +59,11 @@ pub mod OwnerLemmas
 pub mod OpenedLemmas
 pub mod HinderedLemmas
 pub mod MakingLemmas
+pub mod OpenedParts
 pub mod AnywhereLemmas
 pub mod UndoneLemmas
 pub mod UnmadeLemmas
 mod UnraisedLemmas
+pub mod MadeSteps
+pub mod StoredLemmas
+pub mod SaysLemmas

@@ -1,22 +1,21 @@
 -- What stands behind the query on `meta`, and behind the version that it named.
-use Rattle.std.proofs.Common.{◌≡◌, ◌≢◌, ◌⊎◌, inl, inr, List, Bool, Option, None, Some, Ok, Err, Result, IfOk, IfErr, IfSome, OnOk, OnErr, IsTrue, true, false, refl, sym, ap, subst, ◌∙◌, arith}
+use Rattle.std.proofs.Common.{◌≡◌, List, Bool, Option, None, Some, Ok, Err, Result, IfOk, IfErr, IfSome, OnOk, IsTrue, true, refl, sym, ap, subst}
 use Rattle.sqlite.specs.declared.error.Error.{Error}
 use Rattle.sqlite.specs.Held.{Held, state}
 use Rattle.sqlite.specs.Order.{Row}
 use Rattle.sqlite.specs.State.{State, HasCleanDisk, Survives}
 use Rattle.sqlite_trees.specs.declared.store.Store.{Ghosts}
 use Rattle.up_tables.specs.declared.open.OpenFault.{OpenFault}
-use Rattle.up_tables.specs.declared.open.OpenFault.TheVariants as opening
 use Rattle.up_tables.specs.declared.open.SchemaVersion.{SchemaVersion}
 use Rattle.up_tables.specs.declared.open.SchemaVersion.TheVariants.{One, Two, Three}
-use Rattle.up_tables.specs.Faults.{open_fault}
 use Rattle.up_tables.specs.Listed.{TableRows, ListsTables}
-use Rattle.up_tables.specs.Ours.{IsOurs, IsOlder, ListsUs, NamesUs, NamesVersion, NamesOthers, TellsMeta, is_refused, older_of, ours_told}
+use Rattle.up_tables.specs.Making.{RaisesBy, RaisesTo}
+use Rattle.up_tables.specs.Ours.{IsOurs, IsOlder, ListsUs, NamesVersion, NamesOthers, Raised, RaisedFrom, TellsMeta, is_refused, older_of, ours_told}
 use Rattle.up_tables.specs.Stands.{IfClean, Stands, IsAsCommitted}
 use Rattle.up_tables.specs.Tables.{up_schema}
 use Rattle.up_tables.specs.Versions.{StandsAs}
 use Rattle.up_tables.proofs.OursLemmas.{others_begun}
-use Rattle.up_tables.proofs.RaisedLemmas.{names_begun, told_begun, taken_as}
+use Rattle.up_tables.proofs.RaisedLemmas.{clean_mid, crash_raised, names_begun, told_begun, taken_as}
 use Rattle.up_tables.proofs.WhoseLemmas.{not_others}
 
 -- ---- behind the query
@@ -62,6 +61,15 @@ found_is P found f is h = subst (λ r. IfOk r P) is h
 
 pub found_then : (P : Type 0) (found : Result (Option SchemaVersion) OpenFault) (f : Option SchemaVersion) → found ≡ Ok f → OnOk found P → P
 found_then P found f is h = subst (λ r. OnOk r P) is h
+
+-- a crash while the tables of an older version are raised
+pub crash_older : (old mid new : State) (found : Result (Option SchemaVersion) OpenFault) (w : SchemaVersion) → older_of found ≡ Some w → Survives old mid (λ _. ⊥) → IfClean (IsAsCommitted old) mid
+    → (HasCleanDisk mid → IfOk found (λ f. (u : SchemaVersion) → ListsUs u old → f ≡ Some u)) → (HasCleanDisk mid → OnOk found (IsTrue old.is_open)) → (HasCleanDisk mid → IfOk found (λ f. IfSome f (λ v. NamesVersion v old)))
+    → Survives mid new (λ db. RaisedFrom w mid db × RaisesBy w mid db) → Survives old new (λ db. Raised old db × RaisesTo old db)
+crash_older old mid new found w is crash kept tells opens names ends =
+    let it = older_is found w is in
+    crash_raised w old mid new it.1 (clean_mid old mid crash) kept (λ clean. found_is (λ f. (u : SchemaVersion) → ListsUs u old → f ≡ Some u) found (Some w) it.0 (tells clean))
+    (λ clean. found_then (IsTrue old.is_open) found (Some w) it.0 (opens clean)) (λ clean. found_is (λ f. IfSome f (λ v. NamesVersion v old)) found (Some w) it.0 (names clean)) crash ends
 
 listed_of : {C : Type 0} (old : State) (found : Result (Option SchemaVersion) OpenFault) → (C → IfOk found (λ f. (version : SchemaVersion) → ListsUs version old → f ≡ Some version))
     → IfOk (ours_told found) (λ b. C → (version : SchemaVersion) → ListsUs version old → IsTrue b)

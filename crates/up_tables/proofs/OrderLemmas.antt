@@ -1,5 +1,5 @@
 -- Rows that a query shows in the order of a column, as rows of the table.
-use Rattle.std.proofs.Common.{◌≡◌, ◌+◌, ◌≤◌, ◌<◌, ℕ, List, [], ◌∷◌, map, length, Ordering, Less, Equal, Greater, is_lt, false, refl, sym, ap, ap₂, subst, ◌∙◌, arith, get_or}
+use Rattle.std.proofs.Common.{◌≡◌, ◌+◌, ℕ, List, [], ◌∷◌, map, Ordering, Less, Equal, Greater, is_lt, false, refl, sym, ap, ap₂, subst, ◌∙◌, arith, get_or}
 use Rattle.std.specs.List.{swap}
 use Rattle.std.specs.List.Sorted.{IsPermutation, IsSorted, IsSortedByKey, SwapsInRange, apply_swaps}
 use Rattle.std.specs.Ordering.{ordering_then}

@@ -9,7 +9,6 @@ use Rattle.sqlite.specs.Order.{Row}
 use Rattle.sqlite.specs.Term.{Term, lit, col, eval_all, holds}
 use Rattle.sqlite.specs.Cast.{cast_row}
 use Rattle.sqlite.specs.Command.TheVariants.{Update}
-use Rattle.sqlite.specs.Change.{KeepsRows}
 use Rattle.sqlite.specs.Effect.{Answers}
 use Rattle.sqlite.specs.Listing.{understood}
 use Rattle.sqlite.specs.State.{State, HasCleanDisk, Survives, ExecutesInside}
@@ -31,6 +30,7 @@ use Rattle.up_tables.specs.declared.open.SchemaVersion.TheVariants.{One, Two}
 use Rattle.up_tables.proofs.AnswerLemmas.{over, answer_is, shows_passing, equals_int}
 use Rattle.up_tables.proofs.Casts.{cast_int, cast_null}
 use Rattle.up_tables.proofs.ListedLemmas.{goes_on}
+use Rattle.up_tables.proofs.MakingLemmas.{any_rows}
 use Rattle.up_tables.proofs.MetaReads.{is_one}
 use Rattle.up_tables.proofs.PlaceLemmas.{itself}
 use Rattle.up_tables.proofs.RunLemmas.{IsRun, run_in, then_ok, run_alters, idle}
@@ -134,21 +134,18 @@ last_raised number rows old mid new within lists retired none makes sets =
     goes_on meta_table _ (ListsTables rows) mid new set
     (lists_raised number rows mid.now.trees new.now.trees still replaced (new_lists 1 rows.sha512s (mid.now.trees image_sha512_table.tree) none made.made.empty) set.rows set.others)
 
-any_within : (schema : Rattle.sqlite.specs.Schema.Schema) (P : Trees → Type 0) (s : State) → IsWithin schema P s → IsWithin schema AnyRows s
-any_within schema P s h = record { mode = h.mode; here = λ is_open. let it = h.here is_open in record { schema_is = it.schema_is; sound = it.sound; rows = tt } }
-
 pub raises_second : (rows : TableRows) (old mid new : State) → IsWithin second_schema (ListsAs Two rows) old
     → (IsWithin second_schema AnyRows old → MakesIn second_schema image_sha512_table old mid) → SetsSchema mid new → GoesOn up_schema (ListsTables rows) new
 raises_second rows old mid new within makes sets =
-    let any = any_within second_schema _ old within in
+    let any = any_rows second_schema _ old within in
     let it = (within.here (makes any).was_open).rows in
     last_raised 2 rows old mid new any it.0 it.1 it.2 makes sets
 
-pub raises_first : (rows : TableRows) (old one two new : State) → IsWithin first_schema (ListsAs One rows) old
+pub first_raised : (rows : TableRows) (old one two new : State) → IsWithin first_schema (ListsAs One rows) old
     → (IsWithin first_schema AnyRows old → MakesIn first_schema retired_table old one) → (IsWithin second_schema AnyRows one → MakesIn second_schema image_sha512_table one two) → SetsSchema two new
     → GoesOn up_schema (ListsTables rows) new
-raises_first rows old one two new within first second sets =
-    let made = first (any_within first_schema _ old within) in
+first_raised rows old one two new within first second sets =
+    let made = first (any_rows first_schema _ old within) in
     let it = (within.here made.was_open).rows in
     let same = made.made.others in
     let still = eight_kept 1 rows old.now.trees one.now.trees it.0 (same.0, same.1.0, same.1.1.0, same.1.1.1.0, same.1.1.1.1.0, same.1.1.1.1.1.0, same.1.1.1.1.1.1.0, same.1.1.1.1.1.1.1.0) in

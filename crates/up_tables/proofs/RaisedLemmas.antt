@@ -1,5 +1,5 @@
 -- Tables of an older version, from the start of the transaction that raises them to its end.
-use Rattle.std.proofs.Common.{◌≡◌, inl, inr, ℕ, pos, List, [], Option, None, Some, Ok, Err, Result, IfOk, IfSome, IsTrue, true, false, refl, sym, ap, subst, ◌∙◌, arith}
+use Rattle.std.proofs.Common.{◌≡◌, ℕ, pos, List, [], Option, None, Some, Ok, Err, Result, IfOk, IfSome, IsTrue, true, false, refl, sym, ap, subst, ◌∙◌, arith}
 use Rattle.sqlite.specs.declared.error.Error.{Error}
 use Rattle.sqlite.specs.declared.types.Value.TheVariants.{Int}
 use Rattle.sqlite.specs.Held.{Held, state}
@@ -13,14 +13,14 @@ use Rattle.up_tables.specs.declared.open.SchemaVersion.{SchemaVersion}
 use Rattle.up_tables.specs.declared.open.SchemaVersion.TheVariants.{One, Two, Three}
 use Rattle.up_tables.specs.Listed.{TableRows, ListsTables}
 use Rattle.up_tables.specs.Making.{MakesTrees, RaisesBy, RaisesTo, raising}
-use Rattle.up_tables.specs.Ours.{find_meta_text, IsOurs, IsOlder, ListsUs, NamesVersion, NamesOthers, Raised, RaisedFrom}
+use Rattle.up_tables.specs.Ours.{find_meta_text, IsOurs, IsOlder, ListsUs, NamesVersion, Raised, RaisedFrom}
 use Rattle.up_tables.specs.Stands.{IfClean, IsWith, IsWithin, GoesOn, Steps, Stands, IsAsCommitted}
 use Rattle.up_tables.specs.Tables.{up_schema}
 use Rattle.up_tables.specs.Tried.{Makes}
 use Rattle.up_tables.specs.Versions.{number_of, schema_of, ListsAs, StandsAs}
 use Rattle.up_tables.proofs.StepLemmas.{shown_open}
 use Rattle.up_tables.proofs.OursLemmas.{before_begun}
-use Rattle.up_tables.proofs.WhoseLemmas.{answered, not_others}
+use Rattle.up_tables.proofs.WhoseLemmas.{answered}
 use Rattle.up_tables.proofs.TransactionLemmas.{as_held, stands_after, stands_kept}
 
 -- ---- what `meta` tells
@@ -121,15 +121,6 @@ module _ (w : SchemaVersion) (old mid new : State) (older : IsOlder w) (before :
       ))
       first ends
 
--- what was committed before is there after both steps
-pub kept_both : (old mid new : State) → Survives old mid (λ _. ⊥) → (mid.in_transaction ≡ false) → IfClean (IsAsCommitted old) mid → HasCleanDisk mid → IsAsCommitted mid new → IsAsCommitted old new
-kept_both old mid new first mode kept clean second =
-    let before = kept clean in record {
-      mode = second.mode;
-      was_open = λ is_open. before.was_open (second.was_open is_open);
-      undone = λ is_open. let here = before.undone (second.was_open is_open) in let now = second.undone is_open in (now.0 ∙ here.1, now.1 ∙ here.1);
-    }
-
 -- ---- `meta` is read in a transaction of its own
 
 us_begun : {S : Type 0} (g : Ghosts S) (old first : Held S) → first ≡ record old { in_transaction = true } → (version : SchemaVersion) → ListsUs version (state g old) → ListsUs version (state g first)
@@ -145,21 +136,9 @@ pub told_begun : {S : Type 0} (g : Ghosts S) (old first : Held S) → first ≡ 
 told_begun g old first begun answer None version is none tells us = absurd (none refl version (tells version (us_begun g old first begun version us)))
 told_begun g old first begun answer (Some w) version is none tells us = ap Some (same_version w version answer is (tells version (us_begun g old first begun version us)))
 
-pub none_told : {E : Type 0} (R : Type 0) (P : SchemaVersion → Type 0) (r : Result (Option SchemaVersion) E) → IfOk r (λ found. (found ≡ None) × R) → IfOk r (λ found. IfSome found P)
-none_told R P (Ok None) h = tt
-none_told R P (Ok (Some v)) h = absurd (let e = h.0 in cc)
-none_told R P (Err e) h = tt
-
 pub none_refused : {E R : Type 0} (N : Type 0) (r : Result (Option SchemaVersion) E) → IfOk r (λ found. (found ≡ None) × R) → (R → N) → IfOk r (λ found. found ≡ None → N)
 none_refused N (Ok found) h f = λ _. f h.1
 none_refused N (Err e) h f = tt
 
-pub told_refused : {E R : Type 0} (old : State) (r : Result (Option SchemaVersion) E) → IfOk r (λ found. (found ≡ None) × R) → (R → NamesOthers old) → IfOk r (λ found. (version : SchemaVersion) → ListsUs version old → found ≡ Some version)
-told_refused old (Ok found) h f = λ version us. absurd (not_others version old us (f h.1))
-told_refused old (Err e) h f = tt
-
 pub clean_mid : {commits : Trees → Type 0} (old new : State) → Survives old new commits → HasCleanDisk new → HasCleanDisk old
 clean_mid old new h clean = omega (arith, clean, h.clean)
-
-pub some_named : (P : SchemaVersion → Type 0) (found : Option SchemaVersion) (w : SchemaVersion) → found ≡ Some w → IfSome found P → P w
-some_named P found w is h = subst (λ f. IfSome f P) is h

@@ -1,6 +1,6 @@
 -- What a query on one table answers, of any table whose rows are shown without their rowids.
 use Rattle.std.proofs.Common.{◌≡◌, ◌≤◌, ℕ, List, [], ◌∷◌, map, filter, length, Bool, true, false, cond, ◌&&◌, refl, sym, ap, subst, ◌∙◌, drop, arith}
-use Rattle.std.specs.List.{list_all}
+use Rattle.std.specs.List.{list_all, AllByRecursion}
 use Rattle.std.specs.List.Sorted.{IsPermutation}
 use Rattle.std.specs.declared.cmp.Ordering.TheVariants.{Less}
 use Rattle.std.proofs.lemmas.List.Sorted.{length_permutation}
@@ -10,7 +10,6 @@ use Rattle.sqlite.specs.Term.{Term, col, eval_all, holds}
 use Rattle.sqlite.specs.Query.{Query, output_cmp}
 use Rattle.sqlite.specs.Tree.{Trees, IsAscending, IsTable, rowid}
 use Rattle.sqlite.specs.Program.{overlay}
-use Rattle.std.specs.List.{AllByRecursion}
 use Rattle.sqlite.specs.Command.TheVariants.{Select}
 use Rattle.sqlite.specs.Schema.{Schema}
 use Rattle.sqlite.specs.State.{State, Shown}

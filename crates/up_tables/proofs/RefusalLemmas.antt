@@ -1,5 +1,5 @@
 -- Why a write tells `Store`: the disk failed, or the database refuses the statement.
-use Rattle.std.proofs.Common.{◌≡◌, ◌⊎◌, inl, inr, ℕ, List, length, Bool, true, false, Some, None, Ok, Err, Result, IfErr, OnOk, IsTrue, refl, sym, ap, subst, ◌∙◌, arith}
+use Rattle.std.proofs.Common.{◌≡◌, ◌⊎◌, inl, inr, ℕ, List, length, true, false, Some, None, Ok, Err, Result, IfErr, OnOk, IsTrue, refl, sym, ap, subst, ◌∙◌, arith}
 use Rattle.std.specs.Result.{IsOk}
 use Rattle.sqlite_disk.specs.Disk.{MoreFaults}
 use Rattle.sqlite.specs.declared.error.Error.{Error}

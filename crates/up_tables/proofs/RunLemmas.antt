@@ -1,6 +1,7 @@
 -- A statement that writes is carried out in a transaction.
 use Rattle.std.proofs.Common.{◌≡◌, ◌≢◌, ◌==◌, ℕ, List, [], Bool, true, false, length, Ok, Err, Result, OnOk, IsTrue, refl, arith}
 use Rattle.std.specs.List.{AllByRecursion}
+use Rattle.std.specs.Result.{IsErrAnd}
 use Rattle.sqlite.specs.declared.error.Error.{Error}
 use Rattle.sqlite.specs.Order.{Row}
 use Rattle.sqlite.specs.Effect.{IsDatabase}
@@ -31,6 +32,10 @@ run_in sql params old new (Ok count) survives inside ran clean =
 pub then_ok : {A E : Type 0} {P Q : Type 0} (r : Result A E) → (P → Q) → OnOk r P → OnOk r Q
 then_ok (Ok x) f h = f h
 then_ok (Err e) f h = tt
+
+pub not_ok : {A E : Type 0} (P : Type 0) (Q : E → Type 0) (r : Result A E) → IsErrAnd r Q → OnOk r P
+not_ok P Q (Ok x) fails = absurd fails
+not_ok P Q (Err e) fails = tt
 
 -- so one table of the whole schema is altered, of whose rows P holds then
 pub run_alters : (sql : List ℕ) (params : Row) (table : Table) (P : List Row → Type 0) (old new : State) → IsRun sql params old new → new.now.schema ≡ up_schema → IsDatabase new.now → P (new.now.trees table.tree)

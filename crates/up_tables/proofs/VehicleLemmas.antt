@@ -1,28 +1,27 @@
 -- The statements on vehicles.
-use Rattle.std.proofs.Common.{◌≡◌, ◌≢◌, inl, inr, ℕ, ℤ, pos, List, [], ◌∷◌, ◌++◌, map, filter, true, Some, Ok, Err, Result, OnOk, IfOk, Option, IsTrue, refl, sym, ap, subst, ◌∙◌, arith, codes, string_bytes, append-nil, drop, ◌⊎◌, IfErr}
+use Rattle.std.proofs.Common.{◌≡◌, ◌≢◌, inl, inr, ℕ, ℤ, pos, List, [], ◌∷◌, ◌++◌, map, filter, true, Some, Ok, Err, Result, OnOk, IfOk, Option, refl, sym, ap, subst, ◌∙◌, arith, codes, append-nil, drop, ◌⊎◌, IfErr}
 use Rattle.std.specs.List.{AllByRecursion, list_all}
 use Rattle.std.specs.List.Sorted.{IsPermutation}
-use Rattle.std.specs.Option.{option_to_list}
 use Rattle.std.specs.Result.{IsOkAnd}
 use Rattle.std.proofs.Math.Bool.{and-true, or-false}
 use Rattle.sqlite.specs.declared.types.Value.{Value}
 use Rattle.sqlite.specs.declared.types.Value.TheVariants.{Null, Int, Text}
 use Rattle.sqlite.specs.declared.error.Error.{Error}
-use Rattle.sqlite.specs.Order.{Row, column, value_cmp}
+use Rattle.sqlite.specs.Order.{Row, column}
 use Rattle.sqlite.specs.Ops.{binary, is_true}
 use Rattle.sqlite.specs.Term.{Term, col, eval_all, holds}
 use Rattle.sqlite.specs.Cast.{cast_row}
 use Rattle.sqlite.specs.Does.{Does, OnRows}
-use Rattle.sqlite.specs.Edit.{edit_of, edited, with_rowid, next_rowid, taken_by}
+use Rattle.sqlite.specs.Edit.{edit_of, with_rowid, next_rowid}
 use Rattle.sqlite.specs.Effect.{Answers, Database}
 use Rattle.sqlite.specs.Rowids.TheVariants.{Chosen, Given}
 use Rattle.sqlite.specs.Rows.{Written, Task, TriesEach, Tries, Updates, nothing, shown as shown_row}
 use Rattle.sqlite.specs.Source.TheVariants.{Values}
-use Rattle.sqlite.specs.Command.TheVariants.{Insert, InsertOr}
+use Rattle.sqlite.specs.Command.TheVariants.{InsertOr}
 use Rattle.sqlite.specs.Listing.{understood}
-use Rattle.sqlite.specs.State.{State, HasCleanDisk, Survives, ExecutesInside, Shown, mode_of, FailsToQuery, IsTooLate}
+use Rattle.sqlite.specs.State.{State, HasCleanDisk, Survives, Shown, mode_of, FailsToQuery, IsTooLate}
 use Rattle.sqlite.specs.Tree.{Trees, put_row, without_rowid, has_rowid, rowid, IsTable}
-use Rattle.sqlite.proofs.Callers.{IsPlain, command_of, statement_of, one_permutation}
+use Rattle.sqlite.proofs.Callers.{command_of, statement_of, one_permutation}
 use Rattle.sqlite_tied.specs.Compute.{everything}
 use Rattle.sqlite_keyed.proofs.ListLemmas.{filter_same}
 use Rattle.sqlite_rules.specs.Calls.{ids_of}
@@ -42,25 +41,22 @@ use Rattle.sqlite_trees.specs.View.{IsShaped, is_int}
 use Rattle.sqlite_trees.specs.declared.store.Shape.TheVariants.{Table}
 use Rattle.sqlite_value.specs.Keys.{first_key}
 use Rattle.sqlite_value.specs.declared.keys.Collation.TheVariants.{Binary}
-use Rattle.up_tables.proofs.RefusalLemmas.{Writes, WritesShowing, refusal_showing, shown_writing}
+use Rattle.up_tables.proofs.RefusalLemmas.{WritesShowing, refusal_showing, shown_writing}
 use Rattle.up_tables.specs.Texts.{insert_vehicle_text, upsert_vehicle_text, find_vehicle_text}
 use Rattle.up_tables.specs.Tables.{up_schema, vehicle_table}
-use Rattle.up_tables.specs.Rows.{columns_at, has_text, rows_with, with_row, with_only}
+use Rattle.up_tables.specs.Rows.{columns_at, has_text, rows_with, with_only}
 use Rattle.up_tables.specs.Lines.{vehicle_line}
 use Rattle.up_tables.specs.Forms.{vehicle_row, vehicle_places}
 use Rattle.up_tables.specs.Stands.{Lists, IfClean, IsInside, Alters, HasTables}
 use Rattle.up_tables.specs.Upserts.{Rewrites}
 use Rattle.up_tables.specs.declared.vehicle.VehicleRow.{VehicleRow}
 use Rattle.up_tables.specs.declared.values.StoreFault.{StoreFault}
-use Rattle.up_tables.proofs.ReadLemmas.{Asks}
-use Rattle.up_tables.proofs.AnswerLemmas.{over, given, all_columns, equals_text, equals_int, answer_is, shows_passing}
-use Rattle.up_tables.proofs.ByNameLemmas.{listed_in, named_in, named_blames}
+use Rattle.up_tables.proofs.AnswerLemmas.{over, given, equals_text, equals_int, answer_is, shows_passing}
 use Rattle.up_tables.proofs.Casts.{cast_int, cast_null}
 use Rattle.up_tables.proofs.CreateLemmas.{went}
 use Rattle.up_tables.proofs.EcuRows.{text_is, column_after}
 use Rattle.up_tables.proofs.EcuSteps.{with_id}
 use Rattle.up_tables.proofs.EcuUpsert.{equals}
-use Rattle.up_tables.proofs.InsertLemmas.{inserts_in}
 use Rattle.up_tables.proofs.OnlyLemmas.{rewritten_shaped, rewritten_parts}
 use Rattle.up_tables.proofs.OthersLemmas.{others_stay}
 use Rattle.up_tables.proofs.PlaceLemmas.{only}
@@ -70,10 +66,10 @@ use Rattle.up_tables.proofs.StepLemmas.{shown_open, shown_after}
 use Rattle.up_tables.proofs.UpsertLemmas.{upserted, tried_each, tried, resolved, updated, rewritten_by, showing}
 use Rattle.up_tables.specs.Faults.{store_fault}
 use Rattle.up_tables.specs.declared.values.StoreFault.TheVariants.{Store}
-use Rattle.up_tables.specs.Statements.{BlamesDisk, HasVehicle, HoldsBy}
+use Rattle.up_tables.specs.Statements.{HasVehicle}
 use Rattle.up_tables.specs.Tried.{BlamesOne, Ran}
-use Rattle.up_tables.specs.Kinds.{ShowsOne, ShowsVehicle}
-use Rattle.up_tables.proofs.BlameLemmas.{Takes, fault_alike}
+use Rattle.up_tables.proofs.BlameLemmas.{fault_alike}
+use Rattle.up_tables.proofs.StoredLemmas.{IsInsertOf, IsQueryOf, named_its, named_meets}
 use Rattle.up_tables.proofs.TriedLemmas.{ran_showing}
 
 -- ---- put in
@@ -81,19 +77,20 @@ use Rattle.up_tables.proofs.TriedLemmas.{ran_showing}
 casts : (name primary : List ℕ) (version last : ℕ) → cast_row vehicle_table (Null ∷ vehicle_line name primary version last) ≡ Null ∷ vehicle_line name primary version last
 casts name primary version last = rw (cast_null, cast_int (pos version), cast_int (pos last)) refl
 
-insert_is : (command_of (understood up_schema insert_vehicle_text) ≡ Insert 5 (Values (given 4) 5)) × IsPlain (understood up_schema insert_vehicle_text)
-unfolding understood everything
-insert_is = (refl, (refl, refl))
-
 casts_given : (id : ℤ) (name primary : List ℕ) (version last : ℕ) → cast_row vehicle_table (Int id ∷ vehicle_line name primary version last) ≡ Int id ∷ vehicle_line name primary version last
 casts_given id name primary version last = rw (cast_int id, cast_int (pos version), cast_int (pos last)) refl
 
-pub vehicle_inserts : (r : Result ℕ Error) (old new : State) (v : VehicleRow) → Survives old new (λ _. ⊥) → IfClean IsInside old
-    → (HasCleanDisk new → IsTrue old.in_transaction → ExecutesInside 0 insert_vehicle_text (vehicle_row v) old new r)
-    → HasCleanDisk new → OnOk r ((rows_of : List ℕ → List Row) → HasTables old → Lists 1 rows_of (old.now.trees vehicle_table.tree) → Alters vehicle_table (Lists 1 (with_row (string_bytes v.vehicle) (vehicle_row v) rows_of)) old new)
-vehicle_inserts r old new v survives inside ran clean =
-    listed_in vehicle_table 1 (string_bytes v.vehicle) (vehicle_row v) old new r (λ x n. text_is (string_bytes v.vehicle) n)
-    (inserts_in insert_vehicle_text 5 vehicle_table (given 4) 5 (vehicle_row v) (vehicle_row v) insert_is.0 insert_is.1 refl refl (append-nil _) refl (casts _ _ v.version v.last_counter) r old new survives inside ran clean)
+pub vehicle_put : (v : VehicleRow) → IsInsertOf insert_vehicle_text vehicle_table 1 v.vehicle.now (vehicle_row v) 5 4
+unfolding understood everything
+vehicle_put v = record {
+  writes = record { row = refl; is = refl; plain = (refl, refl); writes = refl; whole = refl; count = refl };
+  there = refl;
+  uncounted = refl;
+  unstamped = append-nil _;
+  values = refl;
+  casts = casts _ _ v.version v.last_counter;
+  named = λ x n. text_is v.vehicle.now n;
+}
 
 -- ---- read
 
@@ -103,14 +100,17 @@ part = columns_at vehicle_places
 abbrev names : List (List ℕ)
 names = codes "vehicle" ∷ codes "primary_ecu" ∷ codes "version" ∷ codes "last_counter" ∷ []
 
-pub find_is : Asks up_schema find_vehicle_text (over 9 (equals 1 0 ∷ []) (all_columns 4) []) names
+pub vehicle_found : (name : List ℕ) → IsQueryOf find_vehicle_text (Text name ∷ []) vehicle_table 1 (λ rows_of. rows_of name) part (equals 1 0 ∷ []) 4 names (has_text 0 name)
 unfolding understood everything
-find_is = (refl, refl, (refl, refl), refl)
-
-pub finds_vehicle : {X : Type 0} (items : X → List Row) (answer : Result X Error) (r : Result (Option VehicleRow) StoreFault) (old new : State) (name : List ℕ)
-    → IfOk r (λ found. IsOkAnd answer (λ v. map part (items v) ≡ map vehicle_row (option_to_list found))) → IfOk answer (λ v. Shown find_vehicle_text (Text name ∷ []) old new (items v))
-    → IfOk r (λ found. (rows_of : List ℕ → List Row) → HasTables old → Lists 1 rows_of (old.now.trees vehicle_table.tree) → map part (rows_of name) ≡ map vehicle_row (option_to_list found))
-finds_vehicle items answer r old new name = named_in items vehicle_table 0 find_vehicle_text (all_columns 4) names part vehicle_row name find_is (λ db. refl) (λ x. rw (column_after x 0, column_after x 1, column_after x 2, column_after x 3) refl) (λ x. refl) answer r old new
+vehicle_found name = record {
+  asks = (refl, refl, (refl, refl), refl);
+  takes = (refl, refl, λ trees h. absurd (let e = h in cc));
+  base = λ db. refl;
+  meets = named_meets 0 name;
+  shows = λ x. rw (column_after x 0, column_after x 1, column_after x 2, column_after x 3) refl;
+  whole = λ r. refl;
+  its = named_its 0 name;
+}
 
 -- ---- its numbers are set
 
@@ -251,25 +251,7 @@ sets_vehicle items (Ok v) (Ok x) old new name primary version last survives insi
     first_of : {a b : Row} → ◌≡◌ {A = List Row} (a ∷ []) (b ∷ []) → a ≡ b
     first_of e = cc
 
--- ---- faults of the reads
-
-find_vehicle_takes : (name : List ℕ) → Takes find_vehicle_text (Text name ∷ []) (over 9 (equals 1 0 ∷ []) (all_columns 4) [])
-unfolding understood everything
-find_vehicle_takes name = (refl, refl, λ trees h. absurd (let e = h in cc))
-
-pub find_vehicle_blames : {X : Type 0} (items : X → List Row) (answer : Result X Error) (r : Result (Option VehicleRow) StoreFault) (old new : State) (name : List ℕ)
-    → IfErr answer (λ e. r ≡ Err (store_fault e)) → IfOk answer (λ v. IfErr r (λ fault. fault ≡ Store → ¬ ShowsOne ShowsVehicle (items v)))
-    → (HasCleanDisk new → IfOk answer (λ v. Shown find_vehicle_text (Text name ∷ []) old new (items v)))
-    → (HasCleanDisk new → IfErr answer (λ e. FailsToQuery find_vehicle_text (Text name ∷ []) old new e ⊎ IsTooLate find_vehicle_text (Text name ∷ []) old new e))
-    → BlamesDisk (HoldsBy vehicle_table 1 (λ rows_of. ShowsOne ShowsVehicle (rows_of name))) old new r
-find_vehicle_blames items answer r old new name =
-    named_blames items vehicle_table 0 find_vehicle_text (all_columns 4) names part vehicle_row name find_is (λ db. refl) (λ x. rw (column_after x 0, column_after x 1, column_after x 2, column_after x 3) refl) (λ x. refl) ShowsVehicle (λ x h. h) (find_vehicle_takes name) answer r old new
-
 -- ---- faults of the writes
-
-pub vehicle_writes : (v : VehicleRow) → Writes insert_vehicle_text (vehicle_row v) (Insert 5 (Values (given 4) 5))
-unfolding understood everything
-vehicle_writes v = record { row = refl; is = insert_is.0; plain = insert_is.1; writes = refl; whole = refl; count = refl }
 
 abbrev upsert : Command
 upsert = InsertOr 5 Abort (Values (given 4) 5) (clause ∷ [])
@@ -281,7 +263,7 @@ upsert_writes name primary version last = record { row = refl; is = upsert_is.0;
 pub upsert_ran : {X T : Type 0} (items : X → List Row) (answer : Result X Error) (r : Result T StoreFault) (old new : State) (v : VehicleRow) → OnOk r (IsOkAnd answer (λ shown. map part (items shown) ≡ vehicle_row v ∷ []))
     → (HasCleanDisk new → IfOk answer (λ shown. Shown upsert_vehicle_text (vehicle_row v) old new (items shown))) → Ran ((upsert_vehicle_text, vehicle_row v) ∷ []) old new r
 upsert_ran items answer r old new v told ok =
-    ran_showing items (λ shown. map part (items shown) ≡ vehicle_row v ∷ []) upsert_vehicle_text (vehicle_row v) upsert what (upsert_writes (string_bytes v.vehicle) (string_bytes v.primary_ecu) v.version v.last_counter) answer r old new told ok
+    ran_showing items (λ shown. map part (items shown) ≡ vehicle_row v ∷ []) upsert_vehicle_text (vehicle_row v) upsert what (upsert_writes v.vehicle.now v.primary_ecu.now v.version v.last_counter) answer r old new told ok
 
 -- where the vehicle stands with its Primary, the row that comes back is the one that was to be written
 pub upsert_blames : {X T : Type 0} (items : X → List Row) (answer : Result X Error) (r : Result T StoreFault) (old new : State) (v : VehicleRow) → Survives old new (λ _. ⊥) → IfClean IsInside old
@@ -292,12 +274,12 @@ pub upsert_blames : {X T : Type 0} (items : X → List Row) (answer : Result X E
 upsert_blames items (Ok shown) (Ok x) old new v survives inside fault another ok err clean = tt
 upsert_blames items (Ok shown) (Err f) old new v survives inside fault another ok err clean = λ is is_open has holds.
     let here = has is_open in
-    let name = string_bytes v.vehicle in
-    let primary = string_bytes v.primary_ecu in
+    let name = v.vehicle.now in
+    let primary = v.primary_ecu.now in
     let done = upserts_vehicle old new name primary primary v.version v.last_counter holds.2.0 holds.2.1 (items shown) here.schema_is holds.1.shaped (holds.1.parts name ∙ holds.2.2) (ok clean) in
     absurd (another.1 (ap (map part) done.3))
 upsert_blames items (Err e) (Ok x) old new v survives inside fault another ok err clean = tt
 upsert_blames items (Err e) (Err f) old new v survives inside fault another ok err clean = λ is is_open has holds.
     let before : HasCleanDisk old = omega (arith, survives.clean) in
-    let it = upsert_writes (string_bytes v.vehicle) (string_bytes v.primary_ecu) v.version v.last_counter in
+    let it = upsert_writes v.vehicle.now v.primary_ecu.now v.version v.last_counter in
     elim (refusal_showing upsert_vehicle_text (vehicle_row v) upsert (shown_writing it) old is_open has new e (sym (fault_alike fault) ∙ is) what it.shows (inside before) (err clean)) [ inl more ↦ inl more | inr refused ↦ inr (inl refused) ]

@@ -1,14 +1,13 @@
 -- Rows as values, column by column, and which of their numbers fit a column.
-use Rattle.std.specs.Prelude.{◌<◌, ◌^◌, ℕ, pos, List, [], ◌∷◌, string_bytes}
+use Rattle.std.specs.Prelude.{◌<◌, ◌^◌, ℕ, pos, List, [], ◌∷◌, filter, map}
 use Rattle.sqlite.specs.declared.types.Value.TheVariants.{Int, Text, Blob}
 use Rattle.sqlite.specs.Order.{Row}
 use Rattle.up_tables.specs.declared.image.ImageRow.{ImageRow}
-use Rattle.up_tables.specs.declared.image_sha512.Sha512Row.{Sha512Row}
 use Rattle.up_tables.specs.declared.kept.KeptRow.{KeptRow}
 use Rattle.up_tables.specs.declared.repo_file.FileRow.{FileRow}
-use Rattle.up_tables.specs.Rows.{with_only_at}
+use Rattle.up_tables.specs.Rows.{columns_at, has_number, with_only_at}
 use Rattle.up_tables.specs.declared.vehicle.VehicleRow.{VehicleRow}
-use Rattle.up_tables.specs.Lines.{meta_row, campaign_line, vehicle_line, sha512_line, yes_or_no}
+use Rattle.up_tables.specs.Lines.{meta_row, campaign_line, vehicle_line, yes_or_no}
 use Rattle.up_tables.specs.declared.meta.MetaRow.{MetaRow}
 use Rattle.up_tables.specs.declared.role_key.RoleKeyRow.{RoleKeyRow}
 use Rattle.up_tables.specs.declared.campaign.CampaignRow.{CampaignRow}
@@ -16,8 +15,8 @@ use Rattle.up_tables.specs.declared.campaign.CampaignRow.{CampaignRow}
 -- an image: what it is, the hardware that it is for, and its needs and conflicts as texts
 abbrev pub image_row : ImageRow → Row
 image_row i =
-    Text (string_bytes i.file) ∷ Int (pos i.length) ∷ Blob i.sha256.items ∷ Text (string_bytes i.hardware) ∷ Int (pos i.release_count)
-    ∷ Text (string_bytes i.needs) ∷ Text (string_bytes i.conflicts) ∷ []
+    Text i.file.now ∷ Int (pos i.length) ∷ Blob i.sha256.now ∷ Text i.hardware.now ∷ Int (pos i.release_count)
+    ∷ Text i.needs.now ∷ Text i.conflicts.now ∷ []
 
 abbrev pub image_places : List ℕ
 image_places = 0 ∷ 1 ∷ 2 ∷ 3 ∷ 4 ∷ 5 ∷ 6 ∷ []
@@ -26,21 +25,21 @@ pub record FitImage (i : ImageRow) : Type 0 where
   pub length : i.length < 2 ^ 63
   pub release_count : i.release_count < 2 ^ 63
 
--- the second hash of an image
-abbrev pub sha512_row : Sha512Row → Row
-sha512_row i = sha512_line (string_bytes i.file) i.sha512.items
-
 abbrev pub sha512_places : List ℕ
 sha512_places = 0 ∷ 1 ∷ []
 
 abbrev pub campaign_row : CampaignRow → Row
-campaign_row c = campaign_line (string_bytes c.name) (string_bytes c.reach) (string_bytes c.items) (yes_or_no c.running)
+campaign_row c = campaign_line c.name.now c.reach.now c.items.now (yes_or_no c.running)
 
 abbrev pub campaign_places : List ℕ
 campaign_places = 0 ∷ 1 ∷ 2 ∷ 3 ∷ []
 
+-- those that run
+abbrev pub running_shown : List Row → List Row
+running_shown rows = map (columns_at campaign_places) (filter (has_number 3 (pos 1)) rows)
+
 abbrev pub vehicle_row : VehicleRow → Row
-vehicle_row v = vehicle_line (string_bytes v.vehicle) (string_bytes v.primary_ecu) v.version v.last_counter
+vehicle_row v = vehicle_line v.vehicle.now v.primary_ecu.now v.version v.last_counter
 
 abbrev pub vehicle_places : List ℕ
 vehicle_places = 0 ∷ 1 ∷ 2 ∷ 3 ∷ []
@@ -52,8 +51,8 @@ pub record FitVehicle (v : VehicleRow) : Type 0 where
 -- an accepted manifest: when it came, under which root version, and what was planned and answered
 abbrev pub kept_row : KeptRow → Row
 kept_row k =
-    Text (string_bytes k.vehicle) ∷ Int (pos k.counter) ∷ Int (pos k.version) ∷ Int (pos k.moment) ∷ Int (pos k.root)
-    ∷ Text (string_bytes k.signed) ∷ Text (string_bytes k.plan_text) ∷ Text (string_bytes k.reply) ∷ []
+    Text k.vehicle.now ∷ Int (pos k.counter) ∷ Int (pos k.version) ∷ Int (pos k.moment) ∷ Int (pos k.root)
+    ∷ Text k.signed.now ∷ Text k.plan_text.now ∷ Text k.reply.now ∷ []
 
 abbrev pub kept_places : List ℕ
 kept_places = 0 ∷ 1 ∷ 2 ∷ 3 ∷ 4 ∷ 5 ∷ 6 ∷ 7 ∷ []
@@ -66,7 +65,7 @@ pub record FitKept (k : KeptRow) : Type 0 where
 
 -- a file that is served
 abbrev pub file_row : FileRow → Row
-file_row f = Text (string_bytes f.repository) ∷ Text (string_bytes f.name) ∷ Text (string_bytes f.body) ∷ []
+file_row f = Text f.repository.now ∷ Text f.name.now ∷ Text f.body.now ∷ []
 
 abbrev pub file_places : List ℕ
 file_places = 0 ∷ 1 ∷ 2 ∷ []
@@ -74,7 +73,7 @@ file_places = 0 ∷ 1 ∷ 2 ∷ []
 -- each of the files, in turn, has its text alone
 abbrev pub set_files : List FileRow → (List ℕ → List ℕ → List Row) → List ℕ → List ℕ → List Row
 set_files [] rows_of = rows_of
-set_files (f ∷ fs) rows_of = set_files fs (with_only_at (string_bytes f.repository) (string_bytes f.name) (file_row f) rows_of)
+set_files (f ∷ fs) rows_of = set_files fs (with_only_at f.repository.now f.name.now (file_row f) rows_of)
 
 -- the row of `meta` with these numbers, and what a read of it is of
 abbrev pub meta_of : MetaRow → Row
@@ -82,9 +81,6 @@ meta_of m = meta_row m.root m.image_version m.stamp
 
 abbrev pub meta_values : MetaRow → Row
 meta_values m = Int (pos m.root) ∷ Int (pos m.image_version) ∷ Int (pos m.stamp) ∷ []
-
-abbrev pub meta_places : List ℕ
-meta_places = 0 ∷ 1 ∷ 2 ∷ []
 
 pub record FitMeta (m : MetaRow) : Type 0 where
   pub root : m.root < 2 ^ 63
@@ -94,11 +90,14 @@ pub record FitMeta (m : MetaRow) : Type 0 where
 -- a key of a role in a root version, at its place there, with the role's threshold
 abbrev pub role_key_row : RoleKeyRow → Row
 role_key_row k =
-    Int (pos k.root) ∷ Text (string_bytes k.repository) ∷ Text (string_bytes k.role) ∷ Int (pos k.place) ∷ Blob k.secret.items
-    ∷ Int (pos k.threshold) ∷ []
+    Int (pos k.root) ∷ Text k.repository.now ∷ Text k.role.now ∷ Int (pos k.place) ∷ Blob k.secret.now ∷ Int (pos k.threshold) ∷ []
 
 abbrev pub role_key_places : List ℕ
 role_key_places = 0 ∷ 1 ∷ 2 ∷ 3 ∷ 4 ∷ 5 ∷ []
+
+-- the rows of this root version
+abbrev pub keys_shown : ℕ → List Row → List Row
+keys_shown root all = map (columns_at role_key_places) (filter (has_number 0 (pos root)) all)
 
 pub record FitRoleKey (k : RoleKeyRow) : Type 0 where
   pub root : k.root < 2 ^ 63

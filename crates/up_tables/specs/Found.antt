@@ -1,14 +1,8 @@
 -- What is found of a table, whoever wrote its rows.
-use Rattle.std.specs.Prelude.{◌≡◌, ◌∷◌, pos, List, [], Option, Result, IfOk, map, filter}
+use Rattle.std.specs.Prelude.{◌∷◌, ℕ, pos, List, [], Result, IfOk, map, filter}
 use Rattle.std.specs.List.Sorted.{IsPermutation, IsSortedByKey}
-use Rattle.std.specs.Option.{option_to_list}
 use Rattle.sqlite.specs.Order.{Row, column, value_cmp}
 use Rattle.sqlite.specs.State.{State, HasCleanDisk}
-use Rattle.up_tables.specs.declared.ecu.EcuRow.{EcuRow}
-use Rattle.up_tables.specs.declared.meta.MetaRow.{MetaRow}
-use Rattle.up_tables.specs.Ecus.{ecu_values}
-use Rattle.up_tables.specs.Forms.{meta_values}
-use Rattle.up_tables.specs.Kinds.{ShowsOne, ShowsMeta}
 use Rattle.up_tables.specs.Rows.{columns_at, has_number}
 use Rattle.up_tables.specs.Stands.{HasTables}
 use Rattle.up_tables.specs.Tables.{meta_table}
@@ -19,19 +13,21 @@ use Rattle.up_tables.specs.Tables.{meta_table}
 abbrev pub meta_shown : List Row → List Row
 meta_shown rows = map (columns_at (4 ∷ 5 ∷ 6 ∷ [])) (filter (has_number 0 (pos 1)) rows)
 
--- they are those of the one such row, or none where there is none
-abbrev pub FindsShown : {E : Type 0} → State → State → Result (Option MetaRow) E → Type 0
-FindsShown old new result =
-    HasCleanDisk new → IfOk result (λ found. HasTables old → meta_shown (old.now.trees meta_table.tree) ≡ map meta_values (option_to_list found))
+-- what is found is told by them
+abbrev pub FindsMeta : {A E : Type 0} → (List Row → A → Type 0) → State → State → Result A E → Type 0
+FindsMeta told old new result = HasCleanDisk new → IfOk result (λ found. HasTables old → told (meta_shown (old.now.trees meta_table.tree)) found)
 
--- `meta` has one row of the rowid 1 or none, and its numbers aren't below 0
-abbrev pub HasMetaOrNone : State → Type 0
-HasMetaOrNone s = ShowsOne ShowsMeta (meta_shown (s.now.trees meta_table.tree))
+-- P holds of them
+abbrev pub HoldsOfMeta : (List Row → Type 0) → State → Type 0
+HoldsOfMeta P s = P (meta_shown (s.now.trees meta_table.tree))
 
 -- ---- the ECUs of a vehicle
 
--- ECUs are read of these rows of a vehicle, each of one, all columns but the vehicle and the place, in the order of their places
-abbrev pub ReadsByPlace : List Row → List EcuRow → Type 0
-ReadsByPlace rows read =
-    (ordered : List Row) × IsPermutation rows ordered × IsSortedByKey (λ r. column r 2) value_cmp ordered
-    × (map (columns_at (0 ∷ 3 ∷ 4 ∷ 5 ∷ 6 ∷ 7 ∷ 8 ∷ 9 ∷ [])) ordered ≡ map ecu_values read)
+-- what a read of an ECU shows of its row: all columns but the vehicle and the place
+abbrev pub ecu_places : List ℕ
+ecu_places = 0 ∷ 3 ∷ 4 ∷ 5 ∷ 6 ∷ 7 ∷ 8 ∷ 9 ∷ []
+
+-- this is told of what is shown of these rows of a vehicle, in the order of their places
+abbrev pub ReadsByPlace : List Row → (List Row → Type 0) → Type 0
+ReadsByPlace rows told =
+    (ordered : List Row) × IsPermutation rows ordered × IsSortedByKey (λ r. column r 2) value_cmp ordered × told (map (columns_at ecu_places) ordered)

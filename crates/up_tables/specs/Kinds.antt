@@ -1,26 +1,20 @@
 -- What the columns of a row have to be so that the row is read, whatever their values. A number is read where it isn't below 0, a text where
 -- it is UTF-8.
-use Rattle.std.specs.Prelude.{◌≡◌, ◌⊎◌, ◌≤◌, ℕ, pos, Bool, List, [], ◌∷◌, length, IsUtf8, IsTrue}
+use Rattle.std.specs.Prelude.{◌≡◌, ◌≤◌, ℕ, List, length, IsUtf8, IsTrue}
 use Rattle.std.specs.List.{AllByRecursion, list_any}
 use Rattle.sqlite.specs.declared.types.Value.{Value}
-use Rattle.sqlite.specs.declared.types.Value.TheVariants.{Null, Int, Text, Blob}
+use Rattle.sqlite.specs.declared.types.Value.TheVariants.{Text, Blob}
 use Rattle.sqlite.specs.Order.{Row, column}
-use Rattle.up_tables.specs.Lines.{yes_or_no}
-use Rattle.up_tables.specs.Rows.{columns_at, has_text}
+use Rattle.up_tables.specs.Rows.{has_text}
 
 -- ---- columns
 
 abbrev pub IsWords : Value → Type 0
 IsWords v = (s : List ℕ) × (v ≡ Text s) × IsUtf8 s
 
-abbrev pub IsWordsOrNull : Value → Type 0
-IsWordsOrNull v = (v ≡ Null) ⊎ IsWords v
-
-abbrev pub IsNumber : Value → Type 0
-IsNumber v = (n : ℕ) × (v ≡ Int (pos n))
-
-abbrev pub IsFlag : Value → Type 0
-IsFlag v = (yes : Bool) × (v ≡ Int (yes_or_no yes))
+-- it is this text
+abbrev pub IsText : Value → List ℕ → Type 0
+IsText v s = (v ≡ Text s) × IsUtf8 s
 
 abbrev pub IsBytes : Value → Type 0
 IsBytes v = (b : List ℕ) × (v ≡ Blob b)
@@ -29,48 +23,6 @@ IsBytes v = (b : List ℕ) × (v ≡ Blob b)
 
 abbrev pub ShowsWords : Row → Type 0
 ShowsWords r = IsWords (column r 0)
-
-abbrev pub ShowsMeta : Row → Type 0
-ShowsMeta r = IsNumber (column r 0) × IsNumber (column r 1) × IsNumber (column r 2)
-
-abbrev pub ShowsRoleKey : Row → Type 0
-ShowsRoleKey r =
-    IsNumber (column r 0) × IsWords (column r 1) × IsWords (column r 2) × IsNumber (column r 3) × IsBytes (column r 4) × IsNumber (column r 5)
-
-abbrev pub ShowsFile : Row → Type 0
-ShowsFile r = IsWords (column r 0) × IsWords (column r 1) × IsWords (column r 2)
-
-abbrev pub ShowsImage : Row → Type 0
-ShowsImage r =
-    IsWords (column r 0) × IsNumber (column r 1) × IsBytes (column r 2) × IsWords (column r 3) × IsNumber (column r 4) × IsWords (column r 5)
-    × IsWords (column r 6)
-
-abbrev pub ShowsSha512 : Row → Type 0
-ShowsSha512 r = IsWords (column r 0) × IsBytes (column r 1)
-
-abbrev pub ShowsCampaign : Row → Type 0
-ShowsCampaign r = IsWords (column r 0) × IsWords (column r 1) × IsWords (column r 2) × IsFlag (column r 3)
-
-abbrev pub ShowsVehicle : Row → Type 0
-ShowsVehicle r = IsWords (column r 0) × IsWords (column r 1) × IsNumber (column r 2) × IsNumber (column r 3)
-
--- what is installed on an ECU: three columns, or none
-abbrev pub ShowsInstalled : Row → Type 0
-ShowsInstalled r =
-    ((column r 3 ≡ Null) × (column r 4 ≡ Null) × (column r 5 ≡ Null)) ⊎ (IsWords (column r 3) × IsNumber (column r 4) × IsBytes (column r 5))
-
-abbrev pub ShowsEcu : Row → Type 0
-ShowsEcu r =
-    IsWords (column r 0) × IsWords (column r 1) × IsBytes (column r 2) × ShowsInstalled r × IsNumber (column r 6) × IsWordsOrNull (column r 7)
-
--- the same of a row of the table, which has the vehicle and the place, too
-abbrev pub ShowsEcuLine : Row → Type 0
-ShowsEcuLine r = ShowsEcu (columns_at (0 ∷ 3 ∷ 4 ∷ 5 ∷ 6 ∷ 7 ∷ 8 ∷ 9 ∷ []) r)
-
-abbrev pub ShowsKept : Row → Type 0
-ShowsKept r =
-    IsWords (column r 0) × IsNumber (column r 1) × IsNumber (column r 2) × IsNumber (column r 3) × IsNumber (column r 4) × IsWords (column r 5)
-    × IsWords (column r 6) × IsWords (column r 7)
 
 -- ---- answers
 

@@ -13,8 +13,7 @@ use Rattle.up_tables.specs.declared.open.SchemaVersion.TheVariants.{One, Two, Th
 use Rattle.up_tables.specs.Faults.{open_fault}
 use Rattle.up_tables.specs.Ours.{HasFailed, IsOlder, NamesVersion}
 use Rattle.up_tables.specs.Stands.{HasNoTables, IsAsCommitted, LeavesOnly}
-use Rattle.up_tables.specs.Tables.{meta_text, role_key_text, repo_file_text, image_text, campaign_text, vehicle_text, ecu_text, kept_text}
-use Rattle.up_tables.specs.Tables.{retired_text, image_sha512_text}
+use Rattle.up_tables.specs.Tables.{meta_text, role_key_text, repo_file_text, image_text, campaign_text, vehicle_text, ecu_text, kept_text, retired_text, image_sha512_text}
 use Rattle.up_tables.specs.Tried.{IsRefused, Makes, MakesOf, RefusesOne}
 
 -- ---- the statements, in their order

@@ -1,7 +1,7 @@
 -- What a statement does within a transaction, where the disk has returned what was written so far. What it writes or finds is said where the
 -- whole schema is there, and of the other tables nothing is altered; of what makes a table or raises those of an older version, where the
 -- schema before it is there.
-use Rattle.std.specs.Prelude.{◌≡◌, ◌≤◌, ◌++◌, pos, ℕ, ℤ, List, [], ◌∷◌, Option, Some, Result, IfOk, IfErr, OnOk, map, length, string_bytes}
+use Rattle.std.specs.Prelude.{◌≡◌, ◌≤◌, ◌++◌, pos, ℕ, ℤ, List, [], ◌∷◌, Result, IfOk, IfErr, OnOk, length}
 use Rattle.std.specs.Borrow.{MutBor}
 use Rattle.sqlite_rules.specs.Lists.{Has}
 use Rattle.sqlite_trees.specs.declared.store.Store.{Ghosts}
@@ -18,8 +18,7 @@ use Rattle.up_tables.specs.declared.values.StoreFault.{StoreFault}
 use Rattle.up_tables.specs.declared.values.StoreFault.TheVariants.{Store}
 use Rattle.up_tables.specs.declared.vehicle.VehicleRow.{VehicleRow}
 use Rattle.up_tables.specs.Forms.{file_row, meta_of, set_files, vehicle_row}
-use Rattle.up_tables.specs.Lines.{EcuLine, AreInPlace, AreRecorded, IsRecorded, campaign_line, ecu_row, meta_row, meta_row_of}
-use Rattle.up_tables.specs.Lines.{set_ecu, set_ecus, vehicle_line}
+use Rattle.up_tables.specs.Lines.{EcuLine, AreRecorded, IsRecorded, campaign_line, ecu_row, meta_row, meta_row_of, set_ecu, set_ecus, vehicle_line}
 use Rattle.up_tables.specs.Listed.{TableRows, ListsTables}
 use Rattle.up_tables.specs.Makes.{MakesIn}
 use Rattle.up_tables.specs.Replaced.{replaced_line, with_replaced}
@@ -42,6 +41,14 @@ pub record IsOpenStep {S A E : Type 0} (g : Ghosts S) (old new : MutBor (Held S)
   pub steps : Steps (state g old.now) (state g new.now)
   pub inside : OnOk result (IfClean IsInside (state g new.now))
   pub is_open : OnOk result (IfClean IsOpen (state g new.now))
+
+-- where a transaction is under way on the connection
+abbrev pub WhereInside : {S : Type 0} → Ghosts S → MutBor (Held S) → Type 0 → Type 0
+WhereInside g conn P = IfClean IsInside (state g conn.now) → P
+
+-- where it is open
+abbrev pub WhereOpen : {S : Type 0} → Ghosts S → MutBor (Held S) → Type 0 → Type 0
+WhereOpen g conn P = IfClean IsOpen (state g conn.now) → P
 
 -- ---- writes
 
@@ -67,8 +74,8 @@ SetsMeta meta old new result =
 abbrev pub SetsFile : {A E : Type 0} → FileRow → State → State → Result A E → Type 0
 SetsFile file old new result =
     HasCleanDisk new → OnOk result ((rows_of : List ℕ → List ℕ → List Row) → HasTables old
-    → ListsPairs rows_of (old.now.trees repo_file_table.tree) → length (rows_of (string_bytes file.repository) (string_bytes file.name)) ≤ 1
-    → Alters repo_file_table (ListsPairs (with_only_at (string_bytes file.repository) (string_bytes file.name) (file_row file) rows_of)) old new)
+    → ListsPairs rows_of (old.now.trees repo_file_table.tree) → length (rows_of file.repository.now file.name.now) ≤ 1
+    → Alters repo_file_table (ListsPairs (with_only_at file.repository.now file.name.now (file_row file) rows_of)) old new)
 
 -- where each file stood there once at most, these have their texts
 abbrev pub SetsFiles : {A E : Type 0} → List FileRow → State → State → Result A E → Type 0
@@ -89,8 +96,8 @@ abbrev pub SetsVehicle : {A E : Type 0} → VehicleRow → State → State → R
 SetsVehicle vehicle old new result =
     HasCleanDisk new → OnOk result ((rows_of : List ℕ → List Row) (primary : List ℕ) (version : ℕ) (last : ℕ) → HasTables old
     → Lists 1 rows_of (old.now.trees vehicle_table.tree)
-    → rows_of (string_bytes vehicle.vehicle) ≡ vehicle_line (string_bytes vehicle.vehicle) primary version last ∷ []
-    → Alters vehicle_table (Lists 1 (with_only (string_bytes vehicle.vehicle) (vehicle_row vehicle) rows_of)) old new)
+    → rows_of vehicle.vehicle.now ≡ vehicle_line vehicle.vehicle.now primary version last ∷ []
+    → Alters vehicle_table (Lists 1 (with_only vehicle.vehicle.now (vehicle_row vehicle) rows_of)) old new)
 
 -- the ECU that was recorded has this row
 abbrev pub SetsEcu : {A E : Type 0} → EcuLine → State → State → Result A E → Type 0
@@ -134,20 +141,6 @@ FindsFiles told old new result =
     HasCleanDisk new → IfOk result (λ found. (rows_of : List ℕ → List ℕ → List Row) → HasTables old
     → ListsPairs rows_of (old.now.trees repo_file_table.tree) → told rows_of found)
 
--- the numbers in the one row of `meta`
-abbrev pub FindsMeta : {E : Type 0} → State → State → Result (Option MetaRow) E → Type 0
-FindsMeta old new result =
-    HasCleanDisk new → IfOk result (λ found. (root : ℕ) (image_version : ℕ) (stamp : ℕ) → HasTables old
-    → old.now.trees meta_table.tree ≡ meta_row root image_version stamp ∷ []
-    → found ≡ Some (record { root = root; image_version = image_version; stamp = stamp }))
-
--- the ECUs of the vehicle, in order of their places
-abbrev pub FindsEcus : {A E : Type 0} → List ℕ → (A → List EcuLine) → State → State → Result A E → Type 0
-FindsEcus vehicle read old new result =
-    HasCleanDisk new → IfOk result (λ found. (rows_of : List ℕ → List Row) (es : List EcuLine) → HasTables old
-    → Lists 2 rows_of (old.now.trees ecu_table.tree) → rows_of vehicle ≡ map ecu_row es → AreInPlace vehicle 0 es
-    → rows_of vehicle ≡ map ecu_row (read found))
-
 -- ---- faults of reads
 
 -- where the tables can be read, and P holds of them, `Store` is told only where the disk counted a fault
@@ -167,15 +160,11 @@ HoldsOfAll table P s = (all : List Row) × ListsAll all (s.now.trees table.tree)
 abbrev pub HoldsOfFiles : ((List ℕ → List ℕ → List Row) → Type 0) → State → Type 0
 HoldsOfFiles P s = (rows_of : List ℕ → List ℕ → List Row) × ListsPairs rows_of (s.now.trees repo_file_table.tree) × P rows_of
 
--- `meta` has its one row
-abbrev pub HasMeta : State → Type 0
-HasMeta s = (root : ℕ) × (image_version : ℕ) × (stamp : ℕ) × (s.now.trees meta_table.tree ≡ meta_row root image_version stamp ∷ [])
-
 -- the vehicle stands there, with its Primary
 abbrev pub HasVehicle : VehicleRow → State → Type 0
 HasVehicle vehicle =
     HoldsBy vehicle_table 1 (λ rows_of. (version : ℕ) × (last : ℕ)
-    × (rows_of (string_bytes vehicle.vehicle) ≡ vehicle_line (string_bytes vehicle.vehicle) (string_bytes vehicle.primary_ecu) version last ∷ []))
+    × (rows_of vehicle.vehicle.now ≡ vehicle_line vehicle.vehicle.now vehicle.primary_ecu.now version last ∷ []))
 
 -- ---- tables that are made, and raised to the latest version of the schema
 

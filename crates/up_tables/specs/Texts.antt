@@ -50,9 +50,6 @@ upsert_file_text = codes "INSERT INTO repo_file (repository, name, body) VALUES 
 abbrev pub find_founding_text : List ℕ
 find_founding_text = codes "SELECT root, image_version, stamp FROM meta WHERE id = 1"
 
-abbrev pub all_role_keys_text : List ℕ
-all_role_keys_text = codes "SELECT root, repository, role, place, secret, threshold FROM role_key ORDER BY rowid"
-
 abbrev pub role_keys_of_text : List ℕ
 role_keys_of_text = codes "SELECT root, repository, role, place, secret, threshold FROM role_key WHERE root = ?1 ORDER BY rowid"
 

@@ -1,142 +1,95 @@
 //! The rows of campaigns.
 
-ghost use Rattle.std.specs.Prelude.{◌≡◌, ℕ, pos, List, map, filter, bytes_eq, string_bytes, ◌∷◌, []};
-ghost use Rattle.std.specs.Option.{option_to_list};
-ghost use Rattle.sqlite.specs.declared.types.Value.TheVariants.{Text};
-ghost use Rattle.sqlite.specs.Held.{state};
+ghost use Rattle.std.specs.Prelude.{◌∷◌, ℕ, List, [], map};
 ghost use Rattle.std.specs.List.{AllByRecursion};
+ghost use Rattle.sqlite.specs.declared.types.Value.TheVariants.{Text};
 ghost use Rattle.up_tables.specs.Texts.{insert_campaign_text, close_campaign_text, find_campaign_text, running_campaigns_text};
-ghost use Rattle.up_tables.specs.Kinds.{ShowsOne, ShowsCampaign};
 ghost use Rattle.up_tables.specs.Tables.{campaign_table};
-ghost use Rattle.up_tables.specs.Rows.{columns_at, has_number, with_row};
-ghost use Rattle.up_tables.specs.Forms.{campaign_places, campaign_row};
-ghost use Rattle.up_tables.specs.Stands.{IfClean, IsInside};
-ghost use Rattle.up_tables.specs.Statements.{IsOpenStep, AltersRows, ClosesCampaign, OnlyReads, Finds, FindsAll, BlamesDisk, HoldsBy};
-ghost use Rattle.up_tables.specs.Tried.{BlamesRefusal, Ran, Undoes, AnswersQuery};
+ghost use Rattle.up_tables.specs.Rows.{columns_at, with_row};
+ghost use Rattle.up_tables.specs.Forms.{campaign_places, campaign_row, running_shown};
+ghost use Rattle.up_tables.specs.Statements.{AltersRows, ClosesCampaign, FindsAll, HoldsBy};
+ghost use Rattle.up_tables.specs.Stored.{AreLines, EachSays, IsFound, IsLine, IsQueried, IsTold, IsWritten, Tells};
 
-use crate::reading::{Decode, at_most_one, each_row};
-use crate::values::{StoreFault, done, flag, flag_at, text_at, words};
-use sqlite::{Alter, Row, Transaction};
+use crate::reading::RowReading;
+use crate::statement::{find_value, list_values, write};
+use crate::values::{StoreFault, flag, words};
+use sqlite::{Alter, Transaction};
 use std::alloc::Global;
 
 /// A row of `campaign`: its reach and its items as canonical JSON, and whether it runs.
 #[derive(Drop)]
-pub struct CampaignRow {
-    pub name: String,
-    pub reach: String,
-    pub items: String,
+pub struct CampaignRow<'a> {
+    pub name: &'a str,
+    pub reach: &'a str,
+    pub items: &'a str,
     pub running: bool,
-}
-
-impl Decode for CampaignRow {
-    ghost use Rattle.up_tables.specs.Forms.{campaign_places, campaign_row};
-    ghost use Rattle.up_tables.specs.Kinds.{ShowsCampaign};
-
-    ghost places = { campaign_places };
-
-    ghost values = { campaign_row };
-
-    ghost shows = { ShowsCampaign };
-
-    fn decode(row: &Row) -> Result<CampaignRow, StoreFault> {
-        Ok(CampaignRow {
-            name: text_at(row, 0)?,
-            reach: text_at(row, 1)?,
-            items: text_at(row, 2)?,
-            running: flag_at(row, 3)?,
-        })
-    }
 }
 
 /// Puts in the row of a campaign; `Store` where one has its name.
 pub fn insert_campaign<S: Alter>(
     tx: &mut Transaction<'_, S>,
-    campaign: &CampaignRow,
+    campaign: &CampaignRow<'_>,
 ) -> Result<(), StoreFault>
-    requires mode { IfClean IsInside (state S.Store tx.old.conn.now) }
-    ensures inserted { AltersRows campaign_table 1 (with_row (string_bytes campaign.now.name) (campaign_row campaign.now))
-        (state S.Store tx.old.conn.now) (state S.Store tx.new.conn.now) result }
-    ensures blame { BlamesRefusal insert_campaign_text (campaign_row campaign.now)
-        (state S.Store tx.old.conn.now) (state S.Store tx.new.conn.now) result }
-    ensures ran { Ran ((insert_campaign_text, campaign_row campaign.now) ∷ [])
-        (state S.Store tx.old.conn.now) (state S.Store tx.new.conn.now) result }
-    ensures memory { Undoes (state S.Store tx.new.conn.now) result }
-    ensures step { IsOpenStep S.Store tx.old.conn tx.new.conn result }
+    ensures { IsWritten S.Store insert_campaign_text (campaign_row campaign.now) (AltersRows campaign_table 1
+        (with_row campaign.now.name.now (campaign_row campaign.now))) tx.old.conn tx.new.conn result }
 {
-    done(tx.execute(
+    write(
+        tx,
         "INSERT INTO campaign (name, reach, items, running) VALUES (?1, ?2, ?3, ?4)",
         &[
-            words(campaign.name.as_str()),
-            words(campaign.reach.as_str()),
-            words(campaign.items.as_str()),
+            words(campaign.name),
+            words(campaign.reach),
+            words(campaign.items),
             flag(campaign.running),
         ],
-    ))
+    )
 }
 
 /// Says in its row that a campaign that is there doesn't run.
 pub fn close_campaign<S: Alter>(tx: &mut Transaction<'_, S>, name: &str) -> Result<(), StoreFault>
-    requires mode { IfClean IsInside (state S.Store tx.old.conn.now) }
-    ensures closed { ClosesCampaign name.now (state S.Store tx.old.conn.now) (state S.Store tx.new.conn.now) result }
-    ensures blame { BlamesRefusal close_campaign_text (Text name.now ∷ []) (state S.Store tx.old.conn.now) (state S.Store tx.new.conn.now) result }
-    ensures ran { Ran ((close_campaign_text, Text name.now ∷ []) ∷ []) (state S.Store tx.old.conn.now) (state S.Store tx.new.conn.now) result }
-    ensures memory { Undoes (state S.Store tx.new.conn.now) result }
-    ensures step { IsOpenStep S.Store tx.old.conn tx.new.conn result }
+    ensures { IsWritten S.Store close_campaign_text (Text name.now ∷ []) (ClosesCampaign name.now)
+        tx.old.conn tx.new.conn result }
 {
-    done(tx.execute(
+    write(
+        tx,
         "UPDATE campaign SET running = 0 WHERE name = ?1",
         &[words(name)],
-    ))
+    )
 }
 
 /// The campaign of this name, none where there is none.
-pub fn campaign<S: Alter>(
-    tx: &mut Transaction<'_, S>,
-    name: &str,
-) -> Result<Option<CampaignRow>, StoreFault>
-    requires mode { IfClean IsInside (state S.Store tx.old.conn.now) }
-    ensures found { Finds campaign_table 1
-        (λ rows_of found. map (columns_at campaign_places) (rows_of name.now) ≡ map campaign_row (option_to_list found))
-        (state S.Store tx.old.conn.now) (state S.Store tx.new.conn.now) result }
-    ensures reads { OnlyReads (state S.Store tx.old.conn.now) (state S.Store tx.new.conn.now) result }
-    ensures asks { AnswersQuery find_campaign_text (Text name.now ∷ [])
-        (λ rows found. map (columns_at campaign_places) rows ≡ map campaign_row (option_to_list found))
-        (state S.Store tx.old.conn.now) (state S.Store tx.new.conn.now) result }
-    ensures blame { BlamesDisk (HoldsBy campaign_table 1 (λ rows_of. ShowsOne ShowsCampaign (rows_of name.now)))
-        (state S.Store tx.old.conn.now) (state S.Store tx.new.conn.now) result }
-    ensures step { IsOpenStep S.Store tx.old.conn tx.new.conn result }
-{
-    at_most_one(tx.query_all(
-        "SELECT name, reach, items, running FROM campaign WHERE name = ?1",
-        &[words(name)],
-    ))
-}
-
-/// The campaigns that run, in the order of the table: of each name those of it that run.
-pub fn running_campaigns<S: Alter>(
+pub fn campaign<S: Alter, R: RowReading>(
     tx: &mut Transaction<'_, S>,
     alloc: Global,
-) -> Result<Vec<CampaignRow>, StoreFault>
-    requires mode { IfClean IsInside (state S.Store tx.old.conn.now) }
-    ensures found { Finds campaign_table 1 (λ rows_of found. (name : List ℕ)
-        → map (columns_at campaign_places) (filter (has_number 3 (pos 1)) (rows_of name))
-        ≡ map campaign_row (filter (λ c. bytes_eq (string_bytes c.name) name) found.items))
-        (state S.Store tx.old.conn.now) (state S.Store tx.new.conn.now) result }
-    ensures order { FindsAll campaign_table
-        (λ all found. map (columns_at campaign_places) (filter (has_number 3 (pos 1)) all) ≡ map campaign_row found.items)
-        (state S.Store tx.old.conn.now) (state S.Store tx.new.conn.now) result }
-    ensures reads { OnlyReads (state S.Store tx.old.conn.now) (state S.Store tx.new.conn.now) result }
-    ensures asks { AnswersQuery running_campaigns_text [] (λ rows found. map (columns_at campaign_places) rows ≡ map campaign_row found.items)
-        (state S.Store tx.old.conn.now) (state S.Store tx.new.conn.now) result }
-    ensures blame { BlamesDisk (HoldsBy campaign_table 1 (λ rows_of. (name : List ℕ) → AllByRecursion ShowsCampaign (filter (has_number 3 (pos 1)) (rows_of name))))
-        (state S.Store tx.old.conn.now) (state S.Store tx.new.conn.now) result }
-    ensures step { IsOpenStep S.Store tx.old.conn tx.new.conn result }
+    name: &str,
+) -> Result<Option<R::Item>, StoreFault>
+    ensures { IsFound S.Store find_campaign_text (Text name.now ∷ []) campaign_table 1
+        (λ rows_of. map (columns_at campaign_places) (rows_of name.now)) (IsTold R.says R.fits R.line)
+        (AreLines R.fits R.line) tx.old.conn tx.new.conn result }
 {
-    each_row(
+    find_value::<S, R>(
+        tx,
         alloc,
-        tx.query_all(
-            "SELECT name, reach, items, running FROM campaign WHERE running = 1 ORDER BY rowid",
-            &[],
-        ),
+        "SELECT name, reach, items, running FROM campaign WHERE name = ?1",
+        &[words(name)],
+    )
+}
+
+/// The campaigns that run, in the order of the table.
+pub fn running_campaigns<S: Alter, R: RowReading>(
+    tx: &mut Transaction<'_, S>,
+    alloc: Global,
+) -> Result<Vec<R::Item>, StoreFault>
+    ensures { IsQueried S.Store running_campaigns_text []
+        (λ rows found. EachSays (Tells R.says R.fits R.line) rows found.items)
+        (FindsAll campaign_table (λ all found. EachSays (Tells R.says R.fits R.line) (running_shown all) found.items))
+        (HoldsBy campaign_table 1 (λ rows_of. (name : List ℕ) → AllByRecursion (IsLine R.fits R.line)
+        (running_shown (rows_of name)))) tx.old.conn tx.new.conn result }
+{
+    list_values::<S, R>(
+        tx,
+        alloc,
+        "SELECT name, reach, items, running FROM campaign WHERE running = 1 ORDER BY rowid",
+        &[],
     )
 }

@@ -17,5 +17,6 @@ pub mod replace;
 pub mod repo_file;
 pub mod retired;
 pub mod role_key;
+mod statement;
 pub mod values;
 pub mod vehicle;

@@ -9,13 +9,13 @@ ghost use Rattle.sqlite.specs.Held.{state};
 ghost use Rattle.sqlite.specs.State.{HasCleanDisk, Survives, IsLive};
 ghost use Rattle.up_tables.specs.Tables.{no_schema, up_schema};
 ghost use Rattle.up_tables.specs.Lines.{AreNew};
-ghost use Rattle.up_tables.specs.Stands.{IfClean, IsInside, IsOpen, LeavesOnly, Stands, AreWith, HasNoTables, IsAsCommitted};
-ghost use Rattle.up_tables.specs.Listed.{TableRows, ListsTables};
-ghost use Rattle.up_tables.specs.Versions.{number_of, StandsAs};
-ghost use Rattle.up_tables.specs.Ours.{NamesUs, NamesVersion, NamesOthers, ListsUs, IsOurs, IsHindered, Raised, is_refused};
+ghost use Rattle.up_tables.specs.Opened.{Ends, IsMade, IsUnmade, IsUntaken, Takes};
+ghost use Rattle.up_tables.specs.Stands.{IfClean, IsInside, IsOpen, AreWith, HasNoTables, IsAsCommitted};
+ghost use Rattle.up_tables.specs.Versions.{number_of};
+ghost use Rattle.up_tables.specs.Ours.{NamesVersion, NamesOthers, ListsUs, IsOurs, IsHindered, Raised, is_refused};
 ghost use Rattle.up_tables.specs.Ours.{TellsMeta, older_of, ours_told};
 ghost use Rattle.up_tables.specs.Faults.{open_fault};
-ghost use Rattle.up_tables.specs.Making.{FailsToMake, FailsToRaise, IsTaken, RaisesTo};
+ghost use Rattle.up_tables.specs.Making.{RaisesTo};
 ghost use Rattle.up_tables.specs.declared.open.OpenFault.TheVariants as OpenFault;
 ghost use Rattle.up_tables.specs.Statements.{IsStep};
 
@@ -63,18 +63,12 @@ fn has_no_table<S: Alter>(conn: &Connection<S>) -> bool
 /// database as it was committed.
 pub fn create_tables<S: Alter>(conn: &mut Connection<S>) -> Result<(), OpenFault>
     requires { (state S.Store conn.old).in_transaction ≡ false }
-    ensures made { OnOk result (IfClean (Stands up_schema AreNew) (state S.Store conn.new)) }
-    ensures durable { OnOk result (IfClean (LeavesOnly (AreWith up_schema AreNew)) (state S.Store conn.new)) }
-    ensures empty { HasCleanDisk (state S.Store conn.new) → OnOk result (HasNoTables (state S.Store conn.old)) }
-    ensures full { IsTrue (state S.Store conn.old).is_open → ¬ HasNoTables (state S.Store conn.old) → result ≡ Err OpenFault.Store }
-    ensures fault { IfErr result (λ e. e ≢ OpenFault.NotOurs) }
-    ensures cause { HasCleanDisk (state S.Store conn.new)
-        → IfErr result (λ e. e ≡ OpenFault.Store → FailsToMake (state S.Store conn.old) (state S.Store conn.new)) }
-    ensures kept { OnErr result (IfClean (IsAsCommitted (state S.Store conn.old)) (state S.Store conn.new)) }
-    ensures autocommit { (state S.Store conn.new).in_transaction ≡ false }
-    ensures crash { Survives (state S.Store conn.old) (state S.Store conn.new)
+    ensures made { OnOk result (IsMade (state S.Store conn.old) (state S.Store conn.new)) }
+    ensures ends { Ends (state S.Store conn.old) (state S.Store conn.new)
         (λ trees. HasNoTables (state S.Store conn.old) × AreWith up_schema AreNew trees) }
-    ensures open { HasCleanDisk (state S.Store conn.new) → OnOk result (IsTrue (state S.Store conn.old).is_open) }
+    ensures full { IsTrue (state S.Store conn.old).is_open → ¬ HasNoTables (state S.Store conn.old)
+        → result ≡ Err OpenFault.Store }
+    ensures fault { IfErr result (IsUnmade (state S.Store conn.old) (state S.Store conn.new)) }
 {
     if !has_no_table(conn) {
         return Err(OpenFault::Store);
@@ -94,24 +88,10 @@ pub fn create_tables<S: Alter>(conn: &mut Connection<S>) -> Result<(), OpenFault
 /// whatever stands beside, a raise makes just its statements, and tables of the latest version are left alone.
 pub fn take_tables<S: Alter>(conn: &mut Connection<S>) -> Result<bool, OpenFault>
     requires { (state S.Store conn.old).in_transaction ≡ false }
-    ensures ours { IfOk result (λ b. IsTrue b → HasCleanDisk (state S.Store conn.new) → NamesUs (state S.Store conn.old)) }
-    ensures others { IfOk result (λ b. b ≡ false → HasCleanDisk (state S.Store conn.new) → NamesOthers (state S.Store conn.old)) }
-    ensures listed { IfOk result (λ b. HasCleanDisk (state S.Store conn.new)
-        → (version : SchemaVersion) → ListsUs version (state S.Store conn.old) → IsTrue b) }
-    ensures taken { IfOk result (λ b. IsTrue b → HasCleanDisk (state S.Store conn.new) → (version : SchemaVersion) (rows : TableRows)
-        → StandsAs version rows (state S.Store conn.old) → Stands up_schema (ListsTables rows) (state S.Store conn.new)) }
-    ensures ran { IfOk result (λ b. IsTrue b → HasCleanDisk (state S.Store conn.new)
-        → IsTaken (state S.Store conn.old) (state S.Store conn.new)) }
-    ensures fault { IfErr result (λ e. e ≢ OpenFault.NotOurs) }
-    ensures cause { HasCleanDisk (state S.Store conn.new)
-        → IfErr result (λ e. e ≡ OpenFault.Store
-        → IsHindered (state S.Store conn.old) (state S.Store conn.new) ⊎ FailsToRaise (state S.Store conn.old)) }
-    ensures kept { IfOk result (λ b. b ≡ false → IfClean (IsAsCommitted (state S.Store conn.old)) (state S.Store conn.new)) }
-    ensures kept_err { OnErr result (IfClean (IsAsCommitted (state S.Store conn.old)) (state S.Store conn.new)) }
-    ensures autocommit { (state S.Store conn.new).in_transaction ≡ false }
-    ensures crash { Survives (state S.Store conn.old) (state S.Store conn.new)
+    ensures taken { IfOk result (Takes (state S.Store conn.old) (state S.Store conn.new)) }
+    ensures ends { Ends (state S.Store conn.old) (state S.Store conn.new)
         (λ trees. Raised (state S.Store conn.old) trees × RaisesTo (state S.Store conn.old) trees) }
-    ensures open { HasCleanDisk (state S.Store conn.new) → OnOk result (IsTrue (state S.Store conn.old).is_open) }
+    ensures fault { IfErr result (IsUntaken (state S.Store conn.old) (state S.Store conn.new)) }
 {
     let _idle = conn.is_autocommit();
     let found = version_there(conn);
@@ -153,9 +133,10 @@ fn version_there<S: Alter>(conn: &mut Connection<S>) -> Result<Option<SchemaVers
     requires { (state S.Store conn.old).in_transaction ≡ false }
     ensures named { HasCleanDisk (state S.Store conn.new)
         → IfOk result (λ found. IfSome found (λ version. NamesVersion version (state S.Store conn.old))) }
-    ensures others { HasCleanDisk (state S.Store conn.new) → IfOk result (λ found. found ≡ None → NamesOthers (state S.Store conn.old)) }
-    ensures tells { HasCleanDisk (state S.Store conn.new)
-        → IfOk result (λ found. (version : SchemaVersion) → ListsUs version (state S.Store conn.old) → found ≡ Some version) }
+    ensures others { HasCleanDisk (state S.Store conn.new) → IfOk result (λ found. found ≡ None → NamesOthers
+        (state S.Store conn.old)) }
+    ensures tells { HasCleanDisk (state S.Store conn.new) → IfOk result (λ found. (version : SchemaVersion)
+        → ListsUs version (state S.Store conn.old) → found ≡ Some version) }
     ensures fault { IfErr result (λ e. e ≢ OpenFault.NotOurs) }
     ensures cause { HasCleanDisk (state S.Store conn.new)
         → IfErr result (λ e. e ≡ OpenFault.Store → IsHindered (state S.Store conn.old) (state S.Store conn.new)) }
@@ -171,16 +152,17 @@ fn version_there<S: Alter>(conn: &mut Connection<S>) -> Result<Option<SchemaVers
 /// The rows of `meta` with the product and the schema.
 fn find_meta<S: Alter>(tx: &mut Transaction<'_, S>) -> Result<Vec<Row>, Error>
     requires mode { IfClean IsInside (state S.Store tx.old.conn.now) }
-    ensures found { HasCleanDisk (state S.Store tx.new.conn.now)
-        → IfOk result (λ rows. (version : SchemaVersion) → IsOurs version rows.items → NamesVersion version (state S.Store tx.old.conn.now)) }
-    ensures tells { HasCleanDisk (state S.Store tx.new.conn.now)
-        → IfOk result (λ rows. (version : SchemaVersion) → ListsUs version (state S.Store tx.old.conn.now) → IsOurs version rows.items) }
-    ensures others { HasCleanDisk (state S.Store tx.new.conn.now)
-        → IfOk result (λ rows. ((version : SchemaVersion) → ¬ IsOurs version rows.items) → NamesOthers (state S.Store tx.old.conn.now)) }
+    ensures found { HasCleanDisk (state S.Store tx.new.conn.now) → IfOk result (λ rows. (version : SchemaVersion)
+        → IsOurs version rows.items → NamesVersion version (state S.Store tx.old.conn.now)) }
+    ensures tells { HasCleanDisk (state S.Store tx.new.conn.now) → IfOk result (λ rows. (version : SchemaVersion)
+        → ListsUs version (state S.Store tx.old.conn.now) → IsOurs version rows.items) }
+    ensures others { HasCleanDisk (state S.Store tx.new.conn.now) → IfOk result
+        (λ rows. ((version : SchemaVersion) → ¬ IsOurs version rows.items) → NamesOthers
+        (state S.Store tx.old.conn.now)) }
     ensures refused { HasCleanDisk (state S.Store tx.new.conn.now)
         → IfErr result (λ e. IsTrue (is_refused e) → NamesOthers (state S.Store tx.old.conn.now)) }
-    ensures cause { HasCleanDisk (state S.Store tx.new.conn.now) → IfErr result (λ e. is_refused e ≡ false → open_fault e ≡ OpenFault.Store
-        → IsHindered (state S.Store tx.old.conn.now) (state S.Store tx.new.conn.now)) }
+    ensures cause { HasCleanDisk (state S.Store tx.new.conn.now) → IfErr result (λ e. is_refused e ≡ false
+        → open_fault e ≡ OpenFault.Store → IsHindered (state S.Store tx.old.conn.now) (state S.Store tx.new.conn.now)) }
     ensures open { OnOk result (IfClean IsOpen (state S.Store tx.new.conn.now)) }
     ensures step { IsStep S.Store tx.old.conn tx.new.conn }
 {

@@ -1,17 +1,13 @@
 //! Tables of an older version of the schema become those of the latest, in one transaction.
 
-ghost use Rattle.std.specs.Prelude.{◌≡◌, ◌≢◌, ◌⊎◌, false, OnOk, OnErr, IfErr, IsTrue};
+ghost use Rattle.std.specs.Prelude.{◌≡◌, false, OnOk, IfErr};
 ghost use Rattle.sqlite.specs.Held.{state};
-ghost use Rattle.sqlite.specs.State.{HasCleanDisk, Survives};
-ghost use Rattle.up_tables.specs.Listed.{TableRows, ListsTables};
-ghost use Rattle.up_tables.specs.Making.{alone, raising, set_schema_text, RaisesBy, ShowsRaised, StopsAtOne, TriesAnywhere};
-ghost use Rattle.up_tables.specs.Ours.{HasFailed, IsOlder, RaisedFrom};
-ghost use Rattle.up_tables.specs.Stands.{IfClean, IsAsCommitted, IsInside, IsOpen, Stands};
-ghost use Rattle.up_tables.specs.Tables.{up_schema};
-ghost use Rattle.up_tables.specs.Versions.{StandsAs};
-ghost use Rattle.up_tables.specs.declared.open.OpenFault.TheVariants as OpenFault;
+ghost use Rattle.up_tables.specs.Making.{alone, raising, set_schema_text, RaisesBy};
+ghost use Rattle.up_tables.specs.Opened.{Ends, IsRaised, IsUnraised, RaisedBy, RaisesWithin};
+ghost use Rattle.up_tables.specs.Ours.{IsOlder, RaisedFrom};
+ghost use Rattle.up_tables.specs.Stands.{IfClean, IsInside};
 ghost use Rattle.up_tables.specs.declared.open.SchemaVersion.TheVariants.{One, Two};
-ghost use Rattle.up_tables.specs.Statements.{IsStep, NamesLatest, RaisesFrom};
+ghost use Rattle.up_tables.specs.Statements.{NamesLatest, RaisesFrom};
 
 use crate::create::{make_image_sha512, make_retired};
 use crate::open::{OpenFault, SchemaVersion, opened};
@@ -19,26 +15,14 @@ use sqlite::{Alter, Connection, Error, Transaction};
 
 /// Says that the tables are of the latest version.
 fn set_schema<S: Alter>(tx: &mut Transaction<'_, S>) -> Result<usize, Error>
-    requires mode { IfClean IsInside (state S.Store tx.old.conn.now) }
-    ensures set { NamesLatest (state S.Store tx.old.conn.now) (state S.Store tx.new.conn.now) result }
-    ensures inside { OnOk result (IfClean IsInside (state S.Store tx.new.conn.now)) }
-    ensures open { OnOk result (IfClean IsOpen (state S.Store tx.new.conn.now)) }
-    ensures tried { HasCleanDisk (state S.Store tx.new.conn.now)
-        → TriesAnywhere (alone set_schema_text) (state S.Store tx.old.conn.now) (state S.Store tx.new.conn.now) result }
-    ensures step { IsStep S.Store tx.old.conn tx.new.conn }
+    ensures { RaisesWithin S.Store (alone set_schema_text) NamesLatest tx.old.conn tx.new.conn result }
 {
     tx.execute("UPDATE meta SET schema = 3 WHERE id = 1", &[])
 }
 
 /// Tables of version 1 become those of version 3: no ECU was retired, and no image has a second hash.
 fn raise_first<S: Alter>(tx: &mut Transaction<'_, S>) -> Result<usize, Error>
-    requires mode { IfClean IsInside (state S.Store tx.old.conn.now) }
-    ensures raised { RaisesFrom One (state S.Store tx.old.conn.now) (state S.Store tx.new.conn.now) result }
-    ensures inside { OnOk result (IfClean IsInside (state S.Store tx.new.conn.now)) }
-    ensures open { OnOk result (IfClean IsOpen (state S.Store tx.new.conn.now)) }
-    ensures tried { HasCleanDisk (state S.Store tx.new.conn.now)
-        → TriesAnywhere (raising One) (state S.Store tx.old.conn.now) (state S.Store tx.new.conn.now) result }
-    ensures step { IsStep S.Store tx.old.conn tx.new.conn }
+    ensures { RaisesWithin S.Store (raising One) (RaisesFrom One) tx.old.conn tx.new.conn result }
 {
     make_retired(tx)?;
     make_image_sha512(tx)?;
@@ -47,13 +31,7 @@ fn raise_first<S: Alter>(tx: &mut Transaction<'_, S>) -> Result<usize, Error>
 
 /// Tables of version 2 become those of version 3: no image has a second hash.
 fn raise_second<S: Alter>(tx: &mut Transaction<'_, S>) -> Result<usize, Error>
-    requires mode { IfClean IsInside (state S.Store tx.old.conn.now) }
-    ensures raised { RaisesFrom Two (state S.Store tx.old.conn.now) (state S.Store tx.new.conn.now) result }
-    ensures inside { OnOk result (IfClean IsInside (state S.Store tx.new.conn.now)) }
-    ensures open { OnOk result (IfClean IsOpen (state S.Store tx.new.conn.now)) }
-    ensures tried { HasCleanDisk (state S.Store tx.new.conn.now)
-        → TriesAnywhere (raising Two) (state S.Store tx.old.conn.now) (state S.Store tx.new.conn.now) result }
-    ensures step { IsStep S.Store tx.old.conn tx.new.conn }
+    ensures { RaisesWithin S.Store (raising Two) (RaisesFrom Two) tx.old.conn tx.new.conn result }
 {
     make_image_sha512(tx)?;
     set_schema(tx)
@@ -66,12 +44,7 @@ fn raise_tables<S: Alter>(
 ) -> Result<usize, Error>
     requires older { IsOlder version }
     requires mode { IfClean IsInside (state S.Store tx.old.conn.now) }
-    ensures raised { RaisesFrom version (state S.Store tx.old.conn.now) (state S.Store tx.new.conn.now) result }
-    ensures inside { OnOk result (IfClean IsInside (state S.Store tx.new.conn.now)) }
-    ensures open { OnOk result (IfClean IsOpen (state S.Store tx.new.conn.now)) }
-    ensures tried { HasCleanDisk (state S.Store tx.new.conn.now)
-        → TriesAnywhere (raising version) (state S.Store tx.old.conn.now) (state S.Store tx.new.conn.now) result }
-    ensures step { IsStep S.Store tx.old.conn tx.new.conn }
+    ensures { RaisedBy S.Store (raising version) (RaisesFrom version) tx.old.conn tx.new.conn result }
 {
     match version {
         SchemaVersion::One => raise_first(tx),
@@ -87,20 +60,10 @@ pub(crate) fn raise<S: Alter>(
 ) -> Result<(), OpenFault>
     requires older { IsOlder version }
     requires mode { (state S.Store conn.old).in_transaction ≡ false }
-    ensures raised { HasCleanDisk (state S.Store conn.new) → OnOk result ((rows : TableRows) → StandsAs version rows (state S.Store conn.old)
-        → Stands up_schema (ListsTables rows) (state S.Store conn.new)) }
-    ensures ran { HasCleanDisk (state S.Store conn.new) → OnOk result
-        (ShowsRaised version (state S.Store conn.old).step_limit (state S.Store conn.old).now (state S.Store conn.new)) }
-    ensures older { IsOlder version }
-    ensures kept { OnErr result (IfClean (IsAsCommitted (state S.Store conn.old)) (state S.Store conn.new)) }
-    ensures fault { IfErr result (λ e. e ≢ OpenFault.NotOurs) }
-    ensures cause { HasCleanDisk (state S.Store conn.new) → IfErr result (λ e. e ≡ OpenFault.Store
-        → HasFailed (state S.Store conn.old) (state S.Store conn.new)
-        ⊎ StopsAtOne (state S.Store conn.old).step_limit (raising version) (state S.Store conn.old).now) }
-    ensures autocommit { (state S.Store conn.new).in_transaction ≡ false }
-    ensures crash { Survives (state S.Store conn.old) (state S.Store conn.new)
+    ensures raised { OnOk result (IsRaised version (state S.Store conn.old) (state S.Store conn.new)) }
+    ensures ends { Ends (state S.Store conn.old) (state S.Store conn.new)
         (λ trees. RaisedFrom version (state S.Store conn.old) trees × RaisesBy version (state S.Store conn.old) trees) }
-    ensures open { HasCleanDisk (state S.Store conn.new) → OnOk result (IsTrue (state S.Store conn.old).is_open) }
+    ensures fault { IfErr result (IsUnraised version (state S.Store conn.old) (state S.Store conn.new)) }
 {
     let mut tx = conn.transaction();
     if let Err(fault) = opened(raise_tables(&mut tx, version)) {

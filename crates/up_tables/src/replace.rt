@@ -2,13 +2,12 @@
 
 ghost use Rattle.std.specs.Prelude.{◌∷◌, []};
 ghost use Rattle.sqlite.specs.declared.types.Value.TheVariants.{Text, Blob};
-ghost use Rattle.sqlite.specs.Held.{state};
 ghost use Rattle.up_tables.specs.Texts.{replace_ecu_text};
-ghost use Rattle.up_tables.specs.Stands.{IfClean, IsInside};
-ghost use Rattle.up_tables.specs.Statements.{IsOpenStep, ReplacesEcu};
-ghost use Rattle.up_tables.specs.Tried.{BlamesRefusal, Ran, Undoes};
+ghost use Rattle.up_tables.specs.Stored.{IsWritten};
+ghost use Rattle.up_tables.specs.Statements.{ReplacesEcu};
 
-use crate::values::{StoreFault, bytes, done, words};
+use crate::statement::write;
+use crate::values::{StoreFault, bytes, words};
 use sqlite::{Alter, Transaction};
 
 /// Puts an ECU, before its first report, in the place of the one named `old`, which is there: the row keeps its vehicle and its place in it. `Store`
@@ -20,18 +19,13 @@ pub fn replace_ecu<S: Alter>(
     hardware: &str,
     public_key: &[u8],
 ) -> Result<(), StoreFault>
-    requires mode { IfClean IsInside (state S.Store tx.old.conn.now) }
-    ensures replaced { ReplacesEcu old.now ecu.now hardware.now public_key.now
-        (state S.Store tx.old.conn.now) (state S.Store tx.new.conn.now) result }
-    ensures blame { BlamesRefusal replace_ecu_text (Text ecu.now ∷ Text hardware.now ∷ Blob public_key.now ∷ Text old.now ∷ [])
-        (state S.Store tx.old.conn.now) (state S.Store tx.new.conn.now) result }
-    ensures ran { Ran ((replace_ecu_text, Text ecu.now ∷ Text hardware.now ∷ Blob public_key.now ∷ Text old.now ∷ []) ∷ [])
-        (state S.Store tx.old.conn.now) (state S.Store tx.new.conn.now) result }
-    ensures memory { Undoes (state S.Store tx.new.conn.now) result }
-    ensures step { IsOpenStep S.Store tx.old.conn tx.new.conn result }
+    ensures { IsWritten S.Store replace_ecu_text
+        (Text ecu.now ∷ Text hardware.now ∷ Blob public_key.now ∷ Text old.now ∷ [])
+        (ReplacesEcu old.now ecu.now hardware.now public_key.now) tx.old.conn tx.new.conn result }
 {
-    done(tx.execute(
+    write(
+        tx,
         "UPDATE ecu SET ecu = ?1, hardware = ?2, public_key = ?3, file = NULL, length = NULL, sha256 = NULL, counter = 0, report = NULL WHERE ecu = ?4",
         &[words(ecu), words(hardware), bytes(public_key), words(old)],
-    ))
+    )
 }

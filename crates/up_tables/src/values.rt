@@ -3,7 +3,6 @@
 ghost use Rattle.std.specs.Prelude.{◌≡◌, ◌≢◌, ◌↔◌, ◌<◌, ◌^◌, ℕ, Bool, List, pos, if◌then◌else◌, None, Ok, Err, OnOk, IfOk, IfErr, IsTrue, IsUtf8, string_bytes};
 ghost use Rattle.std.specs.Result.{IsOk};
 ghost use Rattle.sqlite.specs.Order.{column};
-ghost use Rattle.sqlite_sql.specs.Ops.{is_null};
 ghost use Rattle.sqlite.specs.Values.{bound_value, or_null};
 ghost use Rattle.sqlite.specs.Value.{owned};
 ghost use Rattle.sqlite.specs.declared.types.Value.TheVariants.{Null, Int, Text, Blob};
@@ -100,7 +99,7 @@ pub fn bytes<'a>(blob: &'a [u8]) -> ValueRef<'a>
 
 /// Whether a column is null, as one that the row doesn't have is too.
 pub fn is_null(row: &Row, at: usize) -> bool
-    ensures { result ≡ is_null (column row.now at) }
+    ensures { IsTrue result ↔ (column row.now at ≡ Null) }
 {
     match row.get_ref(at) {
         Ok(ValueRef::Null) => true,
@@ -112,6 +111,7 @@ pub fn is_null(row: &Row, at: usize) -> bool
 /// A number that isn't below 0; `Store` where it is.
 fn not_below_zero(number: i64) -> Result<u64, StoreFault>
     ensures ok { IfOk result (λ n. number ≡ pos n) }
+    ensures fits { IfOk result (λ n. n < 2 ^ 63) }
     ensures fault { IfErr result (λ fault. (fault ≡ StoreFault.Store) × ((n : ℕ) → number ≢ pos n)) }
 {
     match u64::try_from(number) {
@@ -123,6 +123,7 @@ fn not_below_zero(number: i64) -> Result<u64, StoreFault>
 /// The number in a column; `Store` where it has none.
 pub fn number_at(row: &Row, at: usize) -> Result<u64, StoreFault>
     ensures ok { IfOk result (λ n. column row.now at ≡ Int (pos n)) }
+    ensures fits { IfOk result (λ n. n < 2 ^ 63) }
     ensures fault { IfErr result (λ fault. (fault ≡ StoreFault.Store) × ((n : ℕ) → column row.now at ≢ Int (pos n))) }
 {
     match row.get_ref(at) {
@@ -134,7 +135,8 @@ pub fn number_at(row: &Row, at: usize) -> Result<u64, StoreFault>
 /// Yes or no in a column; `Store` where it has another number, or none.
 pub fn flag_at(row: &Row, at: usize) -> Result<bool, StoreFault>
     ensures ok { IfOk result (λ yes. column row.now at ≡ Int (yes_or_no yes)) }
-    ensures fault { IfErr result (λ fault. (fault ≡ StoreFault.Store) × ((yes : Bool) → column row.now at ≢ Int (yes_or_no yes))) }
+    ensures fault { IfErr result (λ fault. (fault ≡ StoreFault.Store) × ((yes : Bool) → column row.now at ≢ Int
+        (yes_or_no yes))) }
 {
     match number_at(row, at) {
         Ok(0) => Ok(false),
@@ -198,7 +200,8 @@ fn unread(is_there: bool) -> StoreFault
 /// The text in a column; `Store` where it has none, and only there.
 pub fn text_at(row: &Row, at: usize) -> Result<String, StoreFault>
     ensures ok { IfOk result (λ s. column row.now at ≡ Text (string_bytes s)) }
-    ensures fault { IfErr result (λ fault. fault ≡ StoreFault.Store → (s : List ℕ) → IsUtf8 s → column row.now at ≢ Text s) }
+    ensures fault { IfErr result (λ fault. fault ≡ StoreFault.Store → (s : List ℕ) → IsUtf8 s
+        → column row.now at ≢ Text s) }
     ensures kind { ((s : List ℕ) → IsUtf8 s → column row.now at ≢ Text s) → result ≡ Err StoreFault.Store }
 {
     match row.get::<String>(at) {
@@ -216,22 +219,5 @@ pub fn bytes_at(row: &Row, at: usize) -> Result<Vec<u8>, StoreFault>
     match row.get::<Vec<u8>>(at) {
         Ok(blob) => Ok(blob),
         Err(_) => Err(unread(is_blob(row, at))),
-    }
-}
-
-/// The text in a column, none where it is null; `Store` where it has anything else.
-pub fn text_or_null_at(row: &Row, at: usize) -> Result<Option<String>, StoreFault>
-    ensures ok { IfOk result (λ o. column row.now at ≡ or_null (λ s. Text (string_bytes s)) o) }
-    ensures fault { IfErr result (λ fault. fault ≡ StoreFault.Store
-        → (column row.now at ≢ Null) × ((s : List ℕ) → IsUtf8 s → column row.now at ≢ Text s)) }
-    ensures none { column row.now at ≡ Null → result ≡ Ok None }
-    ensures kind { column row.now at ≢ Null → ((s : List ℕ) → IsUtf8 s → column row.now at ≢ Text s) → result ≡ Err StoreFault.Store }
-{
-    if is_null(row, at) {
-        return Ok(None);
-    }
-    match text_at(row, at) {
-        Ok(text) => Ok(Some(text)),
-        Err(fault) => Err(fault),
     }
 }

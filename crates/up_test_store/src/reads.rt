@@ -89,7 +89,7 @@ fn founding<S: Alter>(alloc: Global, store: &mut Store<S>) -> Result<String, Fau
 }
 
 fn founded<S: Alter>(alloc: Global, store: &mut Store<S>) -> Result<String, Fault> {
-    match store.is_founded() {
+    match store.is_founded(alloc) {
         Ok(true) => made("yes".to_string(alloc)),
         Ok(false) => made("no".to_string(alloc)),
         Err(fault) => Err(Fault::from(fault)),
@@ -183,7 +183,7 @@ fn ecus<S: Alter>(alloc: Global, store: &mut Store<S>, vehicle: &Ident) -> Resul
 }
 
 fn owner<S: Alter>(alloc: Global, store: &mut Store<S>, ecu: &Ident) -> Result<String, Fault> {
-    match store.ecu_owner(alloc, ecu) {
+    match store.ecu_owner(ecu) {
         Ok(Some(vehicle)) => made(vehicle.text().to_string(alloc)),
         Ok(None) => none(alloc),
         Err(fault) => Err(Fault::from(fault)),

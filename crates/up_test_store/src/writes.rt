@@ -65,7 +65,7 @@ fn write_rotate<S: Alter>(alloc: Global, store: &mut Store<S>, given: &str) -> R
 
 fn write_refresh<S: Alter>(alloc: Global, store: &mut Store<S>, given: &str) -> Result<(), Fault> {
     match register_rows(alloc, given) {
-        Ok(rows) => done(store.write_refresh(alloc, &rows)),
+        Ok(rows) => done(store.write_refresh(&rows)),
         Err(fault) => Err(fault),
     }
 }
@@ -82,14 +82,14 @@ fn write_image<S: Alter>(alloc: Global, store: &mut Store<S>, given: &str) -> Re
 
 fn write_vehicle<S: Alter>(alloc: Global, store: &mut Store<S>, given: &str) -> Result<(), Fault> {
     match vehicle_rows(alloc, given) {
-        Ok(rows) => done(store.write_vehicle(alloc, &rows)),
+        Ok(rows) => done(store.write_vehicle(&rows)),
         Err(fault) => Err(fault),
     }
 }
 
 fn write_replace<S: Alter>(alloc: Global, store: &mut Store<S>, given: &str) -> Result<(), Fault> {
     match replacement(alloc, given) {
-        Ok(new) => done(store.write_replace(alloc, &new)),
+        Ok(new) => done(store.write_replace(&new)),
         Err(fault) => Err(fault),
     }
 }
@@ -103,7 +103,7 @@ fn write_campaign<S: Alter>(alloc: Global, store: &mut Store<S>, given: &str) ->
 
 fn write_close<S: Alter>(alloc: Global, store: &mut Store<S>, given: &str) -> Result<(), Fault> {
     match campaign(alloc, given) {
-        Ok(closed) => done(store.write_close(alloc, &closed)),
+        Ok(closed) => done(store.write_close(&closed)),
         Err(fault) => Err(fault),
     }
 }

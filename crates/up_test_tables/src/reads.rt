@@ -1,8 +1,6 @@
 //! Statements that read.
-ghost use Rattle.std.specs.Prelude.{◌≡◌};
-ghost use Rattle.sqlite.specs.Held.{state};
-ghost use Rattle.up_tables.specs.Stands.{IfClean, IsInside};
 
+use crate::shown::{Columns, row_text};
 use crate::texts::{all, one};
 use crate::words::{first_of, number, word};
 use sqlite::{Alter, Error, Row, Transaction};
@@ -15,7 +13,7 @@ use up_tables::kept::kept;
 use up_tables::meta::meta;
 use up_tables::repo_file::file;
 use up_tables::retired::retired_owner;
-use up_tables::role_key::{role_keys, role_keys_of};
+use up_tables::role_key::role_keys_of;
 use up_tables::values::{StoreFault, fault_of};
 use up_tables::vehicle::vehicle;
 
@@ -24,15 +22,14 @@ pub(crate) fn read<S: Alter>(
     tx: &mut Transaction<'_, S>,
     alloc: Global,
     given: &str,
-) -> Result<String, StoreFault>
-    requires { IfClean IsInside (state S.Store tx.old.conn.now) }
-    ensures { tx.new.conn.ghost_name ≡ tx.old.conn.ghost_name }
-{
+) -> Result<String, StoreFault> {
     let (word, rest) = first_of(given);
     match word {
-        "meta" => one(alloc, meta(tx)),
-        "keys" => all(alloc, role_keys(tx, alloc)),
-        "keys_of" => all(alloc, role_keys_of(tx, alloc, number(rest, 0))),
+        "meta" => one(alloc, meta::<S, Columns>(tx, alloc)),
+        "keys_of" => all(
+            alloc,
+            role_keys_of::<S, Columns>(tx, alloc, number(rest, 0)),
+        ),
         "file" => read_file(tx, alloc, rest),
         _ => read_image(tx, alloc, word, rest),
     }
@@ -42,12 +39,9 @@ fn read_file<S: Alter>(
     tx: &mut Transaction<'_, S>,
     alloc: Global,
     given: &str,
-) -> Result<String, StoreFault>
-    requires { IfClean IsInside (state S.Store tx.old.conn.now) }
-    ensures { tx.new.conn.ghost_name ≡ tx.old.conn.ghost_name }
-{
+) -> Result<String, StoreFault> {
     let (repository, name) = first_of(given);
-    one(alloc, file(tx, repository, name))
+    one(alloc, file::<S, Columns>(tx, alloc, repository, name))
 }
 
 fn read_image<S: Alter>(
@@ -55,17 +49,14 @@ fn read_image<S: Alter>(
     alloc: Global,
     word: &str,
     given: &str,
-) -> Result<String, StoreFault>
-    requires { IfClean IsInside (state S.Store tx.old.conn.now) }
-    ensures { tx.new.conn.ghost_name ≡ tx.old.conn.ghost_name }
-{
+) -> Result<String, StoreFault> {
     match word {
-        "image" => one(alloc, image(tx, given)),
-        "images" => all(alloc, images(tx, alloc)),
-        "campaign" => one(alloc, campaign(tx, given)),
-        "running" => all(alloc, running_campaigns(tx, alloc)),
-        "sha512" => one(alloc, image_sha512(tx, given)),
-        "sha512s" => all(alloc, image_sha512s(tx, alloc)),
+        "image" => one(alloc, image::<S, Columns>(tx, alloc, given)),
+        "images" => all(alloc, images::<S, Columns>(tx, alloc)),
+        "campaign" => one(alloc, campaign::<S, Columns>(tx, alloc, given)),
+        "running" => all(alloc, running_campaigns::<S, Columns>(tx, alloc)),
+        "sha512" => one(alloc, image_sha512::<S, Columns>(tx, alloc, given)),
+        "sha512s" => all(alloc, image_sha512s::<S, Columns>(tx, alloc)),
         _ => read_vehicle(tx, alloc, word, given),
     }
 }
@@ -75,13 +66,10 @@ fn read_vehicle<S: Alter>(
     alloc: Global,
     word: &str,
     given: &str,
-) -> Result<String, StoreFault>
-    requires { IfClean IsInside (state S.Store tx.old.conn.now) }
-    ensures { tx.new.conn.ghost_name ≡ tx.old.conn.ghost_name }
-{
+) -> Result<String, StoreFault> {
     match word {
-        "vehicle" => one(alloc, vehicle(tx, given)),
-        "ecus" => all(alloc, ecus(tx, alloc, given)),
+        "vehicle" => one(alloc, vehicle::<S, Columns>(tx, alloc, given)),
+        "ecus" => all(alloc, ecus::<S, Columns>(tx, alloc, given)),
         "owner" => one(alloc, ecu_owner(tx, given)),
         "retired" => one(alloc, retired_owner(tx, given)),
         "kept" => read_kept(tx, alloc, given),
@@ -94,17 +82,25 @@ fn read_kept<S: Alter>(
     tx: &mut Transaction<'_, S>,
     alloc: Global,
     given: &str,
-) -> Result<String, StoreFault>
-    requires { IfClean IsInside (state S.Store tx.old.conn.now) }
-    ensures { tx.new.conn.ghost_name ≡ tx.old.conn.ghost_name }
-{
-    one(alloc, kept(tx, word(given, 0), number(given, 1)))
+) -> Result<String, StoreFault> {
+    one(
+        alloc,
+        kept::<S, Columns>(tx, alloc, word(given, 0), number(given, 1)),
+    )
 }
 
 /// The rows that a query of one's own answers.
 fn answered(alloc: Global, answer: Result<Vec<Row>, Error>) -> Result<String, StoreFault> {
     match answer {
-        Ok(rows) => all(alloc, Ok(rows)),
+        Ok(rows) => all(alloc, told(alloc, rows.as_slice())),
         Err(error) => Err(fault_of(error)),
     }
+}
+
+fn told(alloc: Global, rows: &[Row]) -> Result<Vec<String>, StoreFault> {
+    let mut texts = Vec::new(alloc);
+    for row in rows {
+        texts.push(row_text(alloc, row)?)?;
+    }
+    Ok(texts)
 }

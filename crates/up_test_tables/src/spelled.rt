@@ -1,9 +1,10 @@
 //! Rows of tables as statements spell them: their columns in order, a space between, bytes in hex. What an ECU has installed is
-//! `FILE:LENGTH:SHA256`, and a `-` stands for nothing.
-ghost use Rattle.std.specs.Prelude.{◌<◌, ◌^◌, All, IfOk, IfSome};
+//! `FILE:LENGTH:SHA256`, and a `-` stands for nothing. A word that is left out is empty, and a number 0.
+ghost use Rattle.std.specs.Prelude.{◌<◌, ◌^◌, IfSome};
+ghost use Rattle.up_tables.specs.Ecus.{FitEcu};
+ghost use Rattle.up_tables.specs.Forms.{FitImage, FitKept, FitMeta, FitRoleKey, FitVehicle};
 
-use crate::words::{bytes, number, word};
-use std::alloc::{AllocError, Global};
+use crate::words::{number, word};
 use up_tables::campaign::CampaignRow;
 use up_tables::ecu::{EcuRow, Installed};
 use up_tables::image::ImageRow;
@@ -13,185 +14,125 @@ use up_tables::repo_file::FileRow;
 use up_tables::role_key::RoleKeyRow;
 use up_tables::vehicle::VehicleRow;
 
-/// A row that a text spells.
-pub(crate) trait Spelled {
-    ghost use Rattle.std.specs.Prelude.{IfOk};
-
-    // Whether its numbers fit their columns.
-    ghost fits: { Self → Type 0 };
-
-    /// The row of this text; a word that is left out is empty, and a number 0.
-    fn spelled(alloc: Global, text: &str) -> Result<Self, AllocError>
-        ensures { IfOk result (λ row. fits row) };
-}
-
-/// The rows of a text, with ` ; ` between.
-pub(crate) fn each<T: Spelled + Drop>(alloc: Global, text: &str) -> Result<Vec<T>, AllocError>
-    ensures { IfOk result (λ rows. All T.fits rows.items) }
+pub(crate) fn numbers(text: &str) -> MetaRow
+    ensures { FitMeta result }
 {
-    let mut rows = Vec::new(alloc);
-    for part in text.split(" ; ") {
-        rows.push(T::spelled(alloc, part)?)?;
-    }
-    Ok(rows)
-}
-
-fn text_at(alloc: Global, text: &str, at: usize) -> Result<String, AllocError> {
-    word(text, at).to_string(alloc)
-}
-
-impl Spelled for MetaRow {
-    ghost use Rattle.up_tables.specs.Forms.{FitMeta};
-
-    ghost fits = { FitMeta };
-
-    fn spelled(_: Global, text: &str) -> Result<MetaRow, AllocError> {
-        Ok(MetaRow {
-            root: number(text, 0),
-            image_version: number(text, 1),
-            stamp: number(text, 2),
-        })
+    MetaRow {
+        root: number(text, 0),
+        image_version: number(text, 1),
+        stamp: number(text, 2),
     }
 }
 
-impl Spelled for RoleKeyRow {
-    ghost use Rattle.up_tables.specs.Forms.{FitRoleKey};
-
-    ghost fits = { FitRoleKey };
-
-    fn spelled(alloc: Global, text: &str) -> Result<RoleKeyRow, AllocError> {
-        Ok(RoleKeyRow {
-            root: number(text, 0),
-            repository: text_at(alloc, text, 1)?,
-            role: text_at(alloc, text, 2)?,
-            place: number(text, 3),
-            secret: bytes(alloc, word(text, 4))?,
-            threshold: number(text, 5),
-        })
+pub(crate) fn role_key<'a>(text: &'a str, secret: &'a [u8]) -> RoleKeyRow<'a>
+    ensures { FitRoleKey result }
+{
+    RoleKeyRow {
+        root: number(text, 0),
+        repository: word(text, 1),
+        role: word(text, 2),
+        place: number(text, 3),
+        secret,
+        threshold: number(text, 5),
     }
 }
 
-impl Spelled for FileRow {
-    ghost use Rattle.std.specs.Prelude.{⊤};
-
-    ghost fits = { λ _. ⊤ };
-
-    fn spelled(alloc: Global, text: &str) -> Result<FileRow, AllocError> {
-        Ok(FileRow {
-            repository: text_at(alloc, text, 0)?,
-            name: text_at(alloc, text, 1)?,
-            body: text_at(alloc, text, 2)?,
-        })
+pub(crate) fn file<'a>(text: &'a str) -> FileRow<'a> {
+    FileRow {
+        repository: word(text, 0),
+        name: word(text, 1),
+        body: word(text, 2),
     }
 }
 
-impl Spelled for ImageRow {
-    ghost use Rattle.up_tables.specs.Forms.{FitImage};
-
-    ghost fits = { FitImage };
-
-    fn spelled(alloc: Global, text: &str) -> Result<ImageRow, AllocError> {
-        Ok(ImageRow {
-            file: text_at(alloc, text, 0)?,
-            length: number(text, 1),
-            sha256: bytes(alloc, word(text, 2))?,
-            hardware: text_at(alloc, text, 3)?,
-            release_count: number(text, 4),
-            needs: text_at(alloc, text, 5)?,
-            conflicts: text_at(alloc, text, 6)?,
-        })
+pub(crate) fn image<'a>(text: &'a str, sha256: &'a [u8]) -> ImageRow<'a>
+    ensures { FitImage result }
+{
+    ImageRow {
+        file: word(text, 0),
+        length: number(text, 1),
+        sha256,
+        hardware: word(text, 3),
+        release_count: number(text, 4),
+        needs: word(text, 5),
+        conflicts: word(text, 6),
     }
 }
 
-impl Spelled for CampaignRow {
-    ghost use Rattle.std.specs.Prelude.{⊤};
-
-    ghost fits = { λ _. ⊤ };
-
-    fn spelled(alloc: Global, text: &str) -> Result<CampaignRow, AllocError> {
-        Ok(CampaignRow {
-            name: text_at(alloc, text, 0)?,
-            reach: text_at(alloc, text, 1)?,
-            items: text_at(alloc, text, 2)?,
-            running: word(text, 3) == "runs",
-        })
+pub(crate) fn campaign<'a>(text: &'a str) -> CampaignRow<'a> {
+    CampaignRow {
+        name: word(text, 0),
+        reach: word(text, 1),
+        items: word(text, 2),
+        running: word(text, 3) == "1",
     }
 }
 
-impl Spelled for VehicleRow {
-    ghost use Rattle.up_tables.specs.Forms.{FitVehicle};
-
-    ghost fits = { FitVehicle };
-
-    fn spelled(alloc: Global, text: &str) -> Result<VehicleRow, AllocError> {
-        Ok(VehicleRow {
-            vehicle: text_at(alloc, text, 0)?,
-            primary_ecu: text_at(alloc, text, 1)?,
-            version: number(text, 2),
-            last_counter: number(text, 3),
-        })
+pub(crate) fn vehicle<'a>(text: &'a str) -> VehicleRow<'a>
+    ensures { FitVehicle result }
+{
+    VehicleRow {
+        vehicle: word(text, 0),
+        primary_ecu: word(text, 1),
+        version: number(text, 2),
+        last_counter: number(text, 3),
     }
 }
 
-impl Spelled for EcuRow {
-    ghost use Rattle.up_tables.specs.Ecus.{FitEcu};
-
-    ghost fits = { FitEcu };
-
-    fn spelled(alloc: Global, text: &str) -> Result<EcuRow, AllocError> {
-        Ok(EcuRow {
-            ecu: text_at(alloc, text, 0)?,
-            hardware: text_at(alloc, text, 1)?,
-            public_key: bytes(alloc, word(text, 2))?,
-            installed: installed(alloc, word(text, 3))?,
-            counter: number(text, 4),
-            report: report(alloc, word(text, 5))?,
-        })
+/// The key and the hash are the bytes of its words.
+pub(crate) fn ecu<'a>(text: &'a str, public_key: &'a [u8], sha256: &'a [u8]) -> EcuRow<'a>
+    ensures { FitEcu result }
+{
+    EcuRow {
+        ecu: word(text, 0),
+        hardware: word(text, 1),
+        public_key,
+        installed: installed(word(text, 3), sha256),
+        counter: number(text, 4),
+        report: report(word(text, 5)),
     }
 }
 
-fn installed(alloc: Global, word: &str) -> Result<Option<Installed>, AllocError>
-    ensures { IfOk result (λ found. IfSome found (λ it. it.length < 2 ^ 63)) }
+fn installed<'a>(word: &'a str, sha256: &'a [u8]) -> Option<Installed<'a>>
+    ensures { IfSome result (λ s. s.length < 2 ^ 63) }
 {
     match word.split_once(':') {
-        Some((file, rest)) => Ok(Some(image_in(alloc, file, rest)?)),
-        None => Ok(None),
+        Some((file, rest)) => Some(Installed {
+            file,
+            length: number(length_of(rest), 0),
+            sha256,
+        }),
+        None => None,
     }
 }
 
-fn image_in(alloc: Global, file: &str, rest: &str) -> Result<Installed, AllocError>
-    ensures { IfOk result (λ it. it.length < 2 ^ 63) }
-{
-    let (length, sha256) = rest.split_once(':').unwrap_or((rest, ""));
-    Ok(Installed {
-        file: file.to_string(alloc)?,
-        length: number(length, 0),
-        sha256: bytes(alloc, sha256)?,
-    })
+fn length_of<'a>(rest: &'a str) -> &'a str {
+    rest.split_once(':').unwrap_or((rest, "")).0
 }
 
-fn report(alloc: Global, word: &str) -> Result<Option<String>, AllocError> {
+/// The hash that is installed, in hex.
+pub(crate) fn installed_hash<'a>(text: &'a str) -> &'a str {
+    word(text, 3).rsplit_once(':').unwrap_or(("", "")).1
+}
+
+fn report<'a>(word: &'a str) -> Option<&'a str> {
     match word {
-        "-" => Ok(None),
-        text => Ok(Some(text.to_string(alloc)?)),
+        "-" => None,
+        text => Some(text),
     }
 }
 
-impl Spelled for KeptRow {
-    ghost use Rattle.up_tables.specs.Forms.{FitKept};
-
-    ghost fits = { FitKept };
-
-    fn spelled(alloc: Global, text: &str) -> Result<KeptRow, AllocError> {
-        Ok(KeptRow {
-            vehicle: text_at(alloc, text, 0)?,
-            counter: number(text, 1),
-            version: number(text, 2),
-            moment: number(text, 3),
-            root: number(text, 4),
-            signed: text_at(alloc, text, 5)?,
-            plan_text: text_at(alloc, text, 6)?,
-            reply: text_at(alloc, text, 7)?,
-        })
+pub(crate) fn kept<'a>(text: &'a str) -> KeptRow<'a>
+    ensures { FitKept result }
+{
+    KeptRow {
+        vehicle: word(text, 0),
+        counter: number(text, 1),
+        version: number(text, 2),
+        moment: number(text, 3),
+        root: number(text, 4),
+        signed: word(text, 5),
+        plan_text: word(text, 6),
+        reply: word(text, 7),
     }
 }

@@ -1,5 +1,5 @@
 //! What is told of rows that were read, and of faults.
-use crate::shown::{Shown, push_word};
+use crate::shown::push_word;
 use std::alloc::{AllocError, Global};
 use up_tables::values::StoreFault;
 
@@ -12,45 +12,39 @@ pub(crate) fn fault_text(alloc: Global, fault: StoreFault) -> Result<String, All
 }
 
 /// The row that was found, or `none`.
-pub(crate) fn one<T: Shown + Drop>(
+pub(crate) fn one(
     alloc: Global,
-    found: Result<Option<T>, StoreFault>,
+    found: Result<Option<String>, StoreFault>,
 ) -> Result<String, StoreFault> {
     match found {
-        Ok(Some(row)) => text_of(alloc, &row),
+        Ok(Some(row)) => Ok(row),
         Ok(None) => Ok("none".to_string(alloc)?),
         Err(fault) => Err(fault),
     }
 }
 
-fn text_of<T: Shown>(alloc: Global, row: &T) -> Result<String, StoreFault> {
-    let mut out = String::new(alloc);
-    row.push(alloc, &mut out)?;
-    Ok(out)
-}
-
 /// The rows that were found, with ` ; ` between them.
-pub(crate) fn all<T: Shown + Drop>(
+pub(crate) fn all(
     alloc: Global,
-    found: Result<Vec<T>, StoreFault>,
+    found: Result<Vec<String>, StoreFault>,
 ) -> Result<String, StoreFault> {
     match found {
-        Ok(rows) => texts_of(alloc, rows.as_slice()),
+        Ok(rows) => Ok(texts_of(alloc, rows.as_slice())?),
         Err(fault) => Err(fault),
     }
 }
 
-fn texts_of<T: Shown>(alloc: Global, rows: &[T]) -> Result<String, StoreFault> {
+fn texts_of(alloc: Global, rows: &[String]) -> Result<String, AllocError> {
     let mut out = String::new(alloc);
     for row in rows {
-        push(alloc, &mut out, row)?;
+        push(&mut out, row.as_str())?;
     }
     Ok(out)
 }
 
-fn push<T: Shown>(alloc: Global, out: &mut String, row: &T) -> Result<(), AllocError> {
+fn push(out: &mut String, row: &str) -> Result<(), AllocError> {
     if !out.is_empty() {
         push_word(out, ";")?;
     }
-    row.push(alloc, out)
+    push_word(out, row)
 }

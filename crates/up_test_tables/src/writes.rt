@@ -3,36 +3,33 @@
 //! `put image`, `put sha512 FILE HASH`, `put campaign`, `put vehicle VEHICLE ; ECU ; ..`, `put retired ECU VEHICLE`, `put root META ; KEY
 //! ; ..`, `set ecu OLD ECU HARDWARE KEY`, which puts an ECU in the place of the old one, `set files META ; FILE ; ..` and `set manifest
 //! VEHICLE ; KEPT ; ECU ; ..`, which puts in the kept row and sets the others.
-ghost use Rattle.std.specs.Prelude.{◌≡◌, OnOk};
-ghost use Rattle.sqlite.specs.Held.{state};
-ghost use Rattle.up_tables.specs.Stands.{IfClean, IsInside, IsOpen};
+ghost use Rattle.std.specs.Prelude.{◌<◌, ◌^◌, IfOk};
 
-use crate::spelled::{Spelled, each};
+use crate::spelled::{
+    campaign, ecu, file, image, installed_hash, kept, numbers, role_key, vehicle,
+};
 use crate::words::{bytes, first_of, parts_of, word};
 use sqlite::{Alter, Transaction};
 use std::alloc::Global;
-use up_tables::campaign::{CampaignRow, close_campaign, insert_campaign};
-use up_tables::ecu::{EcuRow, insert_ecus, upsert_ecus};
-use up_tables::image::{ImageRow, insert_image};
+use up_tables::campaign::{close_campaign, insert_campaign};
+use up_tables::ecu::{insert_ecu, upsert_ecu};
+use up_tables::image::insert_image;
 use up_tables::image_sha512::insert_image_sha512;
-use up_tables::kept::{KeptRow, insert_kept};
-use up_tables::meta::{MetaRow, update_meta};
+use up_tables::kept::insert_kept;
+use up_tables::meta::update_meta;
 use up_tables::replace::replace_ecu;
-use up_tables::repo_file::{FileRow, upsert_files};
+use up_tables::repo_file::upsert_files;
 use up_tables::retired::insert_retired;
-use up_tables::role_key::{RoleKeyRow, insert_role_keys};
+use up_tables::role_key::insert_role_keys;
 use up_tables::values::StoreFault;
-use up_tables::vehicle::{VehicleRow, insert_vehicle, upsert_vehicle};
+use up_tables::vehicle::{insert_vehicle, upsert_vehicle};
 
 /// What is told of a statement that is carried out, if it is committed.
 pub(crate) fn write<S: Alter>(
     tx: &mut Transaction<'_, S>,
     alloc: Global,
     given: &str,
-) -> Result<&'static str, StoreFault>
-    requires { IfClean IsInside (state S.Store tx.old.conn.now) }
-    ensures { tx.new.conn.ghost_name ≡ tx.old.conn.ghost_name }
-{
+) -> Result<&'static str, StoreFault> {
     let (word, rest) = first_of(given);
     match word {
         "put" => put(tx, alloc, rest),
@@ -52,14 +49,11 @@ fn put<S: Alter>(
     tx: &mut Transaction<'_, S>,
     alloc: Global,
     given: &str,
-) -> Result<&'static str, StoreFault>
-    requires { IfClean IsInside (state S.Store tx.old.conn.now) }
-    ensures { tx.new.conn.ghost_name ≡ tx.old.conn.ghost_name }
-{
+) -> Result<&'static str, StoreFault> {
     let (word, rest) = first_of(given);
     match word {
         "image" => told(put_image(tx, alloc, rest)),
-        "campaign" => told(put_campaign(tx, alloc, rest)),
+        "campaign" => told(insert_campaign(tx, &campaign(rest))),
         "root" => told(put_root(tx, alloc, rest)),
         "vehicle" => told(put_vehicle(tx, alloc, rest)),
         "sha512" => told(put_sha512(tx, alloc, rest)),
@@ -72,13 +66,10 @@ fn set<S: Alter>(
     tx: &mut Transaction<'_, S>,
     alloc: Global,
     given: &str,
-) -> Result<&'static str, StoreFault>
-    requires { IfClean IsInside (state S.Store tx.old.conn.now) }
-    ensures { tx.new.conn.ghost_name ≡ tx.old.conn.ghost_name }
-{
+) -> Result<&'static str, StoreFault> {
     let (word, rest) = first_of(given);
     match word {
-        "files" => told(set_files(tx, alloc, rest)),
+        "files" => told(set_files(tx, rest)),
         "manifest" => told(set_manifest(tx, alloc, rest)),
         "ecu" => told(set_ecu(tx, alloc, rest)),
         _ => Ok("no such statement"),
@@ -89,12 +80,9 @@ fn put_image<S: Alter>(
     tx: &mut Transaction<'_, S>,
     alloc: Global,
     given: &str,
-) -> Result<(), StoreFault>
-    requires { IfClean IsInside (state S.Store tx.old.conn.now) }
-    ensures { tx.new.conn.ghost_name ≡ tx.old.conn.ghost_name }
-{
-    match ImageRow::spelled(alloc, given) {
-        Ok(row) => insert_image(tx, &row),
+) -> Result<(), StoreFault> {
+    match bytes(alloc, word(given, 2)) {
+        Ok(hash) => insert_image(tx, &image(given, hash.as_slice())),
         Err(_) => Err(StoreFault::Memory),
     }
 }
@@ -103,10 +91,7 @@ fn put_sha512<S: Alter>(
     tx: &mut Transaction<'_, S>,
     alloc: Global,
     given: &str,
-) -> Result<(), StoreFault>
-    requires { IfClean IsInside (state S.Store tx.old.conn.now) }
-    ensures { tx.new.conn.ghost_name ≡ tx.old.conn.ghost_name }
-{
+) -> Result<(), StoreFault> {
     let (file, digits) = first_of(given);
     match bytes(alloc, digits) {
         Ok(hash) => insert_image_sha512(tx, file, hash.as_slice()),
@@ -114,10 +99,7 @@ fn put_sha512<S: Alter>(
     }
 }
 
-fn put_retired<S: Alter>(tx: &mut Transaction<'_, S>, given: &str) -> Result<(), StoreFault>
-    requires { IfClean IsInside (state S.Store tx.old.conn.now) }
-    ensures { tx.new.conn.ghost_name ≡ tx.old.conn.ghost_name }
-{
+fn put_retired<S: Alter>(tx: &mut Transaction<'_, S>, given: &str) -> Result<(), StoreFault> {
     let (ecu, vehicle) = first_of(given);
     insert_retired(tx, ecu, vehicle)
 }
@@ -127,27 +109,10 @@ fn set_ecu<S: Alter>(
     tx: &mut Transaction<'_, S>,
     alloc: Global,
     given: &str,
-) -> Result<(), StoreFault>
-    requires { IfClean IsInside (state S.Store tx.old.conn.now) }
-    ensures { tx.new.conn.ghost_name ≡ tx.old.conn.ghost_name }
-{
+) -> Result<(), StoreFault> {
     let (old, new) = first_of(given);
     match bytes(alloc, word(new, 2)) {
         Ok(key) => replace_ecu(tx, old, word(new, 0), word(new, 1), key.as_slice()),
-        Err(_) => Err(StoreFault::Memory),
-    }
-}
-
-fn put_campaign<S: Alter>(
-    tx: &mut Transaction<'_, S>,
-    alloc: Global,
-    given: &str,
-) -> Result<(), StoreFault>
-    requires { IfClean IsInside (state S.Store tx.old.conn.now) }
-    ensures { tx.new.conn.ghost_name ≡ tx.old.conn.ghost_name }
-{
-    match CampaignRow::spelled(alloc, given) {
-        Ok(row) => insert_campaign(tx, &row),
         Err(_) => Err(StoreFault::Memory),
     }
 }
@@ -157,33 +122,46 @@ fn put_root<S: Alter>(
     tx: &mut Transaction<'_, S>,
     alloc: Global,
     given: &str,
-) -> Result<(), StoreFault>
-    requires { IfClean IsInside (state S.Store tx.old.conn.now) }
-    ensures { tx.new.conn.ghost_name ≡ tx.old.conn.ghost_name }
-{
-    let (numbers, keys) = parts_of(given);
-    update_meta(tx, &MetaRow::spelled(alloc, numbers)?)?;
-    match each::<RoleKeyRow>(alloc, keys) {
-        Ok(rows) => insert_role_keys(tx, rows.as_slice()),
+) -> Result<(), StoreFault> {
+    let (row, keys) = parts_of(given);
+    set_numbers(tx, row)?;
+    put_keys(tx, alloc, keys)
+}
+
+fn set_numbers<S: Alter>(tx: &mut Transaction<'_, S>, given: &str) -> Result<(), StoreFault> {
+    update_meta(tx, &numbers(given))
+}
+
+fn put_keys<S: Alter>(
+    tx: &mut Transaction<'_, S>,
+    alloc: Global,
+    given: &str,
+) -> Result<(), StoreFault> {
+    for part in given.split(" ; ") {
+        put_key(tx, alloc, part)?;
+    }
+    Ok(())
+}
+
+fn put_key<S: Alter>(
+    tx: &mut Transaction<'_, S>,
+    alloc: Global,
+    given: &str,
+) -> Result<(), StoreFault> {
+    match bytes(alloc, word(given, 4)) {
+        Ok(secret) => insert_role_keys(tx, &[role_key(given, secret.as_slice())]),
         Err(_) => Err(StoreFault::Memory),
     }
 }
 
 /// The numbers and files.
-fn set_files<S: Alter>(
-    tx: &mut Transaction<'_, S>,
-    alloc: Global,
-    given: &str,
-) -> Result<(), StoreFault>
-    requires { IfClean IsInside (state S.Store tx.old.conn.now) }
-    ensures { tx.new.conn.ghost_name ≡ tx.old.conn.ghost_name }
-{
-    let (numbers, files) = parts_of(given);
-    update_meta(tx, &MetaRow::spelled(alloc, numbers)?)?;
-    match each::<FileRow>(alloc, files) {
-        Ok(rows) => upsert_files(tx, rows.as_slice()),
-        Err(_) => Err(StoreFault::Memory),
+fn set_files<S: Alter>(tx: &mut Transaction<'_, S>, given: &str) -> Result<(), StoreFault> {
+    let (row, files) = parts_of(given);
+    set_numbers(tx, row)?;
+    for part in files.split(" ; ") {
+        upsert_files(tx, &[file(part)])?;
     }
+    Ok(())
 }
 
 /// A vehicle with its ECUs.
@@ -191,32 +169,68 @@ fn put_vehicle<S: Alter>(
     tx: &mut Transaction<'_, S>,
     alloc: Global,
     given: &str,
-) -> Result<(), StoreFault>
-    requires { IfClean IsInside (state S.Store tx.old.conn.now) }
-    ensures { tx.new.conn.ghost_name ≡ tx.old.conn.ghost_name }
-{
+) -> Result<(), StoreFault> {
     let (row, ecus) = parts_of(given);
-    put_vehicle_row(tx, alloc, row)?;
-    match each::<EcuRow>(alloc, ecus) {
-        Ok(rows) => insert_ecus(tx, first_of(row).0, rows.as_slice()),
-        Err(_) => Err(StoreFault::Memory),
+    put_vehicle_row(tx, row)?;
+    let mut place = 0;
+    for part in ecus.split(" ; ") {
+        put_ecu(tx, alloc, word(row, 0), place, part)?;
+        place = next(place)?;
+    }
+    Ok(())
+}
+
+fn put_vehicle_row<S: Alter>(tx: &mut Transaction<'_, S>, given: &str) -> Result<(), StoreFault> {
+    insert_vehicle(tx, &vehicle(given))
+}
+
+/// The place behind it; `Store` where a column has none.
+fn next(place: u64) -> Result<u64, StoreFault>
+    ensures { IfOk result (λ behind. behind < 2 ^ 63) }
+{
+    if place < (1 << 63) - 1 {
+        Ok(place + 1)
+    } else {
+        Err(StoreFault::Store)
     }
 }
 
-fn put_vehicle_row<S: Alter>(
+fn put_ecu<S: Alter>(
     tx: &mut Transaction<'_, S>,
     alloc: Global,
+    vehicle: &str,
+    place: u64,
     given: &str,
 ) -> Result<(), StoreFault>
-    requires { IfClean IsInside (state S.Store tx.old.conn.now) }
-    ensures same_reference { tx.new.conn.ghost_name ≡ tx.old.conn.ghost_name }
-    ensures inside { OnOk result (IfClean IsInside (state S.Store tx.new.conn.now)) }
-    ensures open { OnOk result (IfClean IsOpen (state S.Store tx.new.conn.now)) }
+    requires place { place < 2 ^ 63 }
 {
-    match VehicleRow::spelled(alloc, given) {
-        Ok(row) => insert_vehicle(tx, &row),
-        Err(_) => Err(StoreFault::Memory),
-    }
+    let key = bytes(alloc, word(given, 2))?;
+    let hash = bytes(alloc, installed_hash(given))?;
+    insert_ecu(
+        tx,
+        vehicle,
+        place,
+        &ecu(given, key.as_slice(), hash.as_slice()),
+    )
+}
+
+fn set_one<S: Alter>(
+    tx: &mut Transaction<'_, S>,
+    alloc: Global,
+    vehicle: &str,
+    place: u64,
+    given: &str,
+) -> Result<(), StoreFault>
+    requires place { place < 2 ^ 63 }
+{
+    let key = bytes(alloc, word(given, 2))?;
+    let hash = bytes(alloc, installed_hash(given))?;
+    upsert_ecu(
+        tx,
+        vehicle,
+        place,
+        &ecu(given, key.as_slice(), hash.as_slice()),
+    )
 }
 
 /// The vehicle's numbers, what its ECUs reported, and the kept row of a manifest.
@@ -224,31 +238,16 @@ fn set_manifest<S: Alter>(
     tx: &mut Transaction<'_, S>,
     alloc: Global,
     given: &str,
-) -> Result<(), StoreFault>
-    requires { IfClean IsInside (state S.Store tx.old.conn.now) }
-    ensures { tx.new.conn.ghost_name ≡ tx.old.conn.ghost_name }
-{
+) -> Result<(), StoreFault> {
     let (row, rest) = parts_of(given);
-    let (kept, ecus) = parts_of(rest);
-    set_vehicle(tx, alloc, row)?;
-    set_ecus(tx, alloc, first_of(row).0, ecus)?;
-    put_kept(tx, alloc, kept)
+    let (row_kept, ecus) = parts_of(rest);
+    set_vehicle(tx, row)?;
+    set_ecus(tx, alloc, word(row, 0), ecus)?;
+    insert_kept(tx, &kept(row_kept))
 }
 
-fn set_vehicle<S: Alter>(
-    tx: &mut Transaction<'_, S>,
-    alloc: Global,
-    given: &str,
-) -> Result<(), StoreFault>
-    requires { IfClean IsInside (state S.Store tx.old.conn.now) }
-    ensures same_reference { tx.new.conn.ghost_name ≡ tx.old.conn.ghost_name }
-    ensures inside { OnOk result (IfClean IsInside (state S.Store tx.new.conn.now)) }
-    ensures open { OnOk result (IfClean IsOpen (state S.Store tx.new.conn.now)) }
-{
-    match VehicleRow::spelled(alloc, given) {
-        Ok(row) => upsert_vehicle(tx, &row),
-        Err(_) => Err(StoreFault::Memory),
-    }
+fn set_vehicle<S: Alter>(tx: &mut Transaction<'_, S>, given: &str) -> Result<(), StoreFault> {
+    upsert_vehicle(tx, &vehicle(given))
 }
 
 fn set_ecus<S: Alter>(
@@ -256,28 +255,11 @@ fn set_ecus<S: Alter>(
     alloc: Global,
     vehicle: &str,
     given: &str,
-) -> Result<(), StoreFault>
-    requires mode { IfClean IsInside (state S.Store tx.old.conn.now) }
-    requires open { IfClean IsOpen (state S.Store tx.old.conn.now) }
-    ensures same_reference { tx.new.conn.ghost_name ≡ tx.old.conn.ghost_name }
-    ensures inside { OnOk result (IfClean IsInside (state S.Store tx.new.conn.now)) }
-{
-    match each::<EcuRow>(alloc, given) {
-        Ok(rows) => upsert_ecus(tx, vehicle, rows.as_slice()),
-        Err(_) => Err(StoreFault::Memory),
+) -> Result<(), StoreFault> {
+    let mut place = 0;
+    for part in given.split(" ; ") {
+        set_one(tx, alloc, vehicle, place, part)?;
+        place = next(place)?;
     }
-}
-
-fn put_kept<S: Alter>(
-    tx: &mut Transaction<'_, S>,
-    alloc: Global,
-    given: &str,
-) -> Result<(), StoreFault>
-    requires { IfClean IsInside (state S.Store tx.old.conn.now) }
-    ensures { tx.new.conn.ghost_name ≡ tx.old.conn.ghost_name }
-{
-    match KeptRow::spelled(alloc, given) {
-        Ok(row) => insert_kept(tx, &row),
-        Err(_) => Err(StoreFault::Memory),
-    }
+    Ok(())
 }

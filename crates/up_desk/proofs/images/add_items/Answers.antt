@@ -3,23 +3,27 @@ use Rattle.std.proofs.lemmas.List.{take_all}
 use Rattle.up_plan.specs.declared.campaign.Item.{Item}
 use Rattle.up_desk.specs.Gathered.{gathered, item_files}
 use Rattle.up_desk.proofs.Loops.{files_more, mapped_more}
-use Rattle.up_desk.proofs.Steps.{clean_before, keeps_after, reads_then}
-use Rattle.up_desk.proofs.Blamed.{blamed_then}
+use Rattle.up_desk.proofs.Standings.{clean_before, failed_behind, reads_then}
 use Rattle.up_desk.proofs.images.add_items.Goals as goal
 
 pub loop-item-preserved : goal.loop-item-preserved
-loop-item-preserved g c = record {
-  found = λ clean k s was part.
+loop-item-preserved g c k = let read = c.in-Ok.ensures k in let far = c.loop-item.invariant k in record {
+  found = λ clean s was part.
       files_more s.images c.args.images.now (item_files (take c.loop-item.item-index c.args.items.now)) (c.item-item.result.file ∷ [])
-      (mapped_more (λ (i : Item). i.file) c.args.items.now c.loop-item.item-index _ c.loop-item-test.true c.item-item.is) (c.loop-item.invariant.found (clean_before c.add_file.ensures.reads clean) k s was part) part (c.in-Ok.ensures.told clean k s (keeps_after k s was c.loop-item.invariant.reads));
-  reads = reads_then c.loop-item.invariant.reads c.add_file.ensures.reads;
+      (mapped_more (λ (i : Item). i.file) c.args.items.now c.loop-item.item-index _ c.loop-item-test.true c.item-item.is) (far.found (clean_before read.reads clean) s was part) part (read.told clean s (far.reads.keeps s was));
+  reads = reads_then far.reads read.reads;
 }
 
-pub returns-clause-told : goal.returns-clause-told
-returns-clause-told g c clean = λ k s was part. c.loop-item.invariant.found clean k s was part ∙ ap (λ xs. gathered s.images (item_files xs) c.args.images.now) (take_all c.loop-item.item-index c.args.items.now c.loop-item-test.false)
+pub returns : goal.returns
+returns g c k = let far = c.loop-item.invariant k in record {
+  told = λ clean s was part. far.found clean s was part ∙ ap (λ xs. gathered s.images (item_files xs) c.args.images.now) (take_all c.loop-item.item-index c.args.items.now c.loop-item-test.false);
+  blame = λ clean s sound was. tt;
+  reads = far.reads;
+}
 
-pub returns-in-Err-clause-reads : goal.returns-in-Err-clause-reads
-returns-in-Err-clause-reads g c = reads_then c.loop-item.invariant.reads c.add_file.ensures.reads
-
-pub returns-in-Err-clause-blame : goal.returns-in-Err-clause-blame
-returns-in-Err-clause-blame g c = λ k s was. blamed_then c.loop-item.invariant.reads c.add_file.ensures.reads (c.in-Err.ensures.blame k s (keeps_after k s was c.loop-item.invariant.reads))
+pub returns-in-Err : goal.returns-in-Err
+returns-in-Err g c k = let read = c.in-Err.ensures k in let far = c.loop-item.invariant k in record {
+  told = λ clean. tt;
+  blame = λ clean s sound was is. failed_behind far.reads read.reads clean (read.blame clean s sound (far.reads.keeps s was) is);
+  reads = reads_then far.reads read.reads;
+}

@@ -1,17 +1,10 @@
 use Rattle.std.proofs.Common.{◌≡◌, take}
-use Rattle.sqlite.specs.Held.{state}
-use Rattle.sqlite.specs.State.{HasCleanDisk}
 use Rattle.up_sign.specs.Schemes.{Rules}
-use Rattle.up_machine.specs.State.{State}
-use Rattle.up_store.specs.Connections.{KeepsState}
-use Rattle.up_tables.specs.Stands.{IfClean}
-use Rattle.up_desk.specs.Gathered.{IsPart, gathered, item_files}
-use Rattle.up_desk.specs.Serving.{Reads}
+use Rattle.up_records.specs.Standing.{state}
+use Rattle.up_desk.proofs.Loops.{FarGathered}
+use Rattle.up_desk.specs.Gathered.{item_files}
 use Rattle.up_desk.proofs.images.add_items.Given as goal
 
 -- the images of the files so far
 abbrev pub invariant-loop-item : goal.invariant-loop-item
-invariant-loop-item g l = record {
-  found : HasCleanDisk (state g.D.Store l.store) → (k : Rules) (s : State) → IfClean (KeepsState k s) (state g.D.Store l.fn.store) → IsPart s.images l.fn.images → l.images ≡ gathered s.images (item_files (take l.item-index l.items)) l.fn.images;
-  reads : Reads (state g.D.Store l.fn.store) (state g.D.Store l.store);
-}
+invariant-loop-item g l = (k : Rules) → FarGathered k (item_files (take l.item-index l.items)) l.fn.images l.images (state g.D.Store l.fn.records) (state g.D.Store l.records)

@@ -1,13 +1,17 @@
-use Rattle.up_rows.specs.Changes.{with_register_rows}
-use Rattle.up_store.specs.Fitting.{IsSameRoot}
-use Rattle.up_store.specs.Writes.{FitsFounding, register_writes}
-use Rattle.up_desk.proofs.Fitting.{refreshing_fits}
+use Rattle.std.proofs.Common.{refl}
 use Rattle.up_desk.proofs.Steps.{done_written, refused}
+use Rattle.up_machine.specs.Repositories.{stamped}
 use Rattle.up_desk.proofs.register.refresh.Goals as goal
 
 pub returns-in-Ok : goal.returns-in-Ok
-returns-in-Ok g c = λ s sound was. done_written c.write_refresh.result (register_writes c.in-Ok.rows) (λ _. FitsFounding c.in-Ok.rows.founding) (IsSameRoot c.in-Ok.rows) (λ rows. with_register_rows rows c.in-Ok.rows) c.done_of.ensures was c.decide_refreshing.ensures.reads
-    (λ clean. refreshing_fits (g.K.Scheme.rules c.args.scheme.now) s c.args.at c.args.version c.in-Ok.rows sound c.images_are_added.ensures.files (c.in-Ok.ensures.decided clean s sound was)) c.write_refresh.ensures.written c.write_refresh.ensures.durable c.write_refresh.ensures.kept c.write_refresh.ensures.crash c.write_refresh.ensures.clean c.write_refresh.ensures.open c.write_refresh.ensures.ran c.write_refresh.ensures.blame
+returns-in-Ok g c = record {
+  serves = λ s sound was. done_written (c.write_refresh.ensures (g.K.Scheme.rules c.args.scheme.now)) c.done_of.ensures sound was c.decide_refreshing.ensures.reads (λ clean.
+      let it = c.in-Ok.ensures.decided clean s sound tt was in record { next = stamped s c.args.at c.args.version; computed_is = it.0; commit = tt; is_next = (c.args.at, c.args.version, refl, it) });
+  can = λ can. (c.write_refresh.ensures (g.K.Scheme.rules c.args.scheme.now)).can (c.decide_refreshing.ensures.reads.can can);
+}
 
 pub returns-in-Err : goal.returns-in-Err
-returns-in-Err g c = λ s sound was. refused was c.decide_refreshing.ensures.reads (λ clean. c.in-Err.ensures.decided clean s sound was)
+returns-in-Err g c = record {
+  serves = λ s sound was. refused was c.decide_refreshing.ensures.reads (λ clean. c.in-Err.ensures.decided clean s sound tt was);
+  can = λ can. c.decide_refreshing.ensures.reads.can can;
+}

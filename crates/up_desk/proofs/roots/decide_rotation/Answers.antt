@@ -1,18 +1,8 @@
-use Rattle.std.proofs.Common.{◌+◌}
-use Rattle.up_machine.specs.Decisions.{GivesRows, HasRootRows}
-use Rattle.up_machine.specs.Repositories.{decide_rotate, stamped, with_root}
-use Rattle.up_desk.proofs.Steps.{fault_told, following, gives_behind}
+use Rattle.up_desk.proofs.Standings.{read_failed, read_then}
 use Rattle.up_desk.proofs.roots.decide_rotation.Goals as goal
 
 pub returns-in-Ok : goal.returns-in-Ok
-returns-in-Ok g c = let it = following c.read_founding.ensures.reads c.decide_rotation_after.ensures.reads in record {
-  decided = λ clean s sound was.
-      let k = g.K.Scheme.rules c.args.scheme.now in
-      let next = stamped (with_root s c.args.at c.args.keys.now) c.args.at (s.image_version + 1) in
-      gives_behind (GivesRows (HasRootRows k next) next) c.decide_rotation_after.result (decide_rotate k s c.args.at c.args.keys.now) c.read_founding.ensures.reads c.decide_rotation_after.ensures.reads clean
-      (c.decide_rotation_after.ensures.decided clean s (c.in-Ok.ensures.told (it.clean clean) k s was) (it.keeps k s was));
-  reads = it.reads;
-}
+returns-in-Ok g c = read_then (c.in-Ok.ensures.found) (λ s known is. is) (c.decide_rotation_founded.ensures)
 
 pub returns-in-Err : goal.returns-in-Err
-returns-in-Err g c = record { decided = λ clean s sound was. fault_told c.read_founding.ensures.reads c.refusal_of.result c.in-Err.fault _ c.refusal_of.ensures (c.in-Err.ensures.blame s sound was clean); reads = c.read_founding.ensures.reads }
+returns-in-Err g c = read_failed (c.in-Err.ensures.found) c.refusal_of.ensures

@@ -1,13 +1,17 @@
-use Rattle.up_rows.specs.Changes.{with_root_rows}
-use Rattle.up_store.specs.Fitting.{IsNextRoot}
-use Rattle.up_store.specs.Writes.{FitsFounding, root_writes}
-use Rattle.up_desk.proofs.Fitting.{founding_fits}
+use Rattle.std.proofs.Common.{refl}
 use Rattle.up_desk.proofs.Steps.{done_written, refused}
+use Rattle.up_machine.specs.Repositories.{stamped, with_root}
 use Rattle.up_desk.proofs.roots.found.Goals as goal
 
 pub returns-in-Ok : goal.returns-in-Ok
-returns-in-Ok g c = λ s sound was. done_written c.write_found.result (root_writes c.in-Ok.rows) (λ _. FitsFounding c.in-Ok.rows.founding) (IsNextRoot c.in-Ok.rows) (λ rows. with_root_rows rows c.in-Ok.rows) c.done_of.ensures was c.decide_founding.ensures.reads
-    (λ clean. founding_fits (g.K.Scheme.rules c.args.scheme.now) s c.args.at c.args.keys.now c.in-Ok.rows sound c.roots_are_added.ensures (c.in-Ok.ensures.decided clean s sound was)) c.write_found.ensures.written c.write_found.ensures.durable c.write_found.ensures.kept c.write_found.ensures.crash c.write_found.ensures.clean c.write_found.ensures.open c.write_found.ensures.ran c.write_found.ensures.blame
+returns-in-Ok g c = record {
+  serves = λ s sound was. done_written (c.write_found.ensures (g.K.Scheme.rules c.args.scheme.now)) c.done_of.ensures sound was c.decide_founding.ensures.reads (λ clean.
+      let it = c.in-Ok.ensures.decided clean s sound tt was in record { next = stamped (with_root s c.args.at c.args.keys.now) c.args.at 1; computed_is = it.0; commit = tt; is_next = (c.args.at, c.args.keys.now, refl, it) });
+  can = λ can. (c.write_found.ensures (g.K.Scheme.rules c.args.scheme.now)).can (c.decide_founding.ensures.reads.can can);
+}
 
 pub returns-in-Err : goal.returns-in-Err
-returns-in-Err g c = λ s sound was. refused was c.decide_founding.ensures.reads (λ clean. c.in-Err.ensures.decided clean s sound was)
+returns-in-Err g c = record {
+  serves = λ s sound was. refused was c.decide_founding.ensures.reads (λ clean. c.in-Err.ensures.decided clean s sound tt was);
+  can = λ can. c.decide_founding.ensures.reads.can can;
+}

@@ -1,4 +1,4 @@
-use Rattle.std.proofs.Common.{ℕ, Bool, true, cond, List, sym, ap₂, subst}
+use Rattle.std.proofs.Common.{ℕ, Bool, true, cond, List, sym, ap₂, subst, rules}
 use Rattle.sqlite_disk.specs.Events.{Event, replay}
 use Rattle.sqlite_wal.specs.Recovery.{Image}
 use Rattle.sqlite.specs.Files.{file_state, IsBlankAs}
@@ -11,19 +11,24 @@ image log db = record { log = log; db = db }
 abbrev seen : List ℕ → List ℕ → Bool → List Event → List ℕ
 seen log db is_log history = (replay (cond is_log log db) history).seen
 
-pub returns-in-Ok-clause-found : goal.returns-in-Ok-clause-found
-returns-in-Ok-clause-found g c = λ clean.
-    let (log, db) = c.requires.fresh in
-    let found = c.in-Ok.ensures.found clean in
-    let same = ap₂ image (ap₂ (seen g.S.Start.log g.S.Start.db) log.0 log.1) (ap₂ (seen g.S.Start.log g.S.Start.db) db.0 db.1) in
-    subst (λ i. FindsIn i (file_state c.in-Ok.conn)) same (record { holds = found.holds; reads = found.reads })
-
-pub returns-in-Ok-clause-sums : goal.returns-in-Ok-clause-sums
-returns-in-Ok-clause-sums g c = λ clean blank.
+pub returns-in-Ok-clause-connected : goal.returns-in-Ok-clause-connected
+returns-in-Ok-clause-connected g c =
     let (log, db) = c.requires.fresh in
     let same = ap₂ image (ap₂ (seen g.S.Start.log g.S.Start.db) log.0 log.1) (ap₂ (seen g.S.Start.log g.S.Start.db) db.0 db.1) in
-    c.in-Ok.ensures.sums clean (subst (IsBlankAs true) (sym same) blank)
+    record {
+      opened = c.in-Ok.ensures.opened;
+      found = λ clean. let found = c.in-Ok.ensures.found clean in subst (λ i. FindsIn i (file_state c.in-Ok.conn)) same (record { holds = found.holds; reads = found.reads });
+      sums = λ clean blank. c.in-Ok.ensures.sums clean (subst (IsBlankAs true) (sym same) blank);
+      mode = search rules;
+      unlimited = search rules;
+      shielded = c.in-Ok.ensures.guarded;
+    }
 
-pub returns-in-Err-clause-failed : goal.returns-in-Err-clause-failed
-returns-in-Err-clause-failed g c =
-    (c.in-Err.error, c.opening_fault.ensures.told, λ clean. (c.in-Err.ensures.cause clean, c.in-Err.ensures.unharmed clean))
+pub returns-in-Err-clause-refused : goal.returns-in-Err-clause-refused
+returns-in-Err-clause-refused g c = record {
+  known = c.opening_fault.ensures.known;
+  error = c.in-Err.error;
+  told = c.opening_fault.ensures.told;
+  cause = c.in-Err.ensures.cause;
+  unharmed = c.in-Err.ensures.unharmed;
+}

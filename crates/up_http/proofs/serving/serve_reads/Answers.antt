@@ -34,21 +34,21 @@ left xs at filled h k = length-take-le (filled - at) (drop at xs) (omega (arith,
 pub loop-progress-smaller-in-Ok : goal.loop-progress-smaller-in-Ok
 loop-progress-smaller-in-Ok g c = let (came, read, so, budget, inside, within, room, can_read, can_write, last) = c.loop-progress.invariant in
     nearer c.loop-progress.most c.loop-progress.at c.loop-progress.filled c.in-Ok.taken c.loop-progress.progress.feeder.given c.serve_piece.new.progress.feeder.given _ c.if-at-filled.true
-    (left c.loop-progress.buffer c.loop-progress.at c.loop-progress.filled inside within) c.in-Ok.ensures.taken.0 c.in-Ok.ensures.taken.1
+    (left c.loop-progress.buffer c.loop-progress.at c.loop-progress.filled inside within) c.in-Ok.ensures.ok.0.0 c.in-Ok.ensures.ok.0.1
 
 pub loop-progress-preserved-in-Ok : goal.loop-progress-preserved-in-Ok
 loop-progress-preserved-in-Ok g c = let (came, read, so, budget, inside, within, room, can_read, can_write, last) = c.loop-progress.invariant in
     let n = c.in-Ok.taken in
     let piece = take (c.loop-progress.filled - c.loop-progress.at) (drop c.loop-progress.at c.loop-progress.buffer) in
     let long : length piece ≡ c.loop-progress.filled - c.loop-progress.at = left c.loop-progress.buffer c.loop-progress.at c.loop-progress.filled inside within in
-    let few : n ≤ length piece = c.in-Ok.ensures.taken.0 in
+    let few : n ≤ length piece = c.in-Ok.ensures.ok.0.0 in
     let some : length (take n piece) ≡ n = length-take-le n piece few in
     let behind = take (c.loop-progress.filled - (c.loop-progress.at + n)) (drop (c.loop-progress.at + n) c.loop-progress.buffer) in
     let same : came ++ piece ≡ (came ++ take n piece) ++ behind =
     ap (λ l. came ++ l) (sym (piece_left c.loop-progress.buffer c.loop-progress.at c.loop-progress.filled n (omega arith))) ∙ sym (append_assoc came (take n piece) behind) in (
       came ++ take n piece,
       subst (Consumes (g.R.Source.remaining c.args.reader.now) (g.R.Source.remaining c.loop-progress.reader)) same read,
-      c.in-Ok.ensures.ok _ came so,
+      c.in-Ok.ensures.ok.1 _ came so,
       omega (arith, budget, some, few, long, length-append came (take n piece)),
       omega (arith, few, long),
       within,
@@ -124,24 +124,24 @@ returns-clause-ran g c = let (came, read, so, budget, inside, within, room, can_
     ran_over (g.A.Respond.gives c.args.responder.now) _ _ _ _ came piece c.loop-progress.progress read
     (omega (arith, budget, left c.loop-progress.buffer c.loop-progress.at c.loop-progress.filled inside within, length-append came piece)) ended so last
 
-pub returns-in-Ok-eq0-clause-blames : goal.returns-in-Ok-eq0-clause-blames
-returns-in-Ok-eq0-clause-blames g c = let (came, read, so, budget, inside, within, room, can_read, can_write, last) = c.loop-progress.invariant in
-    let none : c.loop-progress.filled - c.loop-progress.at ≡ 0 = omega (arith, c.if-at-filled.false) in
-    let goes_on : c.loop-progress.progress.feeder.ended ≡ false = sym c.loop-progress.progress.ends ∙ c.loop-progress-test.true in
-    let below = room_left (g.A.Respond.gives c.args.responder.now) _ came c.loop-progress.progress _ so goes_on in
-    blames_all c.finish.result (g.R.Source.has_failed c.read_piece.new.reader) (g.R.Source.can_read c.read_piece.new.reader ⊎ g.R.Source.has_ended c.read_piece.new.reader)
-    (g.W.Sink.has_failed c.finish.new.writer) (g.W.Sink.can_write c.finish.new.writer)
-    (inr (c.in-Ok-eq0.ensures.ended c.in-Ok-eq0.field-0-test (omega (arith, below, budget, none)) (omega (arith, room)))) c.finish.ensures.blames
-
-pub returns-in-Ok-eq0-clause-stands : goal.returns-in-Ok-eq0-clause-stands
-returns-in-Ok-eq0-clause-stands g c = let (came, read, so, budget, inside, within, room, can_read, can_write, last) = c.loop-progress.invariant in
+pub returns-in-Ok-eq0-clause-ends : goal.returns-in-Ok-eq0-clause-ends
+returns-in-Ok-eq0-clause-ends g c = let (came, read, so, budget, inside, within, room, can_read, can_write, last) = c.loop-progress.invariant in
     let none : c.loop-progress.filled - c.loop-progress.at ≡ 0 = omega (arith, c.if-at-filled.false) in
     let goes_on : c.loop-progress.progress.feeder.ended ≡ false = sym c.loop-progress.progress.ends ∙ c.loop-progress-test.true in
     let below = room_left (g.A.Respond.gives c.args.responder.now) _ came c.loop-progress.progress _ so goes_on in
     let ended : g.R.Source.has_ended c.read_piece.new.reader = c.in-Ok-eq0.ensures.ended c.in-Ok-eq0.field-0-test (omega (arith, below, budget, none)) (omega (arith, room)) in
-    stands_all c.finish.result (inr ended)
+    record {
+      goes_on = c.finish.ensures.goes_on;
+      ended = stands_all c.finish.result (inr ended);
+      blames = blames_all c.finish.result (g.R.Source.has_failed c.read_piece.new.reader) (g.R.Source.can_read c.read_piece.new.reader ⊎ g.R.Source.has_ended c.read_piece.new.reader)
+          (g.W.Sink.has_failed c.finish.new.writer) (g.W.Sink.can_write c.finish.new.writer) (inr ended) c.finish.ensures.blames;
+    }
 
-pub returns-in-Err-clause-blames : goal.returns-in-Err-clause-blames
-returns-in-Err-clause-blames g c = let (came, read, so, budget, inside, within, room, can_read, can_write, last) = c.loop-progress.invariant in
-    blames_both c.in-Err.cause (g.R.Source.has_failed c.loop-progress.reader) (g.R.Source.can_read c.loop-progress.reader ⊎ g.R.Source.has_ended c.loop-progress.reader)
-    (g.W.Sink.has_failed c.serve_piece.new.writer) (g.W.Sink.can_write c.serve_piece.new.writer) (inl can_read) c.in-Err.ensures.blames
+pub returns-in-Err-clause-ends : goal.returns-in-Err-clause-ends
+returns-in-Err-clause-ends g c = let (came, read, so, budget, inside, within, room, can_read, can_write, last) = c.loop-progress.invariant in
+    record {
+      goes_on = tt;
+      ended = tt;
+      blames = blames_both c.in-Err.cause (g.R.Source.has_failed c.loop-progress.reader) (g.R.Source.can_read c.loop-progress.reader ⊎ g.R.Source.has_ended c.loop-progress.reader)
+          (g.W.Sink.has_failed c.serve_piece.new.writer) (g.W.Sink.can_write c.serve_piece.new.writer) (inl can_read) c.in-Err.ensures.blames;
+    }

@@ -6,8 +6,8 @@ use Rattle.std.specs.Io.KnownBytes.{Consumes}
 use Rattle.std.proofs.KnownBytes.{Consumes-nil, Consumes-trans, Consumes-kept}
 use Rattle.up_lines.specs.declared.fault.ScriptCause.TheVariants.{Read}
 use Rattle.up_lines.proofs.Ends.{fresh, last_read, ran_stop, ran_err, ran_on, stops_read}
-use Rattle.up_lines.proofs.Steps.{on_ok, passed_on}
-use Rattle.up_lines.proofs.Blaming.{blames_all, blames_both}
+use Rattle.up_lines.proofs.Steps.{on_ok}
+use Rattle.up_lines.proofs.Blaming.{blames_all, blames_both, ends_early}
 use Rattle.up_lines.proofs.lines.read_lines.Goals as goal
 
 pub loop-most-init : goal.loop-most-init
@@ -57,22 +57,21 @@ returns-in-Ok-eq0-clause-ran g c = let (came, read, so, budget, room, can_read, 
     (consumed_none _ (g.R.Source.remaining c.loop-most.reader) _ came c.in-Ok-eq0.field-0 c.read_piece.new.buffer c.in-Ok-eq0.field-0-test read c.in-Ok-eq0.ensures.bytes)
     (omega (arith, budget)) (c.in-Ok-eq0.ensures.end c.in-Ok-eq0.field-0-test c.loop-most-test.true (omega (arith, room))) so c.finish.ensures.ok c.finish.ensures.err c.finish.ensures.grows
 
-pub returns-in-Ok-eq0-clause-blames : goal.returns-in-Ok-eq0-clause-blames
-returns-in-Ok-eq0-clause-blames g c = let (came, read, so, budget, room, can_read, can_write) = c.loop-most.invariant in
-    blames_all c.finish.result (g.R.Source.has_failed c.read_piece.new.reader) (g.R.Source.can_read c.read_piece.new.reader ⊎ g.R.Source.has_ended c.read_piece.new.reader)
-    (g.W.Sink.has_failed c.finish.new.writer) (g.W.Sink.can_write c.finish.new.writer)
-    (inr (c.in-Ok-eq0.ensures.ended c.in-Ok-eq0.field-0-test c.loop-most-test.true (omega (arith, room)))) c.finish.ensures.blames
-
-pub returns-in-Ok-eq0-clause-ended : goal.returns-in-Ok-eq0-clause-ended
-returns-in-Ok-eq0-clause-ended g c = let (came, read, so, budget, room, can_read, can_write) = c.loop-most.invariant in
+pub returns-in-Ok-eq0-clause-ends : goal.returns-in-Ok-eq0-clause-ends
+returns-in-Ok-eq0-clause-ends g c = let (came, read, so, budget, room, can_read, can_write) = c.loop-most.invariant in
     let ended : g.R.Source.has_ended c.read_piece.new.reader = c.in-Ok-eq0.ensures.ended c.in-Ok-eq0.field-0-test c.loop-most-test.true (omega (arith, room)) in
-    on_ok c.finish.result (λ _. ended) c.finish.ensures.goes_on
+    record {
+      goes_on = c.finish.ensures.goes_on;
+      ended = on_ok c.finish.result (λ _. ended) c.finish.ensures.goes_on;
+      blames = blames_all c.finish.result (g.R.Source.has_failed c.read_piece.new.reader) (g.R.Source.can_read c.read_piece.new.reader ⊎ g.R.Source.has_ended c.read_piece.new.reader)
+          (g.W.Sink.has_failed c.finish.new.writer) (g.W.Sink.can_write c.finish.new.writer) (inr ended) c.finish.ensures.blames;
+    }
 
-pub returns-in_err-take_piece-in-Ok-clause-blames :
-    goal.returns-in_err-take_piece-in-Ok-clause-blames
-returns-in_err-take_piece-in-Ok-clause-blames g c =
+pub returns-in_err-take_piece-in-Ok-clause-ends :
+    goal.returns-in_err-take_piece-in-Ok-clause-ends
+returns-in_err-take_piece-in-Ok-clause-ends g c =
     let cause = c.in_err-take_piece-in-Ok.field-0.0 in
-    passed_on c.from_residual.result cause _ c.from_residual.ensures.1
+    ends_early _ _ _ _ _ c.from_residual.result cause c.from_residual.ensures.1
     (blames_both cause (g.R.Source.has_failed c.read_piece.new.reader) (g.R.Source.can_read c.read_piece.new.reader ⊎ g.R.Source.has_ended c.read_piece.new.reader)
     (g.W.Sink.has_failed c.take_piece.new.writer) (g.W.Sink.can_write c.take_piece.new.writer)
     (inl (c.in-Ok.ensures.goes_on (grind (arith, common_steps)))) c.in_err-take_piece-in-Ok.ensures.blames)

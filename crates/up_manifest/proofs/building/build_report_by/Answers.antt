@@ -9,16 +9,15 @@ use Rattle.up_manifest.specs.Meaning.{MeansSignedReport}
 use Rattle.up_manifest.proofs.Built as built
 use Rattle.up_manifest.proofs.building.build_report_by.Goals as goal
 
-pub returns-clause-envelope : goal.returns-clause-envelope
-returns-clause-envelope g c =
-    let k = g.K.Scheme.rules c.args.scheme.now in
-    let is = c.in_ok-envelope.ensures.value ∙ ap (sealed k (c.args.secret.now ∷ [])) c.in_ok-signed.ensures in
-    subst (λ e. IsReportEnvelope e c.args.report.now) (sym is) (built.report_envelope c.envelope_laws.ensures.limits k (g.met.K.Scheme.lawful c.args.scheme.now) c.args.secret.now c.args.report.now c.requires.fits c.keeps_limits.ensures)
-
-pub returns-clause-means : goal.returns-clause-means
-returns-clause-means g c =
+pub returns : goal.returns
+returns g c =
     let k = g.K.Scheme.rules c.args.scheme.now in
     let is = c.in_ok-envelope.ensures.value ∙ ap (sealed k (c.args.secret.now ∷ [])) c.in_ok-signed.ensures in
     let e = built.report_envelope c.envelope_laws.ensures.limits k (g.met.K.Scheme.lawful c.args.scheme.now) c.args.secret.now c.args.report.now c.requires.fits c.keeps_limits.ensures in
-    subst (λ e. (d : Data) × (read (envelope_text e) ≡ Some d) × MeansSignedReport d (record { report = c.args.report.now; envelope = e })) (sym is)
-    (built.report_built c.envelope_laws.ensures.text c.moment_laws.ensures.plain c.moment_laws.ensures.read _ c.args.report.now e)
+    record {
+      value = is;
+      envelope = subst (λ e. IsReportEnvelope e c.args.report.now) (sym is) e;
+      limits = c.in_ok-envelope.ensures.limits;
+      means = subst (λ e. (d : Data) × (read (envelope_text e) ≡ Some d) × MeansSignedReport d (record { report = c.args.report.now; envelope = e })) (sym is)
+          (built.report_built c.envelope_laws.ensures.text c.moment_laws.ensures.plain c.moment_laws.ensures.read _ c.args.report.now e);
+    }

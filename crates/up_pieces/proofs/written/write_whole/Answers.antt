@@ -10,5 +10,10 @@ loop-at-preserved g c = record {
   can = c.in-Ok.ensures.goes_on (grind (arith, common_steps));
 }
 
-pub returns-in-Err-clause-err : goal.returns-in-Err-clause-err
-returns-in-Err-clause-err g c = wrote_prefix _ _ _ c.args.text.now c.loop-at.at c.loop-at-test.true c.loop-at.invariant.wrote c.in-Err.ensures.bytes
+pub returns-in-Err : goal.returns-in-Err
+returns-in-Err g c = record {
+  ok = tt;
+  err = wrote_prefix _ _ _ c.args.text.now c.loop-at.at c.loop-at-test.true c.loop-at.invariant.wrote c.in-Err.ensures.bytes;
+  goes_on = tt;
+  failed = c.in-Err.ensures.failed;
+}

@@ -1,5 +1,5 @@
 use Rattle.std.proofs.Common.{◌≡◌, true, rules}
-use Rattle.up_plan.specs.Planning.{reaches}
+use Rattle.up_store.proofs.Common.{reaches}
 use Rattle.up_store.proofs.MemoryAlone.{memory_on}
 use Rattle.up_store.proofs.ReadRows.{reached_put}
 use Rattle.up_store.proofs.campaign_rows.add_reaching.Goals as goal

@@ -1,7 +1,7 @@
 use Rattle.std.proofs.Common.{[], subst, sym}
 use Rattle.std.specs.FinMap as table
 use Rattle.std.proofs.lemmas.List.{take_all}
-use Rattle.up_store.specs.ReadAs.{InTurn, PutsReaching}
+use Rattle.up_store.proofs.Common.{InTurn, PutsReaching}
 use Rattle.up_store.proofs.ColumnTables.{AreReaching, campaign_of, reaching_begun, reaching_more, reaching_ended}
 use Rattle.up_store.proofs.MemoryAlone.{memory_on}
 use Rattle.up_store.proofs.ReadRows.{in_turn_more}

@@ -1,9 +1,6 @@
 use Rattle.std.proofs.Common.{take}
 use Rattle.std.specs.FinMap as table
-use Rattle.up_canon.specs.Names.{Table}
-use Rattle.up_plan.specs.Campaigns.{CampaignData}
-use Rattle.up_store.specs.ColumnRows.{AreRunning}
-use Rattle.up_store.specs.ReadAs.{InTurn, PutsReaching}
+use Rattle.up_store.proofs.Common.{Table, CampaignData, AreRunning, InTurn, PutsReaching}
 use Rattle.up_store.proofs.ColumnTables.{AreReaching}
 use Rattle.up_store.proofs.campaign_rows.read_reaching.Given as goal
 

@@ -1,7 +1,7 @@
 use Rattle.std.proofs.Common.{[], subst, sym}
 use Rattle.std.specs.FinMap as table
 use Rattle.std.proofs.lemmas.List.{take_all}
-use Rattle.up_store.specs.ReadAs.{InTurn, PutsCampaign}
+use Rattle.up_store.proofs.Common.{InTurn, PutsCampaign}
 use Rattle.up_store.proofs.ColumnTables.{AreRead, campaign_of, running_begun, running_more, running_ended}
 use Rattle.up_store.proofs.MemoryAlone.{memory_on}
 use Rattle.up_store.proofs.ReadRows.{in_turn_more}

@@ -1,23 +1,15 @@
-use Rattle.sqlite.specs.Held.{state}
-use Rattle.up_store.proofs.ColumnPuts.{campaign_is, puts_campaign}
+use Rattle.std.proofs.Common.{◌∷◌, [], ap}
+use Rattle.up_store.proofs.Common.{⊤, state, Row, insert_campaign_text}
+use Rattle.up_store.proofs.ColumnPuts.{puts_campaign}
+use Rattle.up_store.proofs.WithinLemmas.{makes_puts, puts_one}
 use Rattle.up_store.proofs.Written.{open_before}
-use Rattle.std.proofs.Common.{Some}
-use Rattle.std.specs.Prelude.{⊤}
-use Rattle.up_tables.specs.Forms.{campaign_row}
-use Rattle.up_tables.specs.Texts.{insert_campaign_text}
-use Rattle.up_store.specs.Lines.{campaign_lines}
-use Rattle.up_store.proofs.PutBlames.{blames_row, ran_row}
 use Rattle.up_store.proofs.campaigns.put_campaign.Goals as goal
 
-pub returns-clause-put : goal.returns-clause-put
-returns-clause-put g c clean =
-    puts_campaign c.insert_campaign.result c.args.new.now c.in_ok-row.row (state g.D.Store c.args.tx.now.conn.now) (state g.D.Store c.insert_campaign.new.tx.conn.now) c.in_ok-row.ensures.same c.in_ok-row.ensures.typed (c.insert_campaign.ensures.inserted clean)
-    (open_before c.insert_campaign.result c.insert_campaign.ensures.step.steps clean c.insert_campaign.ensures.step.is_open)
-
-pub returns-clause-blame : goal.returns-clause-blame
-returns-clause-blame g c =
-    blames_row (λ _. ⊤) insert_campaign_text (campaign_row c.in_ok-row.row) (campaign_lines (Some c.args.new.now)) (state g.D.Store c.args.tx.now.conn.now) (state g.D.Store c.insert_campaign.new.tx.conn.now) c.insert_campaign.result (campaign_is c.in_ok-row.row c.args.new.now c.in_ok-row.ensures.same) c.insert_campaign.ensures.blame
-
-pub returns-clause-ran : goal.returns-clause-ran
-returns-clause-ran g c =
-    ran_row insert_campaign_text (campaign_row c.in_ok-row.row) (campaign_lines (Some c.args.new.now)) (state g.D.Store c.args.tx.now.conn.now) (state g.D.Store c.insert_campaign.new.tx.conn.now) c.insert_campaign.result (campaign_is c.in_ok-row.row c.args.new.now c.in_ok-row.ensures.same) c.insert_campaign.ensures.ran
+pub returns : goal.returns
+returns g c inside =
+    let G = g.D.Store in
+    let r = c.insert_campaign.result in
+    makes_puts G _ _ _ _ r _ (λ _. ⊤) (λ any. tt)
+    (puts_one G _ _ _ _ r _ _ _ _ (ap (λ (row : Row). (insert_campaign_text, row) ∷ []) c.row_of.ensures.is)
+    (λ altered step clean. puts_campaign r c.args.new.now c.row_of.result (state G c.args.tx.now.conn.now) (state G c.insert_campaign.new.tx.conn.now) c.row_of.ensures.is c.row_of.ensures.typed (altered clean) (open_before r step.steps clean step.is_open))
+    (c.insert_campaign.ensures inside))

@@ -3,7 +3,7 @@ use Rattle.std.specs.FinMap as table
 use Rattle.std.proofs.lemmas.Iterator.Adapters.{YieldsList-from_vec}
 use Rattle.std.proofs.lemmas.Iterator.Consumers.{YieldsList-end, YieldsList-so_far, YieldsList-turn}
 use Rattle.std.proofs.lemmas.List.{length_push}
-use Rattle.up_store.specs.ReadAs.{InTurn, PutsImage}
+use Rattle.up_store.proofs.Common.{InTurn, PutsImage}
 use Rattle.up_store.proofs.ColumnTables.{AreSofar, image_of, images_begun, images_more, images_ended}
 use Rattle.up_store.proofs.MemoryAlone.{memory_on}
 use Rattle.up_store.proofs.ReadRows.{in_turn_more}

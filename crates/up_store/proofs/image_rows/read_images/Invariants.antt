@@ -1,9 +1,6 @@
 use Rattle.std.proofs.Common.{length, take}
 use Rattle.std.specs.FinMap as table
-use Rattle.up_canon.specs.Names.{Table}
-use Rattle.up_plan.specs.Images.{ImageData}
-use Rattle.up_store.specs.ColumnRows.{AreImages, AreHashesOf}
-use Rattle.up_store.specs.ReadAs.{InTurn, PutsImage}
+use Rattle.up_store.proofs.Common.{Table, ImageData, AreImages, AreHashesOf, InTurn, PutsImage}
 use Rattle.up_store.proofs.ColumnTables.{AreSofar}
 use Rattle.up_store.proofs.image_rows.read_images.Given as goal
 

@@ -1,8 +1,5 @@
 use Rattle.std.proofs.Common.{◌≡◌, ◌++◌, ◌∷◌, [], All, map, drop, pos}
-use Rattle.std.specs.List.{enumerate_from}
-use Rattle.sqlite.specs.declared.types.Value.TheVariants.{Int, Text, Blob}
-use Rattle.up_tables.specs.Forms.{FitRoleKey, role_key_row}
-use Rattle.up_store.specs.Lines.{repository_word}
+use Rattle.up_store.proofs.Common.{enumerate_from, Int, Text, Blob, FitRoleKey, role_key_row, repository_word}
 use Rattle.up_store.proofs.keys.make_role.Given as goal
 
 abbrev pub invariant-loop-place : goal.invariant-loop-place

@@ -1,6 +1,6 @@
 use Rattle.std.proofs.Common.{◌≡◌, ◌++◌, map, filter, drop}
-use Rattle.up_store.specs.Shown.{is_key_of}
+use Rattle.up_store.proofs.Common.{is_key_of}
 use Rattle.up_store.proofs.keys.read_secrets.Given as goal
 
 abbrev pub invariant-loop-row : goal.invariant-loop-row
-invariant-loop-row l = map (λ row. row.secret.items) (filter (is_key_of l.repository l.role) l.rows) ≡ l.keys.items ++ map (λ row. row.secret.items) (filter (is_key_of l.repository l.role) (drop l.row-index l.rows))
+invariant-loop-row l = map (λ row. row.secret) (filter (is_key_of l.repository l.role) l.rows) ≡ l.keys.items ++ map (λ row. row.secret) (filter (is_key_of l.repository l.role) (drop l.row-index l.rows))

@@ -1,6 +1,5 @@
 use Rattle.std.proofs.Common.{◌≡◌, drop}
-use Rattle.std.specs.Prelude.{find}
-use Rattle.up_store.specs.Shown.{is_key_of}
+use Rattle.up_store.proofs.Common.{find, is_key_of}
 use Rattle.up_store.proofs.keys.read_threshold.Given as goal
 
 abbrev pub invariant-loop-row : goal.invariant-loop-row

@@ -1,55 +1,45 @@
-use Rattle.std.proofs.Common.{Err, refl, sym}
-use Rattle.std.specs.Prelude.{⊤}
-use Rattle.sqlite.specs.Held.{state}
-use Rattle.up_tables.specs.Forms.{vehicle_row}
-use Rattle.up_tables.proofs.UndoneLemmas.{undoes_next}
-use Rattle.up_store.proofs.HandedBack.{handed_by}
-use Rattle.up_store.specs.Puts.{MayReport}
-use Rattle.up_store.specs.Writes.{reported_writes}
-use Rattle.up_store.proofs.AcceptBlames.{reported_ran, ecus_fail, vehicle_fails}
+use Rattle.std.proofs.Common.{Some, Ok, Err, ap, refl}
+use Rattle.up_store.proofs.Common.{⊤, state, ecu_row, HasVehicle, upsert_ecu_text, upsert_vehicle_text, ecu_lines, ecus_lines, vehicle_lines, MayReport, each_with}
+use Rattle.up_store.proofs.AcceptBlames.{has_vehicle}
 use Rattle.up_store.proofs.AcceptPuts.{puts_reported}
-use Rattle.up_store.proofs.PutBlames.{told_on, vehicle_row_is}
-use Rattle.up_store.proofs.Written.{clean_step, surely, was_open_before}
+use Rattle.up_store.proofs.PutBlames.{each_is, vehicle_row_is}
+use Rattle.up_store.proofs.WithinLemmas.{puts_first, puts_many, then_puts}
+use Rattle.up_store.proofs.Written.{clean_step, on_ok, was_open_before}
 use Rattle.up_store.proofs.manifests.put_reported.Goals as goal
 
 pub returns-clause-put : goal.returns-clause-put
-returns-clause-put g c clean =
-    let cleanly = clean_step c.upsert_ecus.ensures.step.steps clean in
-    puts_reported c.upsert_ecus.result c.args.new.now c.args.vehicle.now c.args.ecus.now (state g.D.Store c.args.tx.now.conn.now) (state g.D.Store c.upsert_vehicle.new.tx.conn.now) (state g.D.Store c.upsert_ecus.new.tx.conn.now) c.requires.made.vehicle_is c.requires.made.ecus_are
-    (c.in_ok-upsert_vehicle.ensures.set cleanly) (rw c.text.ensures.value at c.upsert_ecus.ensures.set clean)
-    (was_open_before c.upsert_ecus.result (state g.D.Store c.args.tx.now.conn.now) ((c.upsert_vehicle.ensures.step.steps.kept cleanly).was_open (c.in_ok-upsert_vehicle.ensures.step.is_open cleanly)))
+returns-clause-put g c inside =
+    let new = c.args.new.now in
+    let name = new.vehicle.vehicle in
+    let G = g.D.Store in
+    let s0 = state G c.args.tx.now.conn.now in
+    let s1 = state G c.upsert_vehicle.new.tx.conn.now in
+    let s2 = state G c.set_ecus.new.tx.conn.now in
+    let row = c.row_of.result in
+    let same = c.row_of.ensures.same in
+    let r = c.set_ecus.result in
+    let first = each_with upsert_vehicle_text (vehicle_lines (Some new)) in
+    let rest = each_with upsert_ecu_text (ecus_lines name (Some new)) in
+    let set = c.in_ok-upsert_vehicle.ensures inside in
+    let ecus = rw c.as_slice.ensures at (c.set_ecus.ensures.set set.step.is_open set.step.inside) in
+    then_puts G _ first rest (MayReport new) tt _ _ (HasVehicle row) (λ _. ⊤) _ _ _ r (λ _ _ _ _. tt)
+    (λ clean.
+    let cleanly = clean_step ecus.step.steps clean in
+    puts_reported r new row s0 s1 s2 same (set.altered cleanly) (ecus.altered clean) (was_open_before r s0 ((set.step.steps.kept cleanly).was_open (set.step.is_open cleanly))))
+    (puts_many {A = ⊤} G first (HasVehicle row) _ _ (Ok tt) _ _ (λ _ _ _. ⊤) (ap (each_with upsert_vehicle_text) (vehicle_row_is new row same)) (λ altered step. tt) set)
+    (puts_many G rest (λ _. ⊤) _ _ r _ _ (λ _ _ _. ⊤) (each_is upsert_ecu_text ecu_row (ecu_lines name 0 new.ecus)) (λ altered step. tt) ecus)
 
 pub returns-clause-typed : goal.returns-clause-typed
 returns-clause-typed g c =
-    surely c.upsert_ecus.result (λ tell. record { named = refl; row = c.requires.made.typed; ecus = c.requires.made.typed_each; tell = tell })
+    on_ok c.set_ecus.result (rw c.as_slice.ensures at c.set_ecus.ensures.typed) (λ typed tell. record { named = refl; row = c.row_of.ensures.typed; ecus = typed; tell = tell })
 
-pub returns-clause-ran : goal.returns-clause-ran
-returns-clause-ran g c =
-    let s0 = state g.D.Store c.args.tx.now.conn.now in
-    let s1 = state g.D.Store c.upsert_vehicle.new.tx.conn.now in
-    reported_ran c.args.new.now c.args.vehicle.now c.args.ecus.now s0 s1 (state g.D.Store c.upsert_ecus.new.tx.conn.now) c.upsert_ecus.result c.requires.made.vehicle_is c.requires.made.ecus_are
-    c.upsert_vehicle.ensures.step.steps c.upsert_ecus.ensures.step.steps c.in_ok-upsert_vehicle.ensures.ran (rw c.text.ensures.value at c.upsert_ecus.ensures.ran)
-
-pub returns-clause-handed : goal.returns-clause-handed
-returns-clause-handed g c clean =
-    let told = c.in_ok-upsert_vehicle.ensures.handed (clean_step c.upsert_ecus.ensures.step.steps clean) in
-    surely c.upsert_ecus.result
-    (handed_by _ (vehicle_row c.args.vehicle.now) (state g.D.Store c.args.tx.now.conn.now) (state g.D.Store c.upsert_vehicle.new.tx.conn.now) told.0 (sym (vehicle_row_is c.args.new.now c.args.vehicle.now c.requires.made.vehicle_is)) told.1 told.2)
-
-pub returns-clause-blame : goal.returns-clause-blame
-returns-clause-blame g c =
-    let s0 = state g.D.Store c.args.tx.now.conn.now in
-    let s1 = state g.D.Store c.upsert_vehicle.new.tx.conn.now in
-    ecus_fail c.args.new.now c.args.vehicle.now c.args.ecus.now s0 s1 (state g.D.Store c.upsert_ecus.new.tx.conn.now) c.upsert_ecus.result c.requires.made.vehicle_is c.requires.made.ecus_are
-    c.upsert_vehicle.ensures.step.steps c.upsert_ecus.ensures.step.steps c.in_ok-upsert_vehicle.ensures.ran c.in_ok-upsert_vehicle.ensures.step.is_open (rw c.text.ensures.value at c.upsert_ecus.ensures.blame)
-
-pub returns-in_err-upsert_vehicle-clause-blame : goal.returns-in_err-upsert_vehicle-clause-blame
-returns-in_err-upsert_vehicle-clause-blame g c =
+pub returns-in_err-upsert_vehicle-clause-put : goal.returns-in_err-upsert_vehicle-clause-put
+returns-in_err-upsert_vehicle-clause-put g c inside =
     let new = c.args.new.now in
-    let s0 = state g.D.Store c.args.tx.now.conn.now in
-    let s1 = state g.D.Store c.upsert_vehicle.new.tx.conn.now in
-    told_on c.from_residual.result c.in_err-upsert_vehicle.field-0.0 (reported_writes new) (MayReport new) s0 s1 c.from_residual.ensures.1
-    (vehicle_fails new c.args.vehicle.now c.args.ecus.now {A = ⊤} s0 s1 (Err c.in_err-upsert_vehicle.field-0.0) c.requires.made.vehicle_is c.requires.made.ecus_are c.in_err-upsert_vehicle.ensures.blame)
-
-pub returns-in_err-upsert_vehicle-clause-memory : goal.returns-in_err-upsert_vehicle-clause-memory
-returns-in_err-upsert_vehicle-clause-memory g c = undoes_next c.from_residual.result (state g.D.Store c.upsert_vehicle.new.tx.conn.now) _ c.from_residual.ensures.1 c.in_err-upsert_vehicle.ensures.memory
+    let row = c.row_of.result in
+    let same = c.row_of.ensures.same in
+    let f = c.in_err-upsert_vehicle.field-0.0 in
+    let first = each_with upsert_vehicle_text (vehicle_lines (Some new)) in
+    puts_first g.D.Store _ first (each_with upsert_ecu_text (ecus_lines new.vehicle.vehicle (Some new))) (MayReport new) (λ _ _ _. ⊤) (HasVehicle row) _ _ c.from_residual.result f c.from_residual.ensures.1
+    (has_vehicle new row (state g.D.Store c.args.tx.now.conn.now) same) (λ e clean. tt)
+    (puts_many {A = ⊤} g.D.Store first (HasVehicle row) _ _ (Err f) _ _ (λ _ _ _. ⊤) (ap (each_with upsert_vehicle_text) (vehicle_row_is new row same)) (λ altered step. tt) (c.in_err-upsert_vehicle.ensures inside))

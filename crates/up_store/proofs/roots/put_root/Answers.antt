@@ -1,12 +1,13 @@
-use Rattle.std.proofs.Common.{inl}
-use Rattle.sqlite.specs.Held.{state}
-use Rattle.up_store.specs.Writes.{FitsFounding, root_writes}
-use Rattle.up_store.proofs.PutBlames.{never_blames}
+use Rattle.std.proofs.Common.{Err, ap}
+use Rattle.up_store.proofs.Common.{⊤, FitsFounding, root_writes}
 use Rattle.up_store.proofs.RootBlames.{fits_meta}
+use Rattle.up_store.proofs.WithinLemmas.{makes_none, makes_puts}
 use Rattle.up_store.proofs.roots.put_root.Goals as goal
 
-pub returns-in_err-check_version-clause-blame : goal.returns-in_err-check_version-clause-blame
-returns-in_err-check_version-clause-blame g c =
-    let new = c.args.new.now in
-    let s0 = state g.D.Store c.args.tx.now.conn.now in
-    never_blames (root_writes new) (λ _. FitsFounding new.founding) s0 s0 c.from_residual.result (λ fits. fits_meta new.founding fits (inl c.in_err-check_version.ensures.fault.1))
+pub returns : goal.returns
+returns g c inside = makes_puts g.D.Store _ _ _ _ c.put_root_made.result _ (λ _. ⊤) (λ fits. tt) (c.put_root_made.ensures inside)
+
+pub returns-in_err-numbers : goal.returns-in_err-numbers
+returns-in_err-numbers g c inside =
+    let founding = c.args.new.now.founding in
+    makes_none g.D.Store _ (root_writes c.args.new.now) (λ _. FitsFounding founding) _ c.from_residual.result c.in_err-numbers.field-0.0 c.from_residual.ensures.1 (λ e clean. tt) (λ store fits. fits_meta founding fits (c.in_err-numbers.ensures.large.0 (ap Err store)))

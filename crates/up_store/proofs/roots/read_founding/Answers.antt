@@ -1,5 +1,5 @@
 use Rattle.std.proofs.Common.{ap, arith}
-use Rattle.up_tables.specs.declared.meta.MetaRow.{MetaRow}
+use Rattle.up_store.proofs.Common.{MetaRow}
 use Rattle.up_store.proofs.MemoryAlone.{memory_on}
 use Rattle.up_store.proofs.roots.read_founding.Goals as goal
 

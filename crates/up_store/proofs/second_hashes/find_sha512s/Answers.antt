@@ -1,28 +1,21 @@
-use Rattle.std.proofs.Common.{Err}
-use Rattle.std.specs.Prelude.{⊤}
-use Rattle.sqlite.specs.Held.{state}
-use Rattle.up_tables.proofs.StateLemmas.{ok_then}
-use Rattle.up_store.proofs.Blamed.{by_statement, memory_blames}
-use Rattle.up_store.proofs.ColumnFound.{typed_in, are_hashes}
-use Rattle.up_store.proofs.KindsOfImages.{holds_hashes, hashes_read}
+use Rattle.std.proofs.Common.{Ok, refl, rules}
+use Rattle.up_store.proofs.Common.{⊤, state, ok_then}
+use Rattle.up_store.proofs.Blamed.{memory_blames}
+use Rattle.up_store.proofs.KindsOfImages.{are_hashes, hashes_by_name, holds_hashes}
+use Rattle.up_store.proofs.WithinLemmas.{finds_fault}
 use Rattle.up_store.proofs.second_hashes.find_sha512s.Goals as goal
 
-pub returns-in-Ok-clause-found : goal.returns-in-Ok-clause-found
-returns-in-Ok-clause-found g c clean =
-    let before = state g.D.Store c.args.tx.now.conn.now in
-    let after = state g.D.Store c.image_sha512s.new.tx.conn.now in
-    ok_then _ _ c.read_sha512s.result
-    (λ read is rows within. is rows.images (are_hashes rows before after c.in-Ok.shown.items (c.in-Ok.ensures.reads clean) (c.in-Ok.ensures.found clean) within))
-    c.read_sha512s.ensures.same
+pub returns-in-Ok : goal.returns-in-Ok
+returns-in-Ok g c inside = record {
+  found = λ clean. ok_then _ _ c.by_file.result
+      (λ read is rows within. is rows.images (are_hashes {E = ⊤} (λ v. v.items) (Ok c.in-Ok.found) _ _ ((c.in-Ok.ensures inside).found clean) ((c.in-Ok.ensures inside).reads clean) rows within)) c.by_file.ensures.same;
+  shown = λ clean. ok_then _ _ c.by_file.result
+      (λ read turn rows_of has lists. (c.in-Ok.found.items, hashes_by_name _ rows_of c.in-Ok.found.items lists ((c.in-Ok.ensures inside).found clean _ has (record { shaped = lists.shaped; every = refl })), turn)) c.by_file.ensures.told;
+  «open» = search rules;
+  blame = memory_blames (λ _. ⊤) (state g.D.Store c.args.tx.now.conn.now) (state g.D.Store c.image_sha512s.new.tx.conn.now) c.by_file.result (λ clean rows within fits. c.by_file.ensures.fault);
+  step = search rules;
+}
 
-pub returns-in-Ok-clause-blame : goal.returns-in-Ok-clause-blame
-returns-in-Ok-clause-blame g c =
-    let before = state g.D.Store c.args.tx.now.conn.now in
-    let after = state g.D.Store c.image_sha512s.new.tx.conn.now in
-    memory_blames (λ _. ⊤) before after c.read_sha512s.result
-    (λ clean rows within fits.
-    c.read_sha512s.ensures.fault (hashes_read rows c.in-Ok.shown.items (typed_in rows before after (c.in-Ok.ensures.reads clean) within) (are_hashes rows before after c.in-Ok.shown.items (c.in-Ok.ensures.reads clean) (c.in-Ok.ensures.found clean) within)))
-
-pub returns-in-Err-clause-blame : goal.returns-in-Err-clause-blame
-returns-in-Err-clause-blame g c =
-    by_statement (λ _. ⊤) _ (state g.D.Store c.args.tx.now.conn.now) (state g.D.Store c.image_sha512s.new.tx.conn.now) (Err c.in-Err.fault) (λ rows lists fits. holds_hashes (state g.D.Store c.args.tx.now.conn.now) rows lists) c.in-Err.ensures.blame
+pub returns-in-Err : goal.returns-in-Err
+returns-in-Err g c inside =
+    finds_fault g.D.Store _ _ (λ _. ⊤) _ _ c.image_sha512s.result c.in-Err.fault _ (λ clean. tt) (λ rows lists fits. holds_hashes (state g.D.Store c.args.tx.now.conn.now) rows lists) (c.in-Err.ensures inside).blame (c.image_sha512s.ensures inside).step

@@ -4,7 +4,7 @@ use Rattle.sqlite.proofs.Theorems.{next_run}
 use Rattle.sqlite.specs.Files.{file_state}
 use Rattle.sqlite_trees.proofs.Doubt.{no_doubt}
 use Rattle.up_tables.proofs.CrashLemmas.{opened_with}
-use Rattle.up_store.specs.Listing.{ListsRows}
+use Rattle.up_store.proofs.Common.{ListsRows}
 use Rattle.up_store.proofs.stopping.stop.Goals as goal
 
 pub returns : goal.returns

@@ -1,13 +1,11 @@
-use Rattle.up_tables.specs.Texts.{running_campaigns_text}
-use Rattle.up_tables.proofs.CallLemmas.{is_read}
-use Rattle.up_tables.proofs.StateLemmas.{query_told}
-use Rattle.up_tables.proofs.CampaignLemmas.{running_is, finds_running, order_running, running_blames}
+use Rattle.std.proofs.Common.{pos, filter}
+use Rattle.up_tables.specs.Rows.{has_number}
+use Rattle.up_tables.specs.Stored.{IsLine, Tells}
+use Rattle.up_tables.proofs.CampaignLemmas.{running_listed}
+use Rattle.up_tables.proofs.StoredLemmas.{listed_values}
 use Rattle.up_tables.proofs.campaign.running_campaigns.Goals as goal
 
 pub returns : goal.returns
 returns g c =
-    let found = λ (clean : _). finds_running (λ v. v.items) (λ v. v.items) c.query_all.result c.each_row.result _ _ c.each_row.ensures.ok (c.query_all.ensures.ok clean) in
-    let order = λ (clean : _). order_running (λ v. v.items) (λ v. v.items) c.query_all.result c.each_row.result _ _ c.each_row.ensures.ok (c.query_all.ensures.ok clean) in
-    let read = is_read (λ v. v.items) running_campaigns_text _ _ _ c.query_all.result c.each_row.result _ running_is.3 c.each_row.ensures.ok c.requires.mode c.query_all.ensures.survives c.query_all.ensures.ok c.query_all.ensures.err in
-    let blame = running_blames (λ v. v.items) c.query_all.result c.each_row.result _ _ c.each_row.ensures.fault c.each_row.ensures.kinds c.query_all.ensures.ok c.query_all.ensures.err in
-    record { found = found; order = order; reads = read.reads; asks = query_told (λ v. v.items) _ running_campaigns_text _ _ _ c.query_all.result c.each_row.result c.each_row.ensures.ok c.query_all.ensures.ok; blame = blame; step = record { same_reference = c.query_all.ensures.same_reference; steps = read.steps; inside = read.inside; is_open = read.opened } }
+    let R = g.R.RowReading in
+    listed_values g.S.Store _ _ (filter (has_number 3 (pos 1))) _ _ 4 _ _ (Tells R.says R.fits R.line) (IsLine R.fits R.line) (λ found. found.items) _ _ c.list_values.result running_listed c.list_values.ensures

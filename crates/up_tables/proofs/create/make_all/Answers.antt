@@ -1,19 +1,13 @@
-use Rattle.std.proofs.Common.{Ok}
-use Rattle.sqlite.specs.Held.{state}
-use Rattle.up_tables.specs.Making.{alone, tables_making, name_text}
-use Rattle.up_tables.proofs.MakingLemmas.{Came, came_on, came_to}
+use Rattle.up_tables.specs.Making.{alone, name_text, tables_making}
+use Rattle.up_tables.proofs.MadeSteps.{makes_first, makes_then}
 use Rattle.up_tables.proofs.create.make_all.Goals as goal
 
-pub returns-in_err-make_tables-clause-tried : goal.returns-in_err-make_tables-clause-tried
-returns-in_err-make_tables-clause-tried g c =
-    let old = state g.S.Store c.args.tx.now.conn.now in
-    let s1 = state g.S.Store c.make_tables.new.tx.conn.now in
-    came_to tables_making (alone name_text) old s1 c.in_err-make_tables.field-0.0 c.from_residual.result c.from_residual.ensures.1 (record { survives = c.make_tables.ensures.step.steps.survives; tried = c.in_err-make_tables.ensures.tried })
+pub returns-in_err-make_tables : goal.returns-in_err-make_tables
+returns-in_err-make_tables g c =
+    let G = g.S.Store in
+    makes_first G tables_making (alone name_text) _ _ _ _ _ _ c.from_residual.result c.from_residual.ensures.1 c.in_err-make_tables.ensures c.requires
 
-pub returns-clause-tried : goal.returns-clause-tried
-returns-clause-tried g c =
-    let old = state g.S.Store c.args.tx.now.conn.now in
-    let s1 = state g.S.Store c.make_tables.new.tx.conn.now in
-    let s2 = state g.S.Store c.name_tables.new.tx.conn.now in
-    let c1 : Came tables_making old s1 (Ok c.in_ok-make_tables.field-0) = record { survives = c.make_tables.ensures.step.steps.survives; tried = c.in_ok-make_tables.ensures.tried } in
-    (came_on tables_making (alone name_text) old s1 s2 _ c.name_tables.result c1 (record { survives = c.name_tables.ensures.step.steps.survives; tried = c.name_tables.ensures.tried })).tried
+pub returns : goal.returns
+returns g c =
+    let G = g.S.Store in
+    makes_then G tables_making (alone name_text) _ _ _ _ _ _ _ _ c.in_ok-make_tables.ensures c.name_tables.ensures c.requires

@@ -1,14 +1,12 @@
 use Rattle.std.proofs.Common.{string_bytes}
+use Rattle.up_tables.specs.Tables.{ecu_table}
 use Rattle.up_tables.specs.Texts.{find_owner_text}
-use Rattle.up_tables.proofs.CallLemmas.{is_read}
-use Rattle.up_tables.proofs.StateLemmas.{query_told}
-use Rattle.up_tables.proofs.EcuReads.{owner_is, finds_owner}
-use Rattle.up_tables.proofs.OwnerLemmas.{owner_blames}
+use Rattle.up_tables.proofs.OwnerLemmas.{ecu_owned, owner_queried}
+use Rattle.up_tables.proofs.StoredLemmas.{asked_as}
 use Rattle.up_tables.proofs.ecu.ecu_owner.Goals as goal
 
 pub returns : goal.returns
 returns g c =
-    let found = λ (clean : _). finds_owner (λ s. string_bytes s) (λ v. v.items) c.query_all.result c.at_most_one.result _ _ c.args.ecu.now c.at_most_one.ensures.ok (rw c.words.ensures at (c.query_all.ensures.ok clean)) in
-    let read = is_read (λ v. v.items) find_owner_text _ _ _ c.query_all.result c.at_most_one.result _ owner_is.3 c.at_most_one.ensures.ok c.requires.mode c.query_all.ensures.survives c.query_all.ensures.ok c.query_all.ensures.err in
-    let blame = owner_blames (λ v. v.items) c.query_all.result c.at_most_one.result _ _ c.args.ecu.now c.at_most_one.ensures.fault c.at_most_one.ensures.kinds (λ clean. rw c.words.ensures at (c.query_all.ensures.ok clean)) (λ clean. rw c.words.ensures at (c.query_all.ensures.err clean)) in
-    record { found = found; reads = read.reads; asks = query_told (λ v. v.items) _ find_owner_text _ _ _ c.query_all.result c.at_most_one.result c.at_most_one.ensures.ok (λ clean. rw c.words.ensures at (c.query_all.ensures.ok clean)); blame = blame; step = record { same_reference = c.query_all.ensures.same_reference; steps = read.steps; inside = read.inside; is_open = read.opened } }
+    owner_queried g.S.Store (λ s. string_bytes s) find_owner_text c.args.ecu.now ecu_table _ _ c.one_text.result (ecu_owned c.args.ecu.now)
+    (asked_as g.S.Store (λ v. v.items) _ _ _ _ _ _ c.query_all.result c.one_text.result c.query_all.ensures.same_reference c.query_all.ensures.survives (rw c.words.ensures at c.query_all.ensures.ok) (rw c.words.ensures at c.query_all.ensures.err)
+    c.one_text.ensures.ok c.one_text.ensures.fault c.one_text.ensures.kinds)

@@ -1,12 +1,8 @@
-use Rattle.up_tables.specs.Texts.{find_sha512_text}
-use Rattle.up_tables.proofs.CallLemmas.{is_read}
-use Rattle.up_tables.proofs.StateLemmas.{query_told}
-use Rattle.up_tables.proofs.Sha512Lemmas.{find_is, finds_sha512, find_sha512_blames}
+use Rattle.up_tables.proofs.Sha512Lemmas.{sha512_found}
+use Rattle.up_tables.proofs.StoredLemmas.{found_value}
 use Rattle.up_tables.proofs.image_sha512.image_sha512.Goals as goal
 
 pub returns : goal.returns
 returns g c =
-    let found = λ (clean : _). finds_sha512 (λ v. v.items) c.query_all.result c.at_most_one.result _ _ c.args.file.now c.at_most_one.ensures.ok (rw c.words.ensures at (c.query_all.ensures.ok clean)) in
-    let read = is_read (λ v. v.items) find_sha512_text _ _ _ c.query_all.result c.at_most_one.result _ find_is.3 c.at_most_one.ensures.ok c.requires.mode c.query_all.ensures.survives c.query_all.ensures.ok c.query_all.ensures.err in
-    let blame = find_sha512_blames (λ v. v.items) c.query_all.result c.at_most_one.result _ _ c.args.file.now c.at_most_one.ensures.fault c.at_most_one.ensures.kinds (λ clean. rw c.words.ensures at (c.query_all.ensures.ok clean)) (λ clean. rw c.words.ensures at (c.query_all.ensures.err clean)) in
-    record { found = found; reads = read.reads; asks = query_told (λ v. v.items) _ find_sha512_text _ _ _ c.query_all.result c.at_most_one.result c.at_most_one.ensures.ok (λ clean. rw c.words.ensures at (c.query_all.ensures.ok clean)); blame = blame; step = record { same_reference = c.query_all.ensures.same_reference; steps = read.steps; inside = read.inside; is_open = read.opened } }
+    found_value g.S.Store _ _ _ 1 (λ rows_of. rows_of c.args.file.now) _ _ 2 _ _ g.R.RowReading.says g.R.RowReading.fits g.R.RowReading.line _ _ c.find_value.result (sha512_found c.args.file.now)
+    (rw c.words.ensures at c.find_value.ensures)

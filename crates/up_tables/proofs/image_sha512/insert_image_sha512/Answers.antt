@@ -1,17 +1,6 @@
-use Rattle.up_tables.proofs.CallLemmas.{is_written}
-use Rattle.up_tables.proofs.Sha512Lemmas.{sha512_inserts, sha512_writes}
+use Rattle.up_tables.proofs.Sha512Lemmas.{sha512_put}
+use Rattle.up_tables.proofs.StoredLemmas.{inserted}
 use Rattle.up_tables.proofs.image_sha512.insert_image_sha512.Goals as goal
-use Rattle.up_tables.proofs.RefusalLemmas.{blames_refusal}
-use Rattle.up_tables.proofs.TriedLemmas.{ran_only}
-use Rattle.up_tables.proofs.UndoneLemmas.{undoes_only}
-use Rattle.up_tables.specs.Texts.{insert_sha512_text}
 
 pub returns : goal.returns
-returns g c =
-    let runs = rw (c.words.ensures, c.bytes.ensures) at c.execute.ensures.runs in
-    let written = is_written _ _ _ _ c.execute.result c.done.result _ c.done.ensures.ok c.requires.mode c.execute.ensures.survives c.execute.ensures.runs
-    (sha512_inserts c.execute.result _ _ c.args.file.now c.args.sha512.now c.execute.ensures.survives c.requires.mode runs) in
-    let blame = blames_refusal insert_sha512_text _ _ (sha512_writes c.args.file.now c.args.sha512.now) c.execute.result c.done.result _ _ c.done.ensures.went c.done.ensures.fault c.execute.ensures.survives c.requires.mode runs in
-    let ran = ran_only insert_sha512_text _ _ (sha512_writes c.args.file.now c.args.sha512.now) c.execute.result c.done.result _ _ c.done.ensures.ok c.execute.ensures.survives c.requires.mode runs in
-    let memory = undoes_only insert_sha512_text _ c.execute.result c.done.result _ _ c.done.ensures.went c.done.ensures.fault c.execute.ensures.survives c.requires.mode runs in
-    record { inserted = written.told; blame = blame; ran = ran; memory = memory; step = record { same_reference = c.execute.ensures.same_reference; steps = written.steps; inside = written.inside; is_open = written.opened } }
+returns g c = inserted g.S.Store _ _ 1 _ _ 9 2 _ _ c.write.result (sha512_put c.args.file.now c.args.sha512.now) (rw (c.words.ensures, c.bytes.ensures) at c.write.ensures)

@@ -1,17 +1,8 @@
-use Rattle.up_tables.proofs.CallLemmas.{is_written}
-use Rattle.up_tables.proofs.KeptLemmas.{kept_inserts, kept_writes}
+use Rattle.up_tables.proofs.KeptLemmas.{kept_put}
+use Rattle.up_tables.proofs.StoredLemmas.{inserted}
 use Rattle.up_tables.proofs.kept.insert_kept.Goals as goal
-use Rattle.up_tables.proofs.RefusalLemmas.{blames_refusal}
-use Rattle.up_tables.proofs.TriedLemmas.{ran_only}
-use Rattle.up_tables.proofs.UndoneLemmas.{undoes_only}
-use Rattle.up_tables.specs.Texts.{insert_kept_text}
 
 pub returns : goal.returns
 returns g c =
-    let runs = rw (c.words.ensures, c.as_str.ensures.value, c.number.ensures, c.number-2.ensures, c.number-3.ensures, c.number-4.ensures, c.words-2.ensures, c.as_str-2.ensures.value, c.words-3.ensures, c.as_str-3.ensures.value, c.words-4.ensures, c.as_str-4.ensures.value) at c.execute.ensures.runs in
-    let written = is_written _ _ _ _ c.execute.result c.done.result _ c.done.ensures.ok c.requires.mode c.execute.ensures.survives c.execute.ensures.runs
-    (kept_inserts c.execute.result _ _ c.args.kept.now c.execute.ensures.survives c.requires.mode runs) in
-    let blame = blames_refusal insert_kept_text _ _ (kept_writes c.args.kept.now) c.execute.result c.done.result _ _ c.done.ensures.went c.done.ensures.fault c.execute.ensures.survives c.requires.mode runs in
-    let ran = ran_only insert_kept_text _ _ (kept_writes c.args.kept.now) c.execute.result c.done.result _ _ c.done.ensures.ok c.execute.ensures.survives c.requires.mode runs in
-    let memory = undoes_only insert_kept_text _ c.execute.result c.done.result _ _ c.done.ensures.went c.done.ensures.fault c.execute.ensures.survives c.requires.mode runs in
-    record { inserted = written.told; blame = blame; ran = ran; memory = memory; step = record { same_reference = c.execute.ensures.same_reference; steps = written.steps; inside = written.inside; is_open = written.opened } }
+    inserted g.S.Store _ _ 1 _ _ 7 8 _ _ c.write.result (kept_put c.args.kept.now)
+    (rw (c.words.ensures, c.number.ensures, c.number-2.ensures, c.number-3.ensures, c.number-4.ensures, c.words-2.ensures, c.words-3.ensures, c.words-4.ensures) at c.write.ensures)

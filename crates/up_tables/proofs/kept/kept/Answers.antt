@@ -1,12 +1,10 @@
-use Rattle.up_tables.specs.Texts.{find_kept_text}
-use Rattle.up_tables.proofs.CallLemmas.{is_read}
-use Rattle.up_tables.proofs.StateLemmas.{query_told}
-use Rattle.up_tables.proofs.KeptLemmas.{find_is, finds_kept, find_kept_blames}
+use Rattle.std.proofs.Common.{pos, filter}
+use Rattle.up_tables.specs.Rows.{has_number}
+use Rattle.up_tables.proofs.KeptLemmas.{kept_found}
+use Rattle.up_tables.proofs.StoredLemmas.{found_value}
 use Rattle.up_tables.proofs.kept.kept.Goals as goal
 
 pub returns : goal.returns
 returns g c =
-    let found = λ (clean : _). finds_kept (λ v. v.items) c.query_all.result c.at_most_one.result _ _ c.args.vehicle.now c.args.counter c.at_most_one.ensures.ok (rw (c.words.ensures, c.number.ensures) at (c.query_all.ensures.ok clean)) in
-    let read = is_read (λ v. v.items) find_kept_text _ _ _ c.query_all.result c.at_most_one.result _ find_is.3 c.at_most_one.ensures.ok c.requires.mode c.query_all.ensures.survives c.query_all.ensures.ok c.query_all.ensures.err in
-    let blame = find_kept_blames (λ v. v.items) c.query_all.result c.at_most_one.result _ _ c.args.vehicle.now c.args.counter c.at_most_one.ensures.fault c.at_most_one.ensures.kinds (λ clean. rw (c.words.ensures, c.number.ensures) at (c.query_all.ensures.ok clean)) (λ clean. rw (c.words.ensures, c.number.ensures) at (c.query_all.ensures.err clean)) in
-    record { found = found; reads = read.reads; asks = query_told (λ v. v.items) _ find_kept_text _ _ _ c.query_all.result c.at_most_one.result c.at_most_one.ensures.ok (λ clean. rw (c.words.ensures, c.number.ensures) at (c.query_all.ensures.ok clean)); blame = blame; step = record { same_reference = c.query_all.ensures.same_reference; steps = read.steps; inside = read.inside; is_open = read.opened } }
+    found_value g.S.Store _ _ _ 1 (λ rows_of. filter (has_number 1 (pos c.args.counter)) (rows_of c.args.vehicle.now)) _ _ 8 _ _ g.R.RowReading.says g.R.RowReading.fits g.R.RowReading.line _ _ c.find_value.result
+    (kept_found c.args.vehicle.now c.args.counter) (rw (c.words.ensures, c.number.ensures) at c.find_value.ensures)

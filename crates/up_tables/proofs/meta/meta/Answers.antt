@@ -1,14 +1,24 @@
-use Rattle.up_tables.specs.Texts.{find_founding_text}
-use Rattle.up_tables.proofs.CallLemmas.{is_read}
-use Rattle.up_tables.proofs.StateLemmas.{query_told}
-use Rattle.up_tables.proofs.MetaReads.{find_is, finds_meta, finds_shown, meta_blames, meta_kinds}
+use Rattle.std.proofs.Common.{◌≡◌, List, refl}
+use Rattle.sqlite.specs.Held.{state}
+use Rattle.sqlite.specs.Order.{Row}
+use Rattle.up_tables.specs.Found.{HoldsOfMeta, meta_shown}
+use Rattle.up_tables.specs.Stored.{AreLines}
+use Rattle.up_tables.specs.Tables.{meta_table}
+use Rattle.up_tables.proofs.BlameLemmas.{blames_where}
+use Rattle.up_tables.proofs.MetaReads.{meta_found}
+use Rattle.up_tables.proofs.StateLemmas.{ok_then}
+use Rattle.up_tables.proofs.StoredLemmas.{queried_value}
 use Rattle.up_tables.proofs.meta.meta.Goals as goal
 
 pub returns : goal.returns
-returns g c =
-    let found = λ (clean : _). finds_meta (λ v. v.items) c.query_all.result c.at_most_one.result _ _ c.at_most_one.ensures.ok (c.query_all.ensures.ok clean) in
-    let shown = λ (clean : _). finds_shown (λ v. v.items) c.query_all.result c.at_most_one.result _ _ c.at_most_one.ensures.ok (c.query_all.ensures.ok clean) in
-    let read = is_read (λ v. v.items) find_founding_text _ _ _ c.query_all.result c.at_most_one.result _ find_is.3 c.at_most_one.ensures.ok c.requires.mode c.query_all.ensures.survives c.query_all.ensures.ok c.query_all.ensures.err in
-    let blame = meta_blames (λ v. v.items) c.query_all.result c.at_most_one.result _ _ c.at_most_one.ensures.fault c.at_most_one.ensures.kinds c.query_all.ensures.ok c.query_all.ensures.err in
-    let kinds = meta_kinds (λ v. v.items) c.query_all.result c.at_most_one.result _ _ c.at_most_one.ensures.fault c.at_most_one.ensures.kinds c.query_all.ensures.ok c.query_all.ensures.err in
-    record { found = found; shown = shown; reads = read.reads; asks = query_told (λ v. v.items) _ find_founding_text _ _ _ c.query_all.result c.at_most_one.result c.at_most_one.ensures.ok c.query_all.ensures.ok; blame = blame; kinds = kinds; step = record { same_reference = c.query_all.ensures.same_reference; steps = read.steps; inside = read.inside; is_open = read.opened } }
+returns g c mode =
+    let R = g.R.RowReading in
+    let is = queried_value g.S.Store (λ (all rows : List Row). all ≡ rows) _ _ _ meta_shown _ _ _ R.says R.fits R.line _ _ c.find_value.result meta_found c.find_value.ensures mode in
+    record {
+      found = λ clean. ok_then _ _ c.find_value.result (λ found told has. told _ has refl) (is.found clean);
+      reads = is.reads;
+      asks = is.asks;
+      blame = blames_where (HoldsOfMeta (AreLines R.fits R.line)) (λ s. (all : List Row) × (all ≡ s.now.trees meta_table.tree) × AreLines R.fits R.line (meta_shown all)) (state g.S.Store c.args.tx.now.conn.now) (state g.S.Store c.find_value.new.tx.conn.now)
+          c.find_value.result (λ holds. (_, refl, holds)) is.blame;
+      step = is.step;
+    }

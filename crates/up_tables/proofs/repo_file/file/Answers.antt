@@ -1,12 +1,12 @@
-use Rattle.up_tables.specs.Texts.{find_file_text}
-use Rattle.up_tables.proofs.CallLemmas.{is_read}
-use Rattle.up_tables.proofs.StateLemmas.{query_told}
-use Rattle.up_tables.proofs.FileLemmas.{find_is, finds_file, find_file_blames}
+use Rattle.std.proofs.Common.{map}
+use Rattle.up_tables.specs.Forms.{file_places}
+use Rattle.up_tables.specs.Rows.{columns_at}
+use Rattle.up_tables.specs.Stands.{ListsPairs}
+use Rattle.up_tables.proofs.FileLemmas.{file_found}
+use Rattle.up_tables.proofs.StoredLemmas.{queried_value}
 use Rattle.up_tables.proofs.repo_file.file.Goals as goal
 
 pub returns : goal.returns
 returns g c =
-    let found = λ (clean : _). finds_file (λ v. v.items) c.query_all.result c.at_most_one.result _ _ c.args.repository.now c.args.name.now c.at_most_one.ensures.ok (rw (c.words.ensures, c.words-2.ensures) at (c.query_all.ensures.ok clean)) in
-    let read = is_read (λ v. v.items) find_file_text _ _ _ c.query_all.result c.at_most_one.result _ find_is.3 c.at_most_one.ensures.ok c.requires.mode c.query_all.ensures.survives c.query_all.ensures.ok c.query_all.ensures.err in
-    let blame = find_file_blames (λ v. v.items) c.query_all.result c.at_most_one.result _ _ c.args.repository.now c.args.name.now c.at_most_one.ensures.fault c.at_most_one.ensures.kinds (λ clean. rw (c.words.ensures, c.words-2.ensures) at (c.query_all.ensures.ok clean)) (λ clean. rw (c.words.ensures, c.words-2.ensures) at (c.query_all.ensures.err clean)) in
-    record { found = found; reads = read.reads; asks = query_told (λ v. v.items) _ find_file_text _ _ _ c.query_all.result c.at_most_one.result c.at_most_one.ensures.ok (λ clean. rw (c.words.ensures, c.words-2.ensures) at (c.query_all.ensures.ok clean)); blame = blame; step = record { same_reference = c.query_all.ensures.same_reference; steps = read.steps; inside = read.inside; is_open = read.opened } }
+    queried_value g.S.Store ListsPairs _ _ _ (λ rows_of. map (columns_at file_places) (rows_of c.args.repository.now c.args.name.now)) _ _ _ g.R.RowReading.says g.R.RowReading.fits g.R.RowReading.line _ _ c.find_value.result
+    (file_found c.args.repository.now c.args.name.now) (rw (c.words.ensures, c.words-2.ensures) at c.find_value.ensures)

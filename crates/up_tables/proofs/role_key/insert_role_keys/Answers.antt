@@ -1,41 +1,44 @@
-use Rattle.std.proofs.Common.{◌≡◌, ◌∙◌, List, ℕ, length, map, sym, arith}
+use Rattle.std.proofs.Common.{◌≡◌, ◌∙◌, List, [], ℕ, slice_index_or, length, map, sym, arith}
 use Rattle.std.proofs.lemmas.List.{length-map}
 use Rattle.sqlite.specs.Held.{state}
 use Rattle.sqlite.specs.Order.{Row}
 use Rattle.up_tables.specs.Forms.{role_key_row}
 use Rattle.up_tables.specs.Texts.{insert_role_key_text}
 use Rattle.up_tables.specs.declared.role_key.RoleKeyRow.{RoleKeyRow}
-use Rattle.up_tables.proofs.CallLemmas.{keeps_on}
-use Rattle.up_tables.proofs.EachLemmas.{statement_at, next_ran, all_ran, blames_next}
-use Rattle.up_tables.proofs.RoleKeyLemmas.{next_put, all_put}
-use Rattle.up_tables.proofs.EcuLines.{got_at}
-use Rattle.up_tables.proofs.UndoneLemmas.{undoes_next}
+use Rattle.up_tables.proofs.EachLemmas.{each_ends, each_fails, each_next, each_starts, statement_at}
+use Rattle.up_tables.proofs.EcuLines.{is_at}
+use Rattle.up_tables.proofs.RoleKeyLemmas.{PutSoFar, all_put, next_put, none_put}
 use Rattle.up_tables.proofs.role_key.insert_role_keys.Goals as goal
 
+-- what stands at no place
+abbrev none : RoleKeyRow
+none = record { root = 0; repository = record { ref_ptr = (0, 0); now = [] }; role = record { ref_ptr = (0, 0); now = [] }; place = 0; secret = record { ref_ptr = (0, 0); now = [] }; threshold = 0 }
+
 abbrev it : RoleKeyRow → List ℕ × Row
-it k = (insert_role_key_text, role_key_row k)
+it x = (insert_role_key_text, role_key_row x)
+
+pub loop-key-init : goal.loop-key-init
+loop-key-init g c = each_starts g.S.Store (map it c.args.keys.now) (PutSoFar c.args.keys.now) c.args.tx.now.conn (none_put c.args.keys.now (state g.S.Store c.args.tx.now.conn.now))
 
 pub loop-key-preserved : goal.loop-key-preserved
 loop-key-preserved g c =
-    let there = got_at c.args.keys.now c.loop-key.key-index c.key-item.result (omega (arith, c.loop-key-test.true)) c.key-item.is in
-    keeps_on _ _ _ _ _ _ _ _ c.loop-key.invariant c.insert_role_key.ensures.step.same_reference c.in_ok-insert_role_key.ensures.step.inside c.in_ok-insert_role_key.ensures.step.is_open c.insert_role_key.ensures.step.steps (λ clean so_far. (
-      next_put c.args.keys.now c.loop-key.key-index c.key-item.result _ _ _ there so_far.0 (c.in_ok-insert_role_key.ensures.inserted clean),
-      next_ran (map it c.args.keys.now) c.loop-key.key-index (it c.key-item.result) _ _ _ (statement_at it c.args.keys.now c.loop-key.key-index c.key-item.result there) c.loop-key.invariant.on.steps so_far.1 (c.in_ok-insert_role_key.ensures.ran clean),
-    ))
+    let xs = c.args.keys.now in
+    let at = c.loop-key.key-index in
+    let x = slice_index_or xs at none in
+    let there = is_at xs at none (omega (arith, c.loop-key-test.true)) in
+    each_next g.S.Store (map it xs) (PutSoFar xs) at (it x) _ c.args.tx.now.conn _ _ _ (statement_at it xs at x there) c.in_ok-insert_role_key.ensures (λ clean so_far wrote. next_put xs at x _ _ _ there so_far (wrote clean)) c.loop-key.invariant
 
-pub returns-clause-inserted : goal.returns-clause-inserted
-returns-clause-inserted g c clean = all_put c.args.keys.now c.loop-key.key-index _ _ (omega (arith, c.loop-key-test.false, c.loop-key.auto.key-index-end)) (c.loop-key.invariant.written clean).0
+pub returns : goal.returns
+returns g c =
+    let xs = c.args.keys.now in
+    let at = c.loop-key.key-index in
+    let end : at ≡ length xs = omega (arith, c.loop-key-test.false, c.loop-key.auto.key-index-end) in
+    each_ends g.S.Store (map it xs) (PutSoFar xs) at _ _ _ _ (end ∙ sym (length-map xs it)) (λ written clean. all_put xs at _ _ end (written clean)) c.loop-key.invariant
 
-pub returns-clause-ran : goal.returns-clause-ran
-returns-clause-ran g c clean =
-    let end : c.loop-key.key-index ≡ length c.args.keys.now = omega (arith, c.loop-key-test.false, c.loop-key.auto.key-index-end) in
-    all_ran (map it c.args.keys.now) c.loop-key.key-index _ _ (end ∙ sym (length-map c.args.keys.now it)) (c.loop-key.invariant.written clean).1
-
-pub returns-in_err-insert_role_key-clause-blame : goal.returns-in_err-insert_role_key-clause-blame
-returns-in_err-insert_role_key-clause-blame g c =
-    let there = got_at c.args.keys.now c.loop-key.key-index c.key-item.result (omega (arith, c.loop-key-test.true)) c.key-item.is in
-    blames_next c.from_residual.result (map it c.args.keys.now) c.loop-key.key-index (it c.key-item.result) _ _ _ _ c.from_residual.ensures.1 (statement_at it c.args.keys.now c.loop-key.key-index c.key-item.result there) c.loop-key.invariant.on c.insert_role_key.ensures.step.steps
-    (λ between. (c.loop-key.invariant.written between).1) c.in_err-insert_role_key.ensures.blame
-
-pub returns-in_err-insert_role_key-clause-memory : goal.returns-in_err-insert_role_key-clause-memory
-returns-in_err-insert_role_key-clause-memory g c = undoes_next c.from_residual.result (state g.S.Store c.insert_role_key.new.tx.conn.now) _ c.from_residual.ensures.1 c.in_err-insert_role_key.ensures.memory
+pub returns-in_err-insert_role_key : goal.returns-in_err-insert_role_key
+returns-in_err-insert_role_key g c =
+    let xs = c.args.keys.now in
+    let at = c.loop-key.key-index in
+    let x = slice_index_or xs at none in
+    each_fails g.S.Store (map it xs) (PutSoFar xs) at (it x) _ _ _ _ _ c.from_residual.result _ c.from_residual.ensures.1 (statement_at it xs at x (is_at xs at none (omega (arith, c.loop-key-test.true)))) (λ e clean. tt)
+    c.in_err-insert_role_key.ensures c.loop-key.invariant

@@ -1,15 +1,11 @@
 use Rattle.std.proofs.Common.{◌≡◌, ◌+◌, ◌∙◌, refl, ap, arith, vec_len}
-use Rattle.up_desk.specs.Standing.{state}
-use Rattle.up_desk.proofs.Cataloged.{stays, stays_more, stays_whole}
-use Rattle.up_desk.proofs.EachCall.{all_calls, no_calls, one_call_more}
+use Rattle.up_records.specs.Standing.{state}
 use Rattle.up_desk.proofs.Runs.{ListLaws, none_so_far, one_more, chosen_ok, run_whole}
 use Rattle.up_desk.proofs.desk.Desk.run.Goals as goal
 
 pub loop-item-init : goal.loop-item-init
 loop-item-init g c = record {
   far = none_so_far (g.K.Scheme.rules c.args.self.now.scheme) (state g.D.Store c.args.self.now.store) c.args.commands.now c.args.answers.now.items c.reserve.new.self.items c.reserve.ensures.items;
-  kept = stays c.args.self.now.store.catalog;
-  each = no_calls (g.K.Scheme.rules c.args.self.now.scheme) c.args.self.now.store c.args.commands.now c.args.answers.now.items c.reserve.new.self.items c.reserve.ensures.items;
   scheme = refl;
   room = omega (arith, c.in_ok-reserve.ensures.ok);
 }
@@ -20,22 +16,7 @@ loop-item-preserved g c =
     let pushed = chosen_ok c.push.result c.unwrap.result _ _ _ c.unwrap.ensures c.push.ensures.items in
     let longer : vec_len c.push.new.self ≡ vec_len c.loop-item.answers + 1 = chosen_ok c.push.result c.unwrap.result _ _ _ c.unwrap.ensures c.push.ensures.len in
     record {
-      far = one_more _ _ _ (state g.D.Store c.loop-item.self.store) _ _ _ _ _ _ _ _ c.loop-item-test.true c.item-item.is (ap g.K.Scheme.rules kept.scheme) kept.far pushed c.call-answer.ensures.clean (record {
-        serves = c.call-answer.ensures.served;
-        spares = c.call-answer.ensures.crash;
-        commits = c.call-answer.ensures.durable;
-        fits = c.keeps_limits.ensures;
-        due = c.call-answer.ensures.outright;
-        blame = c.call-answer.ensures.blame;
-        made = c.call-answer.ensures.made;
-      });
-      kept = stays_more c.args.commands.now c.loop-item.item-index c.item-item.result c.args.self.now.store.catalog c.loop-item.self.store.catalog _ c.loop-item-test.true c.item-item.is kept.kept c.call-answer.ensures.kept;
-      each = one_call_more _ _ c.args.self.now.store c.loop-item.self.store _ _ _ _ _ _ _ _ c.loop-item-test.true c.item-item.is (ap g.K.Scheme.rules kept.scheme) kept.each pushed (record {
-        unread = c.call-answer.ensures.unread;
-        forged = c.call-answer.ensures.forged;
-        loads = c.call-answer.ensures.loads;
-        left = c.call-answer.ensures.left;
-      });
+      far = one_more _ _ _ (state g.D.Store c.loop-item.self.store) _ _ _ _ _ _ _ _ c.loop-item-test.true c.item-item.is (ap g.K.Scheme.rules kept.scheme) kept.far pushed c.keeps_limits.ensures c.call-answer.ensures.called;
       scheme = c.call-answer.ensures.scheme ∙ kept.scheme;
       room = omega arith;
     }
@@ -50,10 +31,3 @@ returns-clause-ran g c =
       exchanged = c.vehicles_stand_apart.ensures.exchanged;
     } in
     run_whole laws _ _ _ c.args.commands.now c.loop-item.item-index _ _ c.loop-item-test.false c.loop-item.invariant.far
-
-pub returns-clause-kept : goal.returns-clause-kept
-returns-clause-kept g c = stays_whole c.args.commands.now c.loop-item.item-index c.args.self.now.store.catalog _ c.loop-item-test.false c.loop-item.invariant.kept
-
-pub returns-clause-each : goal.returns-clause-each
-returns-clause-each g c =
-    all_calls (g.K.Scheme.rules c.args.self.now.scheme) c.args.self.now.store _ c.args.commands.now c.loop-item.item-index _ _ c.loop-item-test.false c.loop-item.invariant.each

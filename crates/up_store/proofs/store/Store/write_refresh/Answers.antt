@@ -1,21 +1,8 @@
-use Rattle.std.proofs.Common.{Err, rules}
-use Rattle.std.specs.Prelude.{⊤}
-use Rattle.up_rows.specs.Changes.{with_register_rows}
-use Rattle.up_store.specs.Fitting.{IsSameRoot}
-use Rattle.up_store.specs.Writes.{FitsFounding, register_writes}
-use Rattle.up_store.proofs.WriteBlames.{put_blames, commit_blames, ran_write}
-use Rattle.up_store.proofs.Written.{wrote}
+use Rattle.up_store.proofs.Common.{FitsFounding}
+use Rattle.up_store.proofs.Ended.{writes_store}
+use Rattle.up_store.proofs.WithinLemmas.{makes_puts}
 use Rattle.up_store.proofs.store.Store.write_refresh.Goals as goal
 
 pub returns : goal.returns
 returns g c =
-    let did = wrote g.D.Store c.args.self.now c.transaction-tx.result.conn.now c.put_register.new.tx.conn.now c.commit.new.tx.0 (IsSameRoot c.args.new.now) (λ rows. with_register_rows rows c.args.new.now) c.commit.result c.self.view_is c.transaction-tx.ensures.begun c.put_register.ensures.step.steps c.in_default.ensures.put c.commit.ensures.survives c.commit.ensures.committed (λ is_open trees left. g.met.D.Store.settled c.commit.new.tx.0.store trees is_open left) in
-    let blame = commit_blames g.D.Store c.args.self.now c.transaction-tx.result.conn.now c.put_register.new.tx.conn.now c.commit.new.tx.0 (register_writes c.args.new.now) (λ _. FitsFounding c.args.new.now.founding) c.self.view_is c.transaction-tx.ensures.begun c.put_register.ensures.step.steps c.commit.result
-    c.in_default.ensures.step.is_open c.commit.ensures.survives c.commit.ensures.cause in
-    let ran = ran_write g.D.Store c.args.self.now c.transaction-tx.result.conn.now c.put_register.new.tx.conn.now c.commit.new.tx.0 (register_writes c.args.new.now) (λ _. FitsFounding c.args.new.now.founding) c.self.view_is c.transaction-tx.ensures.begun c.put_register.ensures.step.steps c.commit.result _ c.commit.ensures.survives c.in_default.ensures.ran c.commit.ensures.committed in
-    record { written = did.written; durable = did.durable; kept = search rules; crash = did.crash; clean = search rules; «open» = search rules; ran = ran; blame = blame }
-
-pub returns-in-Err-clause-blame : goal.returns-in-Err-clause-blame
-returns-in-Err-clause-blame g c =
-    put_blames g.D.Store c.args.self.now c.transaction-tx.result.conn.now c.put_register.new.tx.conn.now c.drop-tx.new.self.0 (register_writes c.args.new.now) (λ _. FitsFounding c.args.new.now.founding) c.self.view_is c.transaction-tx.ensures.begun c.put_register.ensures.step.steps {A = ⊤} (λ _. FitsFounding c.args.new.now.founding) (Err c.in-Err.fault)
-    (λ rows lists fits. fits) c.in-Err.ensures.blame c.drop-tx.ensures.survives
+    writes_store g.D.Store c.end.new.tx.0 c.put_register-put.result c.end.result c.self.view_is c.transaction-tx.ensures.begun (λ inside. makes_puts g.D.Store _ (λ _. FitsFounding c.args.new.now.founding) _ _ c.put_register-put.result _ (λ _. FitsFounding c.args.new.now.founding) (λ any. any) (c.put_register-put.ensures inside)) c.end.ensures.ends (λ is_open trees left. g.met.D.Store.settled c.end.new.tx.0.store trees is_open left) (λ rows lists fits. fits)

@@ -1,0 +1,13 @@
+use Rattle.std.proofs.Common.{ap, ◌∙◌}
+use Rattle.std.specs.FinMap as table
+use Rattle.up_plan.specs.Campaigns.{CampaignData}
+use Rattle.up_desk.proofs.Standings.{read_failed, read_then}
+use Rattle.up_desk.proofs.campaigns.decide_opening_founded.Goals as goal
+
+pub returns-in-Ok : goal.returns-in-Ok
+returns-in-Ok g c k =
+    read_then (c.in-Ok.ensures k)
+    (λ s founded is. (founded, c.as_ref.ensures.value ∙ is ∙ ap (λ (d : CampaignData). table.get s.campaigns d.name) c.campaign.view_is)) (c.decide_opening_named.ensures k)
+
+pub returns-in-Err : goal.returns-in-Err
+returns-in-Err g c k = read_failed (c.in-Err.ensures k) c.refusal_of.ensures

@@ -1,0 +1,8 @@
+use Rattle.up_desk.proofs.Standings.{read_failed, read_then}
+use Rattle.up_desk.proofs.inventory.decide_adding_vehicle.Goals as goal
+
+pub returns-in-Ok : goal.returns-in-Ok
+returns-in-Ok g c = read_then (c.in-Ok.ensures (g.K.Scheme.rules c.args.scheme.now)) (λ s known is. is) (c.decide_vehicle_founded.ensures)
+
+pub returns-in-Err : goal.returns-in-Err
+returns-in-Err g c = read_failed (c.in-Err.ensures (g.K.Scheme.rules c.args.scheme.now)) c.refusal_of.ensures

@@ -1,0 +1,4 @@
+pub mod Plans
+pub mod Typed
+pub mod Readings
+pub mod Deliveries

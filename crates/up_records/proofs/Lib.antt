@@ -1,0 +1,10 @@
+pub mod NeverStore
+pub mod Reading
+pub mod Blamed
+pub mod Told
+pub mod Viewing
+pub mod Writing
+pub mod Cataloged
+pub mod SentBy
+pub mod Leaving
+pub mod Fitting

@@ -1,0 +1,132 @@
+-- Who sent a manifest, by the Primary that is kept and by the rows of its vehicle.
+use Rattle.std.proofs.Common.{◌≡◌, ℕ, Bool, true, false, Option, None, Some, Result, Ok, Err, inl, inr, refl, sym, ap, ◌∙◌, subst}
+use Rattle.std.specs.Prelude.{⊤, ◌⊎◌, IfSome, MatchBool, is_some, option_and_then}
+use Rattle.std.specs.FinMap as table
+use Rattle.up_canon.specs.Names.{Name, Table}
+use Rattle.sqlite.specs.State.{State as Connected}
+use Rattle.up_canon.specs.Steps.{error_of}
+use Rattle.up_canon.specs.declared.refusal.Refusal.{Refusal}
+use Rattle.up_canon.specs.declared.refusal.Refusal.TheVariants.{NotFounded, Store, UnknownVehicle}
+use Rattle.up_sign.specs.Schemes.{Rules}
+use Rattle.up_manifest.specs.declared.manifest.Incoming.{Incoming}
+use Rattle.up_machine.specs.declared.primary.Primary.{Primary}
+use Rattle.up_machine.specs.declared.rows.Founding.{Founding}
+use Rattle.up_machine.specs.declared.rows.VehicleRows.{VehicleRows}
+use Rattle.up_machine.specs.State.{State}
+use Rattle.up_machine.specs.Decisions.{decide_incoming}
+use Rattle.up_machine.specs.Deliveries.{Received, receive_manifest}
+use Rattle.up_machine.specs.Primaries.{GivesSent, check_sent, primary_of}
+use Rattle.up_machine.specs.Rows.{founding_row, vehicle_rows}
+use Rattle.up_machine.proofs.Primaries.{gives_sent}
+use Rattle.up_machine.proofs.Senders.{no_vehicle, refused_first}
+use Rattle.up_records.specs.declared.catalog.Catalog.{Catalog}
+use Rattle.up_records.specs.Senders.{GivesSenderRows, IsLoadedBehind, GivesVehicle, IsSentBy, IsThere, RefusesUnread, refused_by, refused_in}
+use Rattle.up_records.specs.Connected.{DiskFailed, IsDueOrFails, Reads, is_fault}
+use Rattle.up_records.specs.Catalogs.{ArePrimaries, Come}
+
+-- what is due, or a fault
+pub due : (b : Bool) (X : Type 0) → X → MatchBool b ⊤ X
+due true X h = tt
+due false X h = h
+
+-- ---- what the kept Primary refuses
+
+-- by no Primary nothing is refused
+pub none_refused : (k : Rules) (kept : Table Primary) (incoming : Incoming) (P : Refusal → Type 0) → table.get kept incoming.manifest.vehicle ≡ None → IfSome (refused_by k kept incoming) P
+none_refused k kept incoming P none = subst (λ o. IfSome (option_and_then (λ primary. error_of (check_sent k primary incoming)) o) P) (sym none) tt
+
+pub sent_refused : (k : Rules) (kept : Table Primary) (incoming : Incoming) (primary : Primary) (x : ⊤) (P : Refusal → Type 0) → table.get kept incoming.manifest.vehicle ≡ Some primary
+    → check_sent k primary incoming ≡ Ok x → IfSome (refused_by k kept incoming) P
+sent_refused k kept incoming primary x P there sent =
+    subst (λ o. IfSome (option_and_then (λ primary. error_of (check_sent k primary incoming)) o) P) (sym there) (subst (λ r. IfSome (error_of r) P) (sym sent) tt)
+
+pub not_sent_refused : (k : Rules) (kept : Table Primary) (incoming : Incoming) (primary : Primary) (r : Refusal) (P : Refusal → Type 0) → table.get kept incoming.manifest.vehicle ≡ Some primary
+    → check_sent k primary incoming ≡ Err r → P r → IfSome (refused_by k kept incoming) P
+not_sent_refused k kept incoming primary r P there bad h =
+    subst (λ o. IfSome (option_and_then (λ primary. error_of (check_sent k primary incoming)) o) P) (sym there) (subst (λ q. IfSome (error_of q) P) (sym bad) h)
+
+-- a refusal that is told stays one, with nothing read
+pub refused_unread : {S : Type 0} (A B : Type 0) (o : Option Refusal) (store : S) (q : Refusal) → IfSome o (λ r. ◌≡◌ {A = Result A Refusal} (Err q) (Err r)) → IfSome o (RefusesUnread {A = B} store store (Err q))
+refused_unread A B None store q h = tt
+refused_unread A B (Some r) store q h = let same : q ≡ r = cc in record { refused = ap (λ x. Err x) same; unread = refl }
+
+pub refused_on : {S : Type 0} (A B : Type 0) (o : Option Refusal) (old new : S) (q : Refusal) → IfSome o (RefusesUnread {A = A} old new (Err q)) → IfSome o (RefusesUnread {A = B} old new (Err q))
+refused_on A B None old new q h = tt
+refused_on A B (Some r) old new q h = let is : ◌≡◌ {A = Result A Refusal} (Err q) (Err r) = h.refused in let same : q ≡ r = cc in record { refused = ap (λ x. Err x) same; unread = h.unread }
+
+-- what passed was refused by nothing
+pub passed_on : {S A : Type 0} (o : Option Refusal) (old new : S) (x : A) (P : Refusal → Type 0) → IfSome o (RefusesUnread old new (Ok x)) → IfSome o P
+passed_on None old new x P h = tt
+passed_on {A = A} (Some r) old new x P h = absurd (let is : ◌≡◌ {A = Result A Refusal} (Ok x) (Err r) = h.refused in cc)
+
+-- where nothing is loaded yet nothing is refused so, and what was there is still there
+pub still_refused : {S A : Type 0} (k : Rules) (incoming : Incoming) (old mid : Option Catalog) (before after last : S) (result : Result A Refusal) (P : Type 0)
+    → (is_some old ≡ true → P × (mid ≡ old) × (after ≡ before)) → IfSome (refused_in k mid incoming) (RefusesUnread after last result) → IfSome (refused_in k old incoming) (RefusesUnread before last result)
+still_refused k incoming None mid before after last result P there h = tt
+still_refused k incoming (Some c) mid before after last result P there h =
+    let it = there refl in
+    subst (λ x. IfSome (refused_in k (Some c) incoming) (RefusesUnread x last result)) it.2 (subst (λ o. IfSome (refused_in k o incoming) (RefusesUnread after last result)) it.1 h)
+
+pub none_loaded : {E : Type 0} (k : Rules) (incoming : Incoming) (old : Option Catalog) (fault : E) (Q : Type 0) (P : Refusal → Type 0)
+    → (is_some old ≡ true → (◌≡◌ {A = Result ⊤ E} (Err fault) (Ok tt)) × Q) → IfSome (refused_in k old incoming) P
+none_loaded k incoming None fault Q P there = tt
+none_loaded {E = E} k incoming (Some c) fault Q P there = absurd (let no : ◌≡◌ {A = Result ⊤ E} (Err fault) (Ok tt) = (there refl).0 in cc)
+
+-- ---- which Primary comes to be kept
+
+-- that of a vehicle from which a manifest was received sent it
+sent_checked : (k : Rules) (s : State) (incoming : Incoming) (founding : Founding) (primary : Primary) (received : Received) → founding_row s ≡ Some founding
+    → primary_of s incoming.manifest.vehicle ≡ Some primary → receive_manifest k s incoming ≡ Ok received → check_sent k primary incoming ≡ Ok tt
+sent_checked k s incoming founding primary received there is receives = by_check (check_sent k primary incoming) refl
+  where
+    by_check : (r : Result ⊤ Refusal) → check_sent k primary incoming ≡ r → check_sent k primary incoming ≡ Ok tt
+    by_check (Ok passed) same = same
+    by_check (Err r) same = absurd (let no : ◌≡◌ {A = Result Received Refusal} (Ok received) (Err r) = sym receives ∙ gives_sent k s incoming founding primary (Err r) there is (sym same) in cc)
+
+pub come_sent : (k : Rules) (s : State) (incoming : Incoming) (founding : Founding) (received : Received) (old new : Table Primary) → founding_row s ≡ Some founding
+    → receive_manifest k s incoming ≡ Ok received → ArePrimaries s new → Come (λ name primary. name ≡ incoming.manifest.vehicle) old new → Come (IsSentBy k incoming) old new
+come_sent k s incoming founding received old new there receives are come vehicle primary found = by_case (come vehicle primary found)
+  where
+    by_case : (table.get old vehicle ≡ Some primary) ⊎ (vehicle ≡ incoming.manifest.vehicle) → (table.get old vehicle ≡ Some primary) ⊎ IsSentBy k incoming vehicle primary
+    by_case (inl was) = inl was
+    by_case (inr same) = inr (same, sent_checked k s incoming founding primary received there (subst (λ (n : Name). primary_of s n ≡ Some primary) same (are vehicle primary found)) receives)
+
+-- ---- what is loaded for it
+
+-- ---- the rows of its vehicle
+
+pub unknown_refused : (k : Rules) (s : State) (incoming : Incoming) (founding : Founding) (r : Refusal) → founding_row s ≡ Some founding → GivesVehicle s incoming.manifest.vehicle (Err r)
+    → MatchBool (is_fault r) ⊤ (receive_manifest k s incoming ≡ Err r)
+unknown_refused k s incoming founding r there h = by_loss (is_fault r) h
+  where
+    by_loss : (b : Bool) → MatchBool b ⊤ ((vehicle_rows s incoming.manifest.vehicle ≡ None) × (r ≡ UnknownVehicle)) → MatchBool b ⊤ (receive_manifest k s incoming ≡ Err r)
+    by_loss true h = tt
+    by_loss false h = no_vehicle k s incoming founding there h.0 ∙ ap (λ q. Err q) (sym h.1)
+
+-- the rows of a vehicle whose Primary sent the manifest
+pub sent_rows : (k : Rules) (s : State) (incoming : Incoming) (founding : Founding) (result : Result VehicleRows Refusal) → founding_row s ≡ Some founding → GivesSent k s incoming (Ok tt)
+    → GivesVehicle s incoming.manifest.vehicle result → GivesSenderRows k s incoming founding result
+sent_rows k s incoming founding (Ok rows) there sent told = record { founding = there; vehicle = told; received = sent.0; receives = sent.1 }
+sent_rows k s incoming founding (Err r) there sent told = unknown_refused k s incoming founding r there told
+
+-- what refuses the sender refuses the manifest
+pub sender_refused : {old new : Connected} → Reads old new → (k : Rules) (s : State) (at : ℕ) (incoming : Incoming) (r : Refusal) → (r ≡ Store → DiskFailed old new) → MatchBool (is_fault r) ⊤ (receive_manifest k s incoming ≡ Err r)
+    → IsDueOrFails old new r (decide_incoming k s at incoming)
+sender_refused {old} {new} reads k s at incoming r blame h = by_loss (is_fault r) h
+  where
+    by_loss : (b : Bool) → MatchBool b ⊤ (receive_manifest k s incoming ≡ Err r) → MatchBool b (r ≡ Store → DiskFailed old new) (decide_incoming k s at incoming ≡ Err r)
+    by_loss true h = blame
+    by_loss false h = refused_first k s at incoming r h
+
+-- what was there is still there, and where nothing was nothing is refused so
+pub still_left : (k : Rules) (incoming : Incoming) (old mid new : Option Catalog) (Q R : Type 0) → (is_some old ≡ true → Q × (mid ≡ old) × R)
+    → IfSome (refused_in k mid incoming) (λ r. new ≡ mid) → IfSome (refused_in k old incoming) (λ r. new ≡ old)
+still_left k incoming None mid new Q R there h = tt
+still_left k incoming (Some c) mid new Q R there h = subst (λ (o : Option Catalog). IfSome (refused_in k o incoming) (λ r. new ≡ o)) (there refl).1 h
+
+-- what was loaded
+pub loaded_behind : {A : Type 0} (result : Result A Refusal) (catalog : Option Catalog) → IsThere result catalog → IsLoadedBehind result catalog
+loaded_behind {A} (Ok x) catalog (inl is) = let no : ◌≡◌ {A = Result A Refusal} (Ok x) (Err NotFounded) = is in cc
+loaded_behind (Ok x) catalog (inr there) = there
+loaded_behind {A} (Err r) catalog (inl is) = let same : r ≡ NotFounded = (let it : ◌≡◌ {A = Result A Refusal} (Err r) (Err NotFounded) = is in cc) in due (is_fault r) _ (inl same)
+loaded_behind (Err r) catalog (inr there) = due (is_fault r) _ (inr there)

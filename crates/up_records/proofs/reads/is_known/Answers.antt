@@ -1,0 +1,11 @@
+use Rattle.std.proofs.Common.{ap, ◌∙◌}
+use Rattle.std.specs.Prelude.{is_some}
+use Rattle.up_records.proofs.Told.{vehicle_known}
+use Rattle.up_records.proofs.Viewing.{finds_as, finds_failed, store_finds}
+use Rattle.up_records.proofs.reads.is_known.Goals as goal
+
+pub returns-in-Ok : goal.returns-in-Ok
+returns-in-Ok g c = finds_as (store_finds c.in-Ok.ensures) (λ k s is. c.is_some.ensures ∙ ap is_some is ∙ vehicle_known k s c.args.name.now c.rows_are_found.ensures.vehicles)
+
+pub returns-in-Err : goal.returns-in-Err
+returns-in-Err g c = finds_failed (store_finds c.in-Err.ensures)
