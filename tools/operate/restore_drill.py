@@ -11,8 +11,10 @@ and for each kind of vehicle how many there are; `--vehicles` prints a line for 
 The status is 0 where the backup is taken and served, and 1 with a message where it isn't.
 """
 import argparse
+import contextlib
 import json
 import os
+import random
 import shutil
 import socket
 import sqlite3
@@ -51,9 +53,12 @@ def restored(copy, folder):
 
 
 def free_port():
-    with socket.socket() as one:
-        one.bind(("127.0.0.1", 0))
-        return one.getsockname()[1]
+    """A port at which nothing listens, below those that the system gives to clients."""
+    while True:
+        with socket.socket() as one, contextlib.suppress(OSError):
+            one.setsockopt(socket.SOL_SOCKET, socket.SO_REUSEADDR, 1)
+            one.bind(("127.0.0.1", random.randrange(10_000, 32_000)))
+            return one.getsockname()[1]
 
 
 def served(program, path):

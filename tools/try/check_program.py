@@ -38,8 +38,8 @@ def ran(program, words):
     asked = [sys.executable, TOOLS / tool, program, *more]
     try:
         done = subprocess.run(asked, capture_output=True, check=False, timeout=LIMIT)
-    except subprocess.TimeoutExpired:
-        return "%s takes more than %d seconds\n" % (tool, LIMIT), 0, 1
+    except subprocess.TimeoutExpired as it:
+        return "%s%s DIFFERS: it takes more than %d seconds\n" % ((it.stdout or b"").decode("utf-8", "replace"), " ".join(words), LIMIT), 0, 1
     told = done.stdout.decode("utf-8", "replace") + done.stderr.decode("utf-8", "replace")
     counts = re.search(r"^(\d+) passed, (\d+) failed\n\Z", told, re.M)
     if counts is None:

@@ -16,6 +16,7 @@ import contextlib
 import http.client
 import json
 import os
+import random
 import re
 import select
 import shlex
@@ -75,10 +76,21 @@ def closing_one(request):
     return request.replace(b"\r\n\r\n", b"\r\nConnection: Close\r\n\r\n", 1)
 
 
-def free_port():
+def is_free(port):
     with socket.socket() as probe:
-        probe.bind(("127.0.0.1", 0))
-        return probe.getsockname()[1]
+        probe.setsockopt(socket.SOL_SOCKET, socket.SO_REUSEADDR, 1)
+        with contextlib.suppress(OSError):
+            probe.bind(("127.0.0.1", port))
+            return True
+    return False
+
+
+def free_port(many=1):
+    """The first of so many ports at which nothing listens, below those that the system gives to clients: no connection takes them."""
+    while True:
+        first = random.randrange(10_000, 32_000)
+        if all(is_free(first + at) for at in range(many)):
+            return first
 
 
 @contextlib.contextmanager

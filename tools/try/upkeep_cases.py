@@ -34,7 +34,7 @@ NOW, DAY = int(time.time()), 86400
 
 
 def ran(*words, **more):
-    return subprocess.run(list(map(str, words)), capture_output=True, text=True, check=False, **more)
+    return subprocess.run(list(map(str, words)), capture_output=True, text=True, check=False, **{"timeout": 120} | more)
 
 
 def tool(name, *words, **more):
@@ -135,11 +135,14 @@ case $1 in
 show) if alive; then echo "$pid"; else echo 0; fi;;
 stop) if alive; then kill "$pid"; until gone; do sleep 0.02; done; fi;;
 start)
-    if ! alive; then
+    for _ in 1 2 3 4 5 6 7 8 9; do
+        if alive; then break; fi
         : > "$unit.said"
         setsid sh -c 'echo $$ > "$0.pid"; exec $(cat "$0.words")' "$unit" > "$unit.said" 2>&1 9>&- &
-        until grep -q listening "$unit.said"; do sleep 0.02; done
-    fi;;
+        pid=$!
+        until grep -q listening "$unit.said" || gone; do sleep 0.02; done
+        alive || sleep 0.5
+    done;;
 esac 2> /dev/null
 """
 # what `runuser -u USER -- WORDS` does, by the same user
@@ -153,7 +156,7 @@ class Service:
         self.own, self.desks, self.names = own, desks, [str(at) for at in range(1, desks + 1)] if desks else [""]
         for name in ("bin", "spool", "spool/answers", "copies", "run", "data"):
             (own / name).mkdir()
-        first = next(port for port in (http_cases.free_port() for _ in range(100)) if port < 65_000)
+        first = http_cases.free_port(desks + 1)
         self.ports = {name: first + int(name or 0) for name in self.names}
         for name, port in self.ports.items():
             (own / "run" / (self.unit(name) + ".words")).write_text("%s serve %s %d 1000000" % (program, self.file(name), port), encoding="ascii")

@@ -50,7 +50,8 @@ fn is_within(value: &Value, levels: usize) -> bool
 
 #[cycle(within)]
 fn items_are_within(items: &Vec<Value>, levels: usize) -> bool
-    ensures { result ≡ (items_are_plain (items_view items.now.items) && nat_le (items_depth (items_view items.now.items)) levels) }
+    ensures { result ≡ (items_are_plain (items_view items.now.items) && nat_le
+        (items_depth (items_view items.now.items)) levels) }
 {
     for item in items {
         if !is_within(item, levels) {
@@ -62,7 +63,8 @@ fn items_are_within(items: &Vec<Value>, levels: usize) -> bool
 
 #[cycle(within)]
 fn members_are_within(members: &Map<String, Value>, levels: usize) -> bool
-    ensures { result ≡ (members_are_plain (members_view members.now.entries) && nat_le (members_depth (members_view members.now.entries)) levels) }
+    ensures { result ≡ (members_are_plain (members_view members.now.entries) && nat_le
+        (members_depth (members_view members.now.entries)) levels) }
 {
     for (key, member) in members.iter() {
         if !has_printable_bytes(key.as_str().as_bytes()) || !is_within(member, levels) {

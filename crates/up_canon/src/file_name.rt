@@ -28,7 +28,8 @@ impl Model for FileName {
 impl FileName {
     /// The text as a filename, or none where it is not one.
     pub fn new(text: String) -> Option<FileName>
-        ensures { MatchOption result (is_file_name (string_bytes text) ≡ false) (λ made. (is_file_name (string_bytes text) ≡ true) × (made ≡ string_bytes text)) }
+        ensures { MatchOption result (is_file_name (string_bytes text) ≡ false)
+            (λ made. (is_file_name (string_bytes text) ≡ true) × (made ≡ string_bytes text)) }
     {
         if fits(text.as_str().as_bytes()) {
             Some(FileName { text })

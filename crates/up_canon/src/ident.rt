@@ -27,7 +27,8 @@ impl Model for Ident {
 impl Ident {
     /// The text as an identifier, or none where it is not one.
     pub fn new(text: String) -> Option<Ident>
-        ensures { MatchOption result (is_ident (string_bytes text) ≡ false) (λ made. (is_ident (string_bytes text) ≡ true) × (made ≡ string_bytes text)) }
+        ensures { MatchOption result (is_ident (string_bytes text) ≡ false)
+            (λ made. (is_ident (string_bytes text) ≡ true) × (made ≡ string_bytes text)) }
     {
         if fits(text.as_str().as_bytes()) {
             Some(Ident { text })

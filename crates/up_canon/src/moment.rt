@@ -67,7 +67,8 @@ impl Moment {
     /// and the second to 59.
     pub fn read(text: &str) -> Option<Moment>
         ensures value { result ≡ read_moment text.now }
-        ensures exact { MatchOption result ((m : ℕ) → m ≤ last_moment → text.now ≢ moment_text m) (λ m. text.now ≡ moment_text m) }
+        ensures exact { MatchOption result ((m : ℕ) → m ≤ last_moment → text.now ≢ moment_text m)
+            (λ m. text.now ≡ moment_text m) }
     {
         let bytes = text.as_bytes();
         if !has_form(bytes) {

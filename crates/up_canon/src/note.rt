@@ -28,7 +28,8 @@ impl Model for Note {
 impl Note {
     /// The text as a note, or none where it is not one.
     pub fn new(text: String) -> Option<Note>
-        ensures { MatchOption result (is_note (string_bytes text) ≡ false) (λ made. (is_note (string_bytes text) ≡ true) × (made ≡ string_bytes text)) }
+        ensures { MatchOption result (is_note (string_bytes text) ≡ false) (λ made. (is_note (string_bytes text) ≡ true)
+            × (made ≡ string_bytes text)) }
     {
         if fits(text.as_str().as_bytes()) {
             Some(Note { text })

@@ -146,7 +146,8 @@ pub fn push_hashes(
     sha256: &[u8; 32],
     sha512: &Option<[u8; 64]>,
 ) -> Result<(), AllocError>
-    ensures value { IfOk result (λ _. string_bytes out.new ≡ string_bytes out.old ++ text_of (hashes_value sha256.now sha512.now)) }
+    ensures value { IfOk result
+        (λ _. string_bytes out.new ≡ string_bytes out.old ++ text_of (hashes_value sha256.now sha512.now)) }
     ensures typed { is_hash sha256.now ≡ true }
     ensures typed_second { OnOk result (is_second_hash sha512.now ≡ true) }
 {
@@ -157,7 +158,8 @@ pub fn push_hashes(
 }
 
 fn push_sha256(alloc: Global, out: &mut String, hash: &[u8; 32]) -> Result<(), AllocError>
-    ensures value { IfOk result (λ _. string_bytes out.new ≡ string_bytes out.old ++ (codes "{\"sha256\":" ++ quoted (encode_lower hash.now))) }
+    ensures value { IfOk result
+        (λ _. string_bytes out.new ≡ string_bytes out.old ++ (codes "{\"sha256\":" ++ quoted (encode_lower hash.now))) }
     ensures typed { is_hash hash.now ≡ true }
 {
     out.push_str("{\"sha256\":")?;

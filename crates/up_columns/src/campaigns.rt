@@ -69,7 +69,8 @@ pub fn items_text(alloc: Global, items: &[Item]) -> Result<String, AllocError>
 /// The items of a column: `Memory`, or the first fault of a text that can't be read as a list of items.
 pub fn read_campaign_items(alloc: Global, column: &str) -> Result<Listed<Item>, Refusal>
     ensures read { Gives result (campaign_items_in column.now) }
-    ensures again { (items : List ItemData) → list_all is_typed_item items ≡ true → column.now ≡ items_column items → Gives result (Ok items) }
+    ensures again { (items : List ItemData) → list_all is_typed_item items ≡ true → column.now ≡ items_column items
+        → Gives result (Ok items) }
 {
     canonical_laws();
     read_items::<ItemReading>(alloc, column, "items")
@@ -98,7 +99,8 @@ fn reach_value(alloc: Global, reach: &Reach) -> Result<Value, AllocError>
 /// The reach of a column: `Memory`, or the first fault of a text that can't be read as a reach.
 pub fn read_reach(alloc: Global, column: &str) -> Result<Reach, Refusal>
     ensures read { Gives result (reach_in column.now) }
-    ensures again { (reach : ReachData) → is_typed_reach reach ≡ true → column.now ≡ reach_column reach → Gives result (Ok reach) }
+    ensures again { (reach : ReachData) → is_typed_reach reach ≡ true → column.now ≡ reach_column reach
+        → Gives result (Ok reach) }
 {
     canonical_laws();
     reach_in_column(alloc, column)
@@ -117,7 +119,8 @@ fn reach_in_column(alloc: Global, column: &str) -> Result<Reach, Refusal>
 pub fn reach_of(alloc: Global, value: &Value, name: &'static str) -> Result<Reach, Refusal>
     ensures reach { Gives result (reach_of_value name.now (view value.now)) }
     ensures all { is_all_word (view value.now) ≡ true → result ≡ Ok All }
-    ensures list { is_all_word (view value.now) ≡ false → IfErr (list_of_value name.now (view value.now)) (λ r. result ≡ Err r) }
+    ensures list { is_all_word (view value.now) ≡ false
+        → IfErr (list_of_value name.now (view value.now)) (λ r. result ≡ Err r) }
 {
     if is_all(value) {
         Ok(Reach::All)

@@ -41,7 +41,8 @@ pub fn file_names_text(alloc: Global, names: &[FileName]) -> Result<String, Allo
 /// The filenames of a column: `Memory`, or the first fault of a text that can't be read as a list of filenames.
 pub fn read_file_names(alloc: Global, column: &str) -> Result<Listed<FileName>, Refusal>
     ensures read { Gives result (file_names_in column.now) }
-    ensures again { (names : List Name) → list_all is_file_name names ≡ true → column.now ≡ names_column names → Gives result (Ok names) }
+    ensures again { (names : List Name) → list_all is_file_name names ≡ true → column.now ≡ names_column names
+        → Gives result (Ok names) }
 {
     canonical_laws();
     read_items::<FileNameReading>(alloc, column, "names")

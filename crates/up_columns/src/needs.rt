@@ -64,7 +64,8 @@ pub fn needs_text(alloc: Global, needs: &[Need]) -> Result<String, AllocError>
 /// The needs of a column: `Memory`, or the first fault of a text that can't be read as a list of needs.
 pub fn read_needs(alloc: Global, column: &str) -> Result<Listed<Need>, Refusal>
     ensures read { Gives result (needs_in column.now) }
-    ensures again { (needs : List NeedData) → list_all is_typed_need needs ≡ true → column.now ≡ needs_column needs → Gives result (Ok needs) }
+    ensures again { (needs : List NeedData) → list_all is_typed_need needs ≡ true → column.now ≡ needs_column needs
+        → Gives result (Ok needs) }
 {
     canonical_laws();
     read_items::<NeedReading>(alloc, column, "needs")

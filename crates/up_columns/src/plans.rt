@@ -70,7 +70,8 @@ pub fn plan_text(alloc: Global, plan: &Plan) -> Result<String, AllocError>
 
 /// Appends the list of what is assigned.
 fn push_assigned(out: &mut String, assigned: &[Assigned]) -> Result<(), AllocError>
-    ensures value { IfOk result (λ _. string_bytes out.new ≡ string_bytes out.old ++ text (list_with (map assigned_data assigned.now))) }
+    ensures value { IfOk result
+        (λ _. string_bytes out.new ≡ string_bytes out.old ++ text (list_with (map assigned_data assigned.now))) }
     ensures typed { OnOk result (list_all is_typed_assigned assigned.now ≡ true) }
 {
     out.push('[')?;
@@ -93,7 +94,8 @@ fn push_item(out: &mut String, image: &Assigned) -> Result<(), AllocError>
 
 /// Appends the object of an ECU and a file.
 fn push_image(out: &mut String, ecu: &Ident, file: &FileName) -> Result<(), AllocError>
-    ensures value { IfOk result (λ _. string_bytes out.new ≡ string_bytes out.old ++ text (cause_data (Some (Conflict ecu.now file.now)))) }
+    ensures value { IfOk result
+        (λ _. string_bytes out.new ≡ string_bytes out.old ++ text (cause_data (Some (Conflict ecu.now file.now)))) }
     ensures typed { OnOk result (is_typed_cause (Some (Conflict ecu.now file.now)) ≡ true) }
 {
     // Noted for the proof: what names are.
@@ -109,7 +111,8 @@ fn push_image(out: &mut String, ecu: &Ident, file: &FileName) -> Result<(), Allo
 
 /// Appends the object of the ECU of that name and the hardware that it needs.
 fn push_need(out: &mut String, name: &Ident, hardware: &Ident) -> Result<(), AllocError>
-    ensures value { IfOk result (λ _. string_bytes out.new ≡ string_bytes out.old ++ text (cause_data (Some (Need name.now hardware.now)))) }
+    ensures value { IfOk result
+        (λ _. string_bytes out.new ≡ string_bytes out.old ++ text (cause_data (Some (Need name.now hardware.now)))) }
     ensures typed { OnOk result (is_typed_cause (Some (Need name.now hardware.now)) ≡ true) }
 {
     // Noted for the proof: what identifiers are.
@@ -138,7 +141,8 @@ fn push_withheld(out: &mut String, withheld: &Option<Cause>) -> Result<(), Alloc
 /// The plan of a column: `Memory`, or the first fault of a text that can't be read as a plan.
 pub fn read_plan(alloc: Global, column: &str) -> Result<Plan, Refusal>
     ensures read { Gives result (plan_in column.now) }
-    ensures again { (plan : PlanData) → is_typed_plan plan ≡ true → column.now ≡ plan_column plan → Gives result (Ok plan) }
+    ensures again { (plan : PlanData) → is_typed_plan plan ≡ true → column.now ≡ plan_column plan
+        → Gives result (Ok plan) }
 {
     canonical_laws();
     plan_in_column(alloc, column)
@@ -155,7 +159,8 @@ fn plan_in_column(alloc: Global, column: &str) -> Result<Plan, Refusal>
 #[tactic(auto, unfolding(crate::specs::PlanColumns::plan_of, up_canon::specs::Steps::and_then))]
 fn plan_at(alloc: Global, value: &Value) -> Result<Plan, Refusal>
     ensures plan { Gives result (plan_of (view value.now)) }
-    ensures object { MatchResult (object_of_value (codes "plan") (view value.now)) (λ d. IfErr (list_in (codes "assigned") d) (λ r. result ≡ Err r)) (λ r. result ≡ Err r) }
+    ensures object { MatchResult (object_of_value (codes "plan") (view value.now))
+        (λ d. IfErr (list_in (codes "assigned") d) (λ r. result ≡ Err r)) (λ r. result ≡ Err r) }
 {
     let map = object_of(value, "plan")?;
     let assigned = assigned_at(alloc, map)?;
@@ -180,7 +185,8 @@ fn withheld_at(alloc: Global, map: &Map<String, Value>) -> Result<Option<Cause>,
     ensures none { MatchResult (member_in (codes "withheld") (object_of_map map.now.entries))
         (λ value. is_null_value value ≡ true → result ≡ Ok None) (λ r. result ≡ Err r) }
     ensures object { IfOk (member_in (codes "withheld") (object_of_map map.now.entries))
-        (λ value. is_null_value value ≡ false → IfErr (object_of_value (codes "withheld") value) (λ r. result ≡ Err r)) }
+        (λ value. is_null_value value ≡ false
+        → IfErr (object_of_value (codes "withheld") value) (λ r. result ≡ Err r)) }
 {
     let value = member_at(map, "withheld")?;
     if is_null(value) {
@@ -211,7 +217,8 @@ fn cause_at(alloc: Global, value: &Value) -> Result<Cause, Refusal>
 /// A need where hardware is named, else a conflict.
 #[tactic(auto, unfolding(crate::specs::PlanColumns::demand_of, up_canon::specs::Steps::and_then))]
 fn demand_at(alloc: Global, ecu: Ident, map: &Map<String, Value>) -> Result<Cause, Refusal>
-    ensures { Gives result (demand_of ecu (get (codes "hardware") (object_of_map map.now.entries)) (object_of_map map.now.entries)) }
+    ensures { Gives result
+        (demand_of ecu (get (codes "hardware") (object_of_map map.now.entries)) (object_of_map map.now.entries)) }
 {
     match find(map, "hardware") {
         Some(value) => {

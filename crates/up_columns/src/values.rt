@@ -36,10 +36,13 @@ pub(crate) fn column_value(alloc: Global, column: &str) -> Result<Value, Refusal
 
 /// The value whose canonical text the column is, where it is one of those.
 fn plain_value(alloc: Global, column: &str) -> Result<Option<Value>, AllocError>
-    ensures value { IfOk result (λ found. IfSome found (λ value. (has_canon (view value) ≡ true) × (column.now ≡ text (view value)))) }
+    ensures value { IfOk result
+        (λ found. IfSome found (λ value. (has_canon (view value) ≡ true) × (column.now ≡ text (view value)))) }
     ensures empty { column.now ≡ codes "[]" → IsOkAnd result (λ found. IsTrue (is_some found)) }
-    ensures none { column.now ≢ codes "\"all\"" → ((rest : List ℕ) → column.now ≢ codes "[" ++ rest) → result ≡ Ok None }
-    ensures list { (items : List ℕ) → column.now ≡ codes "[" ++ items → column.now ≢ codes "[]" → HasNoPlainItem items → result ≡ Ok None }
+    ensures none { column.now ≢ codes "\"all\"" → ((rest : List ℕ) → column.now ≢ codes "[" ++ rest)
+        → result ≡ Ok None }
+    ensures list { (items : List ℕ) → column.now ≡ codes "[" ++ items → column.now ≢ codes "[]" → HasNoPlainItem items
+        → result ≡ Ok None }
 {
     if column == "[]" {
         return Ok(Some(Value::Array(Vec::new(alloc))));
@@ -55,7 +58,9 @@ fn plain_value(alloc: Global, column: &str) -> Result<Option<Value>, AllocError>
 
 /// The same of a list, behind its opening bracket.
 fn plain_list(alloc: Global, items: &str) -> Result<Option<Value>, AllocError>
-    ensures value { IfOk result (λ found. IfSome found (λ value. (has_canon (view value) ≡ true) × (codes "[" ++ items.now ≡ text (view value)))) }
+    ensures value { IfOk result
+        (λ found. IfSome found (λ value. (has_canon (view value) ≡ true)
+        × (codes "[" ++ items.now ≡ text (view value)))) }
     ensures none { HasNoPlainItem items.now → result ≡ Ok None }
 {
     let mut values = Vec::new(alloc);
@@ -75,7 +80,9 @@ fn plain_list(alloc: Global, items: &str) -> Result<Option<Value>, AllocError>
 
 /// The item of a list that the text begins with, and what stands behind it.
 fn plain_item(alloc: Global, items: &str) -> Result<Option<(Value, &str)>, AllocError>
-    ensures value { IfOk result (λ found. IfSome found (λ x. (is_plain (view x.0) ≡ true) × (depth (view x.0) ≤ 1) × (items.now ≡ text (view x.0) ++ x.1.now))) }
+    ensures value { IfOk result
+        (λ found. IfSome found (λ x. (is_plain (view x.0) ≡ true) × (depth (view x.0) ≤ 1)
+        × (items.now ≡ text (view x.0) ++ x.1.now))) }
     ensures none { HasNoPlainItem items.now → result ≡ Ok None }
 {
     if let Some(item) = items.strip_prefix("{\"file\":\"") {
@@ -89,7 +96,9 @@ fn plain_item(alloc: Global, items: &str) -> Result<Option<(Value, &str)>, Alloc
 
 /// A name, behind its opening quote.
 fn plain_name(alloc: Global, items: &str) -> Result<Option<(Value, &str)>, AllocError>
-    ensures { IfOk result (λ found. IfSome found (λ x. (is_plain (view x.0) ≡ true) × (depth (view x.0) ≤ 1) × (codes "\"" ++ items.now ≡ text (view x.0) ++ x.1.now))) }
+    ensures { IfOk result
+        (λ found. IfSome found (λ x. (is_plain (view x.0) ≡ true) × (depth (view x.0) ≤ 1)
+        × (codes "\"" ++ items.now ≡ text (view x.0) ++ x.1.now))) }
 {
     match name_before(items, "\"") {
         Some((name, behind)) => Ok(Some((Value::try_from_str(alloc, name)?, behind))),
@@ -99,7 +108,9 @@ fn plain_name(alloc: Global, items: &str) -> Result<Option<(Value, &str)>, Alloc
 
 /// An item of a campaign, behind the opening quote of its filename.
 fn plain_pair(alloc: Global, items: &str) -> Result<Option<(Value, &str)>, AllocError>
-    ensures { IfOk result (λ found. IfSome found (λ x. (is_plain (view x.0) ≡ true) × (depth (view x.0) ≤ 1) × (codes "{\"file\":\"" ++ items.now ≡ text (view x.0) ++ x.1.now))) }
+    ensures { IfOk result
+        (λ found. IfSome found (λ x. (is_plain (view x.0) ≡ true) × (depth (view x.0) ≤ 1)
+        × (codes "{\"file\":\"" ++ items.now ≡ text (view x.0) ++ x.1.now))) }
 {
     let Some((file, more)) = name_before(items, "\",\"hardware\":\"") else {
         return Ok(None);
@@ -111,14 +122,17 @@ fn plain_pair(alloc: Global, items: &str) -> Result<Option<(Value, &str)>, Alloc
 }
 
 fn pair_value(alloc: Global, file: &str, hardware: &str) -> Result<Value, AllocError>
-    ensures { IfOk result (λ value. view value ≡ object_with ((codes "file", string file.now) ∷ (codes "hardware", string hardware.now) ∷ [])) }
+    ensures { IfOk result
+        (λ value. view value
+        ≡ object_with ((codes "file", string file.now) ∷ (codes "hardware", string hardware.now) ∷ [])) }
 {
     json!(in alloc; {"file": file, "hardware": hardware})
 }
 
 /// The name in front of a mark, and what stands behind the mark.
 fn name_before<'a>(text: &'a str, mark: &str) -> Option<(&'a str, &'a str)>
-    ensures { IfSome result (λ x. (text.now ≡ x.0.now ++ (mark.now ++ x.1.now)) × (list_all is_file_byte x.0.now ≡ true)) }
+    ensures { IfSome result (λ x. (text.now ≡ x.0.now ++ (mark.now ++ x.1.now))
+        × (list_all is_file_byte x.0.now ≡ true)) }
 {
     let (name, behind) = text.split_once(mark)?;
     if has_name_bytes(name) {

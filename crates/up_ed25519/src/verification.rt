@@ -83,7 +83,8 @@ fn equation(s: &[u8], k: &[u8; 32], a: Extended, r: Extended) -> bool
     requires below { number s.now < order }
     requires public { AreTight a }
     requires nonce { AreTight r }
-    ensures { (m n : Point) → Writes a m → Writes r n → result ≡ is_same_point (multiple (number s.now) base_point) (add n (multiple (number k.now) m)) }
+    ensures { (m n : Point) → Writes a m → Writes r n
+        → result ≡ is_same_point (multiple (number s.now) base_point) (add n (multiple (number k.now) m)) }
 {
     let n = negated(s);
     let t = joint(k, a, &n, base());

@@ -10,7 +10,8 @@ use crate::limbs::Field;
 fn pushed(a: Field, byte: u8) -> Field
     requires limit { AreBelow (2 ^ 51) a.l0 a.l1 a.l2 a.l3 a.l4 }
     requires small { limbs a.l0 a.l1 a.l2 a.l3 a.l4 < 2 ^ 248 }
-    ensures value { limbs result.l0 result.l1 result.l2 result.l3 result.l4 ≡ 256 * limbs a.l0 a.l1 a.l2 a.l3 a.l4 + byte }
+    ensures value { limbs result.l0 result.l1 result.l2 result.l3 result.l4
+        ≡ 256 * limbs a.l0 a.l1 a.l2 a.l3 a.l4 + byte }
     ensures limit { AreBelow (2 ^ 51) result.l0 result.l1 result.l2 result.l3 0 }
     ensures last { result.l4 < 2 ^ 52 }
 {
@@ -85,7 +86,8 @@ pub(crate) fn to_bytes(a: Field) -> [u8; 32]
 pub(crate) fn split(a: Field) -> (Field, u64)
     requires limit { AreBelow (2 ^ 51) a.l0 a.l1 a.l2 a.l3 0 }
     requires last { a.l4 < 2 ^ 52 }
-    ensures value { limbs result.0.l0 result.0.l1 result.0.l2 result.0.l3 result.0.l4 ≡ (limbs a.l0 a.l1 a.l2 a.l3 a.l4) % 2 ^ 255 }
+    ensures value { limbs result.0.l0 result.0.l1 result.0.l2 result.0.l3 result.0.l4
+        ≡ (limbs a.l0 a.l1 a.l2 a.l3 a.l4) % 2 ^ 255 }
     ensures limit { AreBelow (2 ^ 51) result.0.l0 result.0.l1 result.0.l2 result.0.l3 result.0.l4 }
     ensures bit { result.1 ≡ (limbs a.l0 a.l1 a.l2 a.l3 a.l4) / 2 ^ 255 }
     ensures one { result.1 < 2 }

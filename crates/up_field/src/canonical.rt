@@ -24,7 +24,8 @@ fn quotient(a: Field) -> u64
 fn less(a: Field, q: u64) -> Field
     requires limit { AreBelow (2 ^ 51 + 152) a.l0 a.l1 a.l2 a.l3 a.l4 }
     requires bit { q < 2 }
-    ensures value { limbs result.l0 result.l1 result.l2 result.l3 result.l4 ≡ (limbs a.l0 a.l1 a.l2 a.l3 a.l4 + 19 * q) % 2 ^ 255 }
+    ensures value { limbs result.l0 result.l1 result.l2 result.l3 result.l4
+        ≡ (limbs a.l0 a.l1 a.l2 a.l3 a.l4 + 19 * q) % 2 ^ 255 }
     ensures limit { AreBelow (2 ^ 51) result.l0 result.l1 result.l2 result.l3 result.l4 }
 {
     let r0 = a.l0 + 19 * q;

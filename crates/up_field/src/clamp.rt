@@ -22,7 +22,8 @@ pub fn clamped(half: &[u8]) -> [u8; 32]
 fn cleared(n: Field) -> Field
     requires limit { AreBelow (2 ^ 51) n.l0 n.l1 n.l2 n.l3 0 }
     requires last { n.l4 < 2 ^ 52 }
-    ensures value { limbs result.l0 result.l1 result.l2 result.l3 result.l4 ≡ clamped_of (limbs n.l0 n.l1 n.l2 n.l3 n.l4) }
+    ensures value { limbs result.l0 result.l1 result.l2 result.l3 result.l4
+        ≡ clamped_of (limbs n.l0 n.l1 n.l2 n.l3 n.l4) }
     ensures limit { AreBelow (2 ^ 51) result.l0 result.l1 result.l2 result.l3 result.l4 }
 {
     Field {

@@ -144,7 +144,9 @@ fn signed(y: Field, sign: u64, r: Field) -> Option<Extended>
 fn with_sign(y: Field, sign: u64) -> Option<Extended>
     requires second { IsReduced y }
     requires bit { sign < 2 }
-    ensures { IsMaybe result (with_root sign (number y) (root_of (u_of (number y)) (v_of (number y)) (candidate (u_of (number y)) (v_of (number y))))) }
+    ensures { IsMaybe result
+        (with_root sign (number y)
+        (root_of (u_of (number y)) (v_of (number y)) (candidate (u_of (number y)) (v_of (number y))))) }
 {
     let s = square(y);
     let u = weak(sub(s, one()));

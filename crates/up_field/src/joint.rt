@@ -52,7 +52,8 @@ fn next_digits(r: Extended, s: &[Cached; 16], i: usize, t: &[Cached; 16], j: usi
     requires digit { i < 16 }
     requires other { j < 16 }
     ensures limits { AreTight result }
-    ensures writes { (m n : Point) (c e : ℕ) → IsPoint m → IsPoint n → IsTable s.now m → IsTable t.now n → Writes r (pair c e m n) → Writes result (pair (16 * c + i) (16 * e + j) m n) }
+    ensures writes { (m n : Point) (c e : ℕ) → IsPoint m → IsPoint n → IsTable s.now m → IsTable t.now n
+        → Writes r (pair c e m n) → Writes result (pair (16 * c + i) (16 * e + j) m n) }
 {
     let x = twice(r);
     let y = twice(x);

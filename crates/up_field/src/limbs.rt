@@ -49,7 +49,8 @@ pub(crate) fn one() -> Field
 pub(crate) fn add(a: Field, b: Field) -> Field
     requires first { AreBelow (2 ^ 52) a.l0 a.l1 a.l2 a.l3 a.l4 }
     requires second { AreBelow (2 ^ 52) b.l0 b.l1 b.l2 b.l3 b.l4 }
-    ensures value { limbs result.l0 result.l1 result.l2 result.l3 result.l4 ≡ limbs a.l0 a.l1 a.l2 a.l3 a.l4 + limbs b.l0 b.l1 b.l2 b.l3 b.l4 }
+    ensures value { limbs result.l0 result.l1 result.l2 result.l3 result.l4
+        ≡ limbs a.l0 a.l1 a.l2 a.l3 a.l4 + limbs b.l0 b.l1 b.l2 b.l3 b.l4 }
     ensures limit { AreBelow (2 ^ 54) result.l0 result.l1 result.l2 result.l3 result.l4 }
 {
     Field {
@@ -66,7 +67,8 @@ pub(crate) fn add(a: Field, b: Field) -> Field
 pub(crate) fn sub(a: Field, b: Field) -> Field
     requires first { AreBelow (2 ^ 52) a.l0 a.l1 a.l2 a.l3 a.l4 }
     requires second { AreBelow (2 ^ 52) b.l0 b.l1 b.l2 b.l3 b.l4 }
-    ensures value { limbs result.l0 result.l1 result.l2 result.l3 result.l4 + limbs b.l0 b.l1 b.l2 b.l3 b.l4 ≡ limbs a.l0 a.l1 a.l2 a.l3 a.l4 + 4 * p }
+    ensures value { limbs result.l0 result.l1 result.l2 result.l3 result.l4 + limbs b.l0 b.l1 b.l2 b.l3 b.l4
+        ≡ limbs a.l0 a.l1 a.l2 a.l3 a.l4 + 4 * p }
     ensures limit { AreBelow (2 ^ 54) result.l0 result.l1 result.l2 result.l3 result.l4 }
 {
     Field {

@@ -10,7 +10,8 @@ use crate::products::{mul, square};
 /// A number squared n times.
 fn squares(a: Field, n: u32) -> Field
     requires { AreBelow (2 ^ 52) a.l0 a.l1 a.l2 a.l3 a.l4 }
-    ensures value { IsPower (limbs result.l0 result.l1 result.l2 result.l3 result.l4) (limbs a.l0 a.l1 a.l2 a.l3 a.l4) (2 ^ n) }
+    ensures value { IsPower (limbs result.l0 result.l1 result.l2 result.l3 result.l4) (limbs a.l0 a.l1 a.l2 a.l3 a.l4)
+        (2 ^ n) }
     ensures limit { AreBelow (2 ^ 52) result.l0 result.l1 result.l2 result.l3 result.l4 }
 {
     let mut r = a;
@@ -23,9 +24,11 @@ fn squares(a: Field, n: u32) -> Field
 /// The powers with 11 and 2^250 - 1.
 fn towards(a: Field) -> (Field, Field)
     requires { AreBelow (2 ^ 52) a.l0 a.l1 a.l2 a.l3 a.l4 }
-    ensures low { IsPower (limbs result.0.l0 result.0.l1 result.0.l2 result.0.l3 result.0.l4) (limbs a.l0 a.l1 a.l2 a.l3 a.l4) 11 }
+    ensures low { IsPower (limbs result.0.l0 result.0.l1 result.0.l2 result.0.l3 result.0.l4)
+        (limbs a.l0 a.l1 a.l2 a.l3 a.l4) 11 }
     ensures low_limit { AreBelow (2 ^ 52) result.0.l0 result.0.l1 result.0.l2 result.0.l3 result.0.l4 }
-    ensures high { IsPower (limbs result.1.l0 result.1.l1 result.1.l2 result.1.l3 result.1.l4) (limbs a.l0 a.l1 a.l2 a.l3 a.l4) (2 ^ 250 - 1) }
+    ensures high { IsPower (limbs result.1.l0 result.1.l1 result.1.l2 result.1.l3 result.1.l4)
+        (limbs a.l0 a.l1 a.l2 a.l3 a.l4) (2 ^ 250 - 1) }
     ensures high_limit { AreBelow (2 ^ 52) result.1.l0 result.1.l1 result.1.l2 result.1.l3 result.1.l4 }
 {
     let a2 = square(a);
@@ -54,7 +57,8 @@ fn towards(a: Field) -> (Field, Field)
 /// The power with 2^255 - 21, which is the inverse.
 pub(crate) fn inverse(a: Field) -> Field
     requires { AreBelow (2 ^ 52) a.l0 a.l1 a.l2 a.l3 a.l4 }
-    ensures value { IsPower (limbs result.l0 result.l1 result.l2 result.l3 result.l4) (limbs a.l0 a.l1 a.l2 a.l3 a.l4) (p - 2) }
+    ensures value { IsPower (limbs result.l0 result.l1 result.l2 result.l3 result.l4) (limbs a.l0 a.l1 a.l2 a.l3 a.l4)
+        (p - 2) }
     ensures limit { AreBelow (2 ^ 52) result.l0 result.l1 result.l2 result.l3 result.l4 }
 {
     let (a11, b) = towards(a);
@@ -65,7 +69,8 @@ pub(crate) fn inverse(a: Field) -> Field
 /// The power with 2^252 - 3.
 pub(crate) fn root_power(a: Field) -> Field
     requires { AreBelow (2 ^ 52) a.l0 a.l1 a.l2 a.l3 a.l4 }
-    ensures value { IsPower (limbs result.l0 result.l1 result.l2 result.l3 result.l4) (limbs a.l0 a.l1 a.l2 a.l3 a.l4) ((p - 5) / 8) }
+    ensures value { IsPower (limbs result.l0 result.l1 result.l2 result.l3 result.l4) (limbs a.l0 a.l1 a.l2 a.l3 a.l4)
+        ((p - 5) / 8) }
     ensures limit { AreBelow (2 ^ 52) result.l0 result.l1 result.l2 result.l3 result.l4 }
 {
     let (_, b) = towards(a);

@@ -19,7 +19,8 @@ struct Wide {
 pub(crate) fn mul(a: Field, b: Field) -> Field
     requires first { AreBelow (2 ^ 54) a.l0 a.l1 a.l2 a.l3 a.l4 }
     requires second { AreBelow (2 ^ 54) b.l0 b.l1 b.l2 b.l3 b.l4 }
-    ensures value { limbs result.l0 result.l1 result.l2 result.l3 result.l4 % p ≡ (limbs a.l0 a.l1 a.l2 a.l3 a.l4 * limbs b.l0 b.l1 b.l2 b.l3 b.l4) % p }
+    ensures value { limbs result.l0 result.l1 result.l2 result.l3 result.l4 % p
+        ≡ (limbs a.l0 a.l1 a.l2 a.l3 a.l4 * limbs b.l0 b.l1 b.l2 b.l3 b.l4) % p }
     ensures limit { AreBelow (2 ^ 52) result.l0 result.l1 result.l2 result.l3 result.l4 }
 {
     carried(products(a, b))
@@ -28,7 +29,8 @@ pub(crate) fn mul(a: Field, b: Field) -> Field
 /// The square of a number.
 pub(crate) fn square(a: Field) -> Field
     requires { AreBelow (2 ^ 54) a.l0 a.l1 a.l2 a.l3 a.l4 }
-    ensures value { limbs result.l0 result.l1 result.l2 result.l3 result.l4 % p ≡ (limbs a.l0 a.l1 a.l2 a.l3 a.l4 * limbs a.l0 a.l1 a.l2 a.l3 a.l4) % p }
+    ensures value { limbs result.l0 result.l1 result.l2 result.l3 result.l4 % p
+        ≡ (limbs a.l0 a.l1 a.l2 a.l3 a.l4 * limbs a.l0 a.l1 a.l2 a.l3 a.l4) % p }
     ensures limit { AreBelow (2 ^ 52) result.l0 result.l1 result.l2 result.l3 result.l4 }
 {
     carried(squares(a))
@@ -37,7 +39,8 @@ pub(crate) fn square(a: Field) -> Field
 fn products(a: Field, b: Field) -> Wide
     requires first { AreBelow (2 ^ 54) a.l0 a.l1 a.l2 a.l3 a.l4 }
     requires second { AreBelow (2 ^ 54) b.l0 b.l1 b.l2 b.l3 b.l4 }
-    ensures value { limbs result.w0 result.w1 result.w2 result.w3 result.w4 % p ≡ (limbs a.l0 a.l1 a.l2 a.l3 a.l4 * limbs b.l0 b.l1 b.l2 b.l3 b.l4) % p }
+    ensures value { limbs result.w0 result.w1 result.w2 result.w3 result.w4 % p
+        ≡ (limbs a.l0 a.l1 a.l2 a.l3 a.l4 * limbs b.l0 b.l1 b.l2 b.l3 b.l4) % p }
     ensures limit { AreBelow (2 ^ 116) result.w0 result.w1 result.w2 result.w3 result.w4 }
 {
     let b1 = b.l1 * 19;
@@ -74,7 +77,8 @@ fn products(a: Field, b: Field) -> Wide
 
 fn squares(a: Field) -> Wide
     requires { AreBelow (2 ^ 54) a.l0 a.l1 a.l2 a.l3 a.l4 }
-    ensures value { limbs result.w0 result.w1 result.w2 result.w3 result.w4 % p ≡ (limbs a.l0 a.l1 a.l2 a.l3 a.l4 * limbs a.l0 a.l1 a.l2 a.l3 a.l4) % p }
+    ensures value { limbs result.w0 result.w1 result.w2 result.w3 result.w4 % p
+        ≡ (limbs a.l0 a.l1 a.l2 a.l3 a.l4 * limbs a.l0 a.l1 a.l2 a.l3 a.l4) % p }
     ensures limit { AreBelow (2 ^ 116) result.w0 result.w1 result.w2 result.w3 result.w4 }
 {
     let a3 = a.l3 * 19;

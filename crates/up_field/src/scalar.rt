@@ -34,7 +34,8 @@ pub(crate) fn reduce(bytes: &[u8]) -> Scalar
 pub(crate) fn product(k: &[u8], a: Scalar) -> Scalar
     requires length { length k.now ≡ 32 }
     requires limit { AreBelow (2 ^ 51) a.l0 a.l1 a.l2 a.l3 a.l4 }
-    ensures value { limbs result.l0 result.l1 result.l2 result.l3 result.l4 ≡ (number k.now * limbs a.l0 a.l1 a.l2 a.l3 a.l4) % order }
+    ensures value { limbs result.l0 result.l1 result.l2 result.l3 result.l4
+        ≡ (number k.now * limbs a.l0 a.l1 a.l2 a.l3 a.l4) % order }
     ensures limit { AreBelow (2 ^ 51) result.l0 result.l1 result.l2 result.l3 result.l4 }
 {
     let mut r = small(0);
@@ -49,7 +50,8 @@ pub(crate) fn sum(a: Scalar, b: Scalar) -> Scalar
     requires first { AreBelow (2 ^ 51) a.l0 a.l1 a.l2 a.l3 a.l4 }
     requires second { AreBelow (2 ^ 51) b.l0 b.l1 b.l2 b.l3 b.l4 }
     requires below { limbs a.l0 a.l1 a.l2 a.l3 a.l4 + limbs b.l0 b.l1 b.l2 b.l3 b.l4 < 2 * order }
-    ensures value { limbs result.l0 result.l1 result.l2 result.l3 result.l4 ≡ (limbs a.l0 a.l1 a.l2 a.l3 a.l4 + limbs b.l0 b.l1 b.l2 b.l3 b.l4) % order }
+    ensures value { limbs result.l0 result.l1 result.l2 result.l3 result.l4
+        ≡ (limbs a.l0 a.l1 a.l2 a.l3 a.l4 + limbs b.l0 b.l1 b.l2 b.l3 b.l4) % order }
     ensures limit { AreBelow (2 ^ 51) result.l0 result.l1 result.l2 result.l3 result.l4 }
 {
     reduced(exact(a, b))
@@ -61,7 +63,8 @@ fn exact(a: Scalar, b: Scalar) -> Scalar
     requires first { AreBelow (2 ^ 51) a.l0 a.l1 a.l2 a.l3 a.l4 }
     requires second { AreBelow (2 ^ 51) b.l0 b.l1 b.l2 b.l3 b.l4 }
     requires below { limbs a.l0 a.l1 a.l2 a.l3 a.l4 + limbs b.l0 b.l1 b.l2 b.l3 b.l4 < 2 * order }
-    ensures value { limbs result.l0 result.l1 result.l2 result.l3 result.l4 ≡ limbs a.l0 a.l1 a.l2 a.l3 a.l4 + limbs b.l0 b.l1 b.l2 b.l3 b.l4 }
+    ensures value { limbs result.l0 result.l1 result.l2 result.l3 result.l4
+        ≡ limbs a.l0 a.l1 a.l2 a.l3 a.l4 + limbs b.l0 b.l1 b.l2 b.l3 b.l4 }
     ensures limit { AreBelow (2 ^ 51) result.l0 result.l1 result.l2 result.l3 result.l4 }
 {
     let t0 = a.l0 + b.l0;
@@ -112,7 +115,8 @@ fn step(acc: Scalar, byte: u64, a: Scalar) -> Scalar
     requires acc { AreBelow (2 ^ 51) acc.l0 acc.l1 acc.l2 acc.l3 acc.l4 }
     requires other { AreBelow (2 ^ 51) a.l0 a.l1 a.l2 a.l3 a.l4 }
     requires byte { byte < 256 }
-    ensures value { limbs result.l0 result.l1 result.l2 result.l3 result.l4 % order ≡ (256 * limbs acc.l0 acc.l1 acc.l2 acc.l3 acc.l4 + byte * limbs a.l0 a.l1 a.l2 a.l3 a.l4) % order }
+    ensures value { limbs result.l0 result.l1 result.l2 result.l3 result.l4 % order
+        ≡ (256 * limbs acc.l0 acc.l1 acc.l2 acc.l3 acc.l4 + byte * limbs a.l0 a.l1 a.l2 a.l3 a.l4) % order }
     ensures below { limbs result.l0 result.l1 result.l2 result.l3 result.l4 < order }
     ensures limit { AreBelow (2 ^ 51) result.l0 result.l1 result.l2 result.l3 result.l4 }
 {
@@ -123,7 +127,8 @@ fn scaled(acc: Scalar, byte: u64, a: Scalar) -> Scalar
     requires acc { AreBelow (2 ^ 51) acc.l0 acc.l1 acc.l2 acc.l3 acc.l4 }
     requires other { AreBelow (2 ^ 51) a.l0 a.l1 a.l2 a.l3 a.l4 }
     requires byte { byte < 256 }
-    ensures value { limbs result.l0 result.l1 result.l2 result.l3 result.l4 ≡ 256 * limbs acc.l0 acc.l1 acc.l2 acc.l3 acc.l4 + byte * limbs a.l0 a.l1 a.l2 a.l3 a.l4 }
+    ensures value { limbs result.l0 result.l1 result.l2 result.l3 result.l4
+        ≡ 256 * limbs acc.l0 acc.l1 acc.l2 acc.l3 acc.l4 + byte * limbs a.l0 a.l1 a.l2 a.l3 a.l4 }
     ensures limit { AreBelow (2 ^ 60) result.l0 result.l1 result.l2 result.l3 result.l4 }
 {
     Scalar {
@@ -147,7 +152,8 @@ fn by_byte(byte: u64, a: u64) -> u64
 /// The number modulo the order, or that and the order.
 fn folded(t: Scalar) -> Scalar
     requires { AreBelow (2 ^ 60) t.l0 t.l1 t.l2 t.l3 t.l4 }
-    ensures value { limbs result.l0 result.l1 result.l2 result.l3 result.l4 % order ≡ limbs t.l0 t.l1 t.l2 t.l3 t.l4 % order }
+    ensures value { limbs result.l0 result.l1 result.l2 result.l3 result.l4 % order
+        ≡ limbs t.l0 t.l1 t.l2 t.l3 t.l4 % order }
     ensures below { limbs result.l0 result.l1 result.l2 result.l3 result.l4 < 2 * order }
     ensures limit { AreBelow (2 ^ 51) result.l0 result.l1 result.l2 result.l3 result.l4 }
 {
@@ -175,7 +181,8 @@ fn folded(t: Scalar) -> Scalar
 fn reduced(n: Scalar) -> Scalar
     requires limit { AreBelow (2 ^ 51) n.l0 n.l1 n.l2 n.l3 n.l4 }
     requires below { limbs n.l0 n.l1 n.l2 n.l3 n.l4 < 2 * order }
-    ensures value { limbs result.l0 result.l1 result.l2 result.l3 result.l4 % order ≡ limbs n.l0 n.l1 n.l2 n.l3 n.l4 % order }
+    ensures value { limbs result.l0 result.l1 result.l2 result.l3 result.l4 % order
+        ≡ limbs n.l0 n.l1 n.l2 n.l3 n.l4 % order }
     ensures below { limbs result.l0 result.l1 result.l2 result.l3 result.l4 < order }
     ensures limit { AreBelow (2 ^ 51) result.l0 result.l1 result.l2 result.l3 result.l4 }
 {

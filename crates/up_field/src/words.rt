@@ -17,7 +17,8 @@ pub(crate) struct Words {
 pub(crate) fn in_words(n: Field) -> Words
     requires limit { AreBelow (2 ^ 51) n.l0 n.l1 n.l2 n.l3 0 }
     requires last { n.l4 < 2 ^ 52 }
-    ensures value { result.a + 2 ^ 64 * result.b + 2 ^ 128 * result.c + 2 ^ 192 * result.d ≡ limbs n.l0 n.l1 n.l2 n.l3 n.l4 }
+    ensures value { result.a + 2 ^ 64 * result.b + 2 ^ 128 * result.c + 2 ^ 192 * result.d
+        ≡ limbs n.l0 n.l1 n.l2 n.l3 n.l4 }
     ensures limit { AreBelow (2 ^ 64) result.a result.b result.c result.d 0 }
 {
     Words {

@@ -30,7 +30,8 @@ pub(crate) fn count_of(bytes: &[u8], fields: &[HeaderSpan], name: &[u8]) -> usiz
 /// The value of the first field of this name.
 pub(crate) fn value_of<'b>(bytes: &'b [u8], fields: &[HeaderSpan], name: &[u8]) -> Option<&'b [u8]>
     requires { All (IsHeaderWithin (length bytes.now)) fields.now }
-    ensures some { IfSome result (λ value. (rest : List (List ℕ)) × (values name.now (map (header_bytes bytes.now) fields.now) ≡ value.now ∷ rest)) }
+    ensures some { IfSome result (λ value. (rest : List (List ℕ))
+        × (values name.now (map (header_bytes bytes.now) fields.now) ≡ value.now ∷ rest)) }
     ensures none { IfNone result (values name.now (map (header_bytes bytes.now) fields.now) ≡ []) }
 {
     for field in fields {

@@ -53,7 +53,8 @@ fn length_of(value: &[u8]) -> Result<Option<usize>, Check>
 
 /// The number that digits stand for, or one more than a body may have where it is greater; none for other bytes.
 fn number_of(value: &[u8]) -> Option<usize>
-    ensures some { IfSome result (λ n. (number value.now ≡ true) × (n ≡ min (digits_value 10 value.now) (largest_body + 1))) }
+    ensures some { IfSome result (λ n. (number value.now ≡ true)
+        × (n ≡ min (digits_value 10 value.now) (largest_body + 1))) }
     ensures none { IfNone result (number value.now ≡ false) }
 {
     if value.is_empty() {

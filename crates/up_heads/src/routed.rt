@@ -35,7 +35,8 @@ pub fn route_of(
     stated: Option<usize>,
 ) -> Result<Routed, AllocError>
     requires { (head : RequestHead) × IsFactsOf bytes.now head facts.now }
-    ensures { IfOk result (λ route. (head : RequestHead) → IsFactsOf bytes.now head facts.now → route ≡ routed head stated) }
+    ensures { IfOk result (λ route. (head : RequestHead) → IsFactsOf bytes.now head facts.now
+        → route ≡ routed head stated) }
 {
     route_at(alloc, facts.target.of(bytes), facts.verb, stated)
 }
@@ -96,7 +97,8 @@ fn posted(verb: Verb, stated: Option<usize>) -> Routed
 
 /// What is asked of a file of the Director repository.
 fn director_file(alloc: Global, path: &str, verb: Verb) -> Result<Routed, AllocError>
-    ensures { IfOk result (λ route. route ≡ got (λ name. Routed.FetchDirector name) (named (strip (codes "/director/") path.now)) verb) }
+    ensures { IfOk result
+        (λ route. route ≡ got (λ name. Routed.FetchDirector name) (named (strip (codes "/director/") path.now)) verb) }
 {
     match file_behind(alloc, path, "/director/")? {
         Some(file) if verb == Verb::Get => Ok(Routed::FetchDirector(file)),
@@ -107,7 +109,8 @@ fn director_file(alloc: Global, path: &str, verb: Verb) -> Result<Routed, AllocE
 
 /// What is asked of a file of the Image repository.
 fn image_file(alloc: Global, path: &str, verb: Verb) -> Result<Routed, AllocError>
-    ensures { IfOk result (λ route. route ≡ got (λ name. Routed.FetchImage name) (named (strip (codes "/image/") path.now)) verb) }
+    ensures { IfOk result
+        (λ route. route ≡ got (λ name. Routed.FetchImage name) (named (strip (codes "/image/") path.now)) verb) }
 {
     match file_behind(alloc, path, "/image/")? {
         Some(file) if verb == Verb::Get => Ok(Routed::FetchImage(file)),

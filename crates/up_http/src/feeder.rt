@@ -152,7 +152,8 @@ fn feed_body(parts: &mut Parts, waiting: Waiting, piece: &[u8]) -> Result<Step, 
     requires few { parts.old.given < most_requests }
     requires waits { IsWaiting parts.old.head.items waiting }
     requires bounded { length waiting.body.bytes ≤ waiting.body.size }
-    ensures ok { IfOk result (λ step. Keeps parts.new × Gives (record { rest = parts.old.head.items ++ waiting.body.bytes; given = parts.old.given; ended = false })
+    ensures ok { IfOk result (λ step. Keeps parts.new
+        × Gives (record { rest = parts.old.head.items ++ waiting.body.bytes; given = parts.old.given; ended = false })
         piece.now step.taken step.next (fed_of parts.new)) }
     ensures err { OnErr result (parts.new ≡ record parts.old { waiting = Some waiting }) }
 {
@@ -190,7 +191,8 @@ fn settle(parts: &mut Parts, waiting: Waiting) -> Option<Next>
 /// What a whole request asks.
 fn next_of(given: u32, waiting: Waiting) -> Next
     requires { given < most_requests }
-    ensures { (head : RequestHead) (stated : Option ℕ) → IsIntentOf head stated waiting.intent → result ≡ asked given head stated waiting.body.bytes }
+    ensures { (head : RequestHead) (stated : Option ℕ) → IsIntentOf head stated waiting.intent
+        → result ≡ asked given head stated waiting.body.bytes }
 {
     let Waiting { intent, body } = waiting;
     let last = intent.closes || ends_stream(&intent.asks) || given + 1 >= MOST_REQUESTS;
@@ -275,7 +277,8 @@ fn feed_whole(
     requires few { parts.old.given < most_requests }
     requires whole { IsWhole parts.old.head.items facts.now }
     requires framed { facts.now.framing ≡ Ok stated }
-    ensures ok { IfOk result (λ step. Keeps parts.new × Gives (record { rest = parts.old.head.items; given = parts.old.given; ended = false })
+    ensures ok { IfOk result (λ step. Keeps parts.new
+        × Gives (record { rest = parts.old.head.items; given = parts.old.given; ended = false })
         piece.now step.taken step.next (fed_of parts.new)) }
     ensures err { OnErr result (parts.new ≡ parts.old) }
 {

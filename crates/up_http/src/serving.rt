@@ -35,10 +35,13 @@ fn answer_next<S, A: Respond<S>, W: Sink>(
     requires can_write { W.can_write writer.old }
     ensures ok { OnOk result ((text : List ℕ) × A.gives responder.now state.old next.now text state.new
         × Appends (W.contents writer.old) (W.contents writer.new) text) }
-    ensures err { IfErr result (λ cause. Unanswered (A.gives responder.now) cause next.now (record { state = state.old; held = W.contents writer.old })
+    ensures err { IfErr result
+        (λ cause. Unanswered (A.gives responder.now) cause next.now
+        (record { state = state.old; held = W.contents writer.old })
         (record { state = state.new; held = W.contents writer.new })) }
     ensures goes_on { OnOk result (W.can_write writer.new) }
-    ensures blames { IfErr result (λ cause. BlamesWriter (cause_of cause) (W.has_failed writer.new) (W.can_write writer.new)) }
+    ensures blames { IfErr result
+        (λ cause. BlamesWriter (cause_of cause) (W.has_failed writer.new) (W.can_write writer.new)) }
 {
     let text = responder.respond(alloc, state, next)?;
     match write_whole(writer, text.as_slice()) {
@@ -99,7 +102,8 @@ fn serve_piece<S, A: Respond<S>, W: Sink>(
     requires some { 0 < length piece.now }
     requires can_write { W.can_write writer.old }
     ensures { TakesStep
-        (λ n old before new after. Moves n piece.now old new × Takes (A.gives responder.now) (take n piece.now) old before new after)
+        (λ n old before new after. Moves n piece.now old new
+        × Takes (A.gives responder.now) (take n piece.now) old before new after)
         (λ cause. Stops (A.gives responder.now) cause false piece.now)
         progress.old (record { state = state.old; held = W.contents writer.old })
         progress.new (record { state = state.new; held = W.contents writer.new })

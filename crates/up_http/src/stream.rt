@@ -33,7 +33,8 @@ fn first_of(feeder: &mut Feeder, bytes: &[u8]) -> Result<(Next, usize), AllocErr
     requires some { 0 < length bytes.now }
     ensures first { IfOk result (λ found. First feeder.old.given bytes.now found.0 (drop found.1 bytes.now)) }
     ensures taken { IfOk result (λ found. (0 < found.1) × (found.1 ≤ length bytes.now)) }
-    ensures fed { IfOk result (λ found. feeder.new ≡ record { rest = []; given = feeder.old.given + 1; ended = found.0.last }) }
+    ensures fed { IfOk result
+        (λ found. feeder.new ≡ record { rest = []; given = feeder.old.given + 1; ended = found.0.last }) }
 {
     let Step { taken, next } = feeder.feed(bytes)?;
     match next {

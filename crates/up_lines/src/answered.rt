@@ -22,7 +22,8 @@ pub(crate) fn answer_line<S, I: Interpret<S>, W: Sink>(
     requires { W.can_write writer.old }
     ensures ok { OnOk result ((text : List ℕ) × I.gives state.old line.now text state.new
         × Appends (W.contents writer.old) (W.contents writer.new) (print text)) }
-    ensures err { IfErr result (λ cause. Unanswered I.gives cause line.now (record { state = state.old; held = W.contents writer.old })
+    ensures err { IfErr result
+        (λ cause. Unanswered I.gives cause line.now (record { state = state.old; held = W.contents writer.old })
         (record { state = state.new; held = W.contents writer.new })) }
     ensures goes_on { OnOk result (W.can_write writer.new) }
     ensures blames { IfErr result (λ cause. BlamesWriter cause (W.has_failed writer.new) (W.can_write writer.new)) }

@@ -15,7 +15,8 @@ use up_pieces::sink::Sink;
 /// Takes a part of a line, whole or not at all.
 pub(crate) fn take_part(progress: &mut Progress, part: &[u8]) -> Result<(), ScriptCause>
     ensures ok { OnOk result (Grows part.now progress.old progress.new) }
-    ensures err { IfErr result (λ cause. (progress.new.answered ≡ progress.old.answered) × Refuses cause part.now progress.old) }
+    ensures err { IfErr result (λ cause. (progress.new.answered ≡ progress.old.answered)
+        × Refuses cause part.now progress.old) }
 {
     if progress.counted == MOST_LINES && !part.is_empty() {
         return Err(ScriptCause::TooLong);
@@ -48,7 +49,8 @@ pub(crate) fn take_line<S, I: Interpret<S>, W: Sink>(
     requires own { list_all is_inside part.now ≡ true }
     requires can_write { W.can_write writer.old }
     ensures { Step (Takes I.gives (part.now ++ newline ∷ []))
-        (λ cause old before new after. (more : List ℕ) → Stops I.gives cause false (part.now ++ newline ∷ more) old before new after)
+        (λ cause old before new after. (more : List ℕ)
+        → Stops I.gives cause false (part.now ++ newline ∷ more) old before new after)
         progress.old (record { state = state.old; held = W.contents writer.old })
         progress.new (record { state = state.new; held = W.contents writer.new })
         (W.has_failed writer.new) (W.can_write writer.new) result }

@@ -40,9 +40,11 @@ impl<T: Limit + Drop, S: TrySource + Drop> Source for Bounded<T, S> {
         ensures bound { ReadsAtMost result buffer.new }
         ensures bytes { ReadConsumes (S.remaining self.old.inner) (S.remaining self.new.inner) result buffer.new }
         ensures goes_on { IfOk result (λ n. 0 < n → S.can_read self.new.inner × T.can_check self.new.limit) }
-        ensures failed { OnErr result (S.has_failed self.new.inner ⊎ (T.has_run_out self.new.limit × S.can_read self.new.inner)) }
+        ensures failed { OnErr result (S.has_failed self.new.inner
+            ⊎ (T.has_run_out self.new.limit × S.can_read self.new.inner)) }
         ensures ended { IfOk result (λ n. n ≡ 0 → 0 < length buffer.old → S.has_ended self.new.inner) }
-        ensures tries { Tries (CallsInTime T.checks (S.reads (length buffer.old))) (RunsOut T.checks) 1_000 self.old result self.new }
+        ensures tries { Tries (CallsInTime T.checks (S.reads (length buffer.old)))
+            (RunsOut T.checks) 1_000 self.old result self.new }
     {
         for _ in 1..MOST_TRIES {
             self.limit.check()?;
@@ -71,10 +73,12 @@ impl<T: Limit + Drop, S: TrySink + Drop> Sink for Bounded<T, S> {
         ensures bound { WritesAtMost result bytes.now }
         ensures bytes { WriteAppends (S.contents self.old.inner) (S.contents self.new.inner) result bytes.now }
         ensures goes_on { IfOk result (λ n. 0 < n → S.can_write self.new.inner × T.can_check self.new.limit) }
-        ensures failed { OnErr result (S.has_failed self.new.inner ⊎ (T.has_run_out self.new.limit × S.can_write self.new.inner)) }
+        ensures failed { OnErr result (S.has_failed self.new.inner
+            ⊎ (T.has_run_out self.new.limit × S.can_write self.new.inner)) }
         ensures took_none { IfOk result (λ n. n ≡ 0 → 0 < length bytes.now
             → S.has_failed self.new.inner ⊎ (T.has_run_out self.new.limit × S.can_write self.new.inner)) }
-        ensures tries { Tries (CallsInTime T.checks (S.writes bytes.now)) (RunsOut T.checks) 1_000 self.old result self.new }
+        ensures tries { Tries (CallsInTime T.checks (S.writes bytes.now))
+            (RunsOut T.checks) 1_000 self.old result self.new }
     {
         for _ in 1..MOST_TRIES {
             self.limit.check()?;

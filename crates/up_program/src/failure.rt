@@ -90,7 +90,8 @@ pub fn told<W: Sink>(errors: &mut W, ended: Result<(), Failure>) -> Result<(), F
     requires { W.can_write errors.old }
     ensures same { result ≡ ended }
     ensures silent { OnOk ended (errors.new ≡ errors.old) }
-    ensures written { IfErr ended (λ failure. IsWritten W.contents W.has_failed errors.old (failure_line failure) errors.new) }
+    ensures written { IfErr ended
+        (λ failure. IsWritten W.contents W.has_failed errors.old (failure_line failure) errors.new) }
 {
     if let Err(failure) = &ended {
         write_line(errors, &failure.line());

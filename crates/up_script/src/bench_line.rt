@@ -71,7 +71,8 @@ fn reports_of<K: Scheme>(
     values: &[Value],
 ) -> Result<Vec<Envelope>, Refusal>
     requires { hashed.now ≡ key_block (K.rules scheme.now) primary.now }
-    ensures value { GivesAs (λ v. v.items) result (each (report_of (K.rules scheme.now) (codes "reports")) (values_of values.now)) }
+    ensures value { GivesAs (λ v. v.items) result
+        (each (report_of (K.rules scheme.now) (codes "reports")) (values_of values.now)) }
     ensures fits { IfOk result (λ v. IsTrue (list_all envelope_fits v.items)) }
     ensures number { IfOk result (λ v. length v.items ≡ length values.now) }
 {

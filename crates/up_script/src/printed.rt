@@ -62,7 +62,8 @@ fn push_withheld(out: &mut String, withheld: &Option<Cause>) -> Result<(), Alloc
 }
 
 fn push_cause(out: &mut String, ecu: &str, kind: &str, name: &str) -> Result<(), AllocError>
-    ensures { IfOk result (λ _. string_bytes out.new ≡ string_bytes out.old ++ codes " withheld " ++ ecu.now ++ kind.now ++ name.now) }
+    ensures { IfOk result
+        (λ _. string_bytes out.new ≡ string_bytes out.old ++ codes " withheld " ++ ecu.now ++ kind.now ++ name.now) }
 {
     out.push_str(" withheld ")?;
     out.push_str(ecu)?;
@@ -102,7 +103,8 @@ pub fn push_ecu(
     ecu: &Ident,
     installed: &Option<Installed>,
 ) -> Result<(), AllocError>
-    ensures { IfOk result (λ _. string_bytes out.new ≡ string_bytes out.old ++ ecu_text plan.now ecu.now installed.now) }
+    ensures { IfOk result
+        (λ _. string_bytes out.new ≡ string_bytes out.old ++ ecu_text plan.now ecu.now installed.now) }
 {
     out.push(' ')?;
     out.push_str(ecu.text())?;
@@ -121,7 +123,8 @@ fn push_installed(out: &mut String, installed: &Option<Installed>) -> Result<(),
 }
 
 fn push_assigned(out: &mut String, plan: &Option<Plan>, ecu: &str) -> Result<(), AllocError>
-    ensures { IfOk result (λ _. string_bytes out.new ≡ string_bytes out.old ++ assigned_text (assigned_file_of ecu.now plan.now)) }
+    ensures { IfOk result
+        (λ _. string_bytes out.new ≡ string_bytes out.old ++ assigned_text (assigned_file_of ecu.now plan.now)) }
 {
     match assigned_file(plan, ecu) {
         Some(file) => {

@@ -37,7 +37,8 @@ pub fn open<'a>(
     value: &'a Value,
     place: &'static str,
 ) -> Result<(Envelope, &'a Map<String, Value>), Refusal>
-    ensures { GivesAs (λ opened. record { envelope = opened.0; payload = object_of_map opened.1.now.entries }) result (opened_in place.now (view value.now)) }
+    ensures { GivesAs (λ opened. record { envelope = opened.0; payload = object_of_map opened.1.now.entries }) result
+        (opened_in place.now (view value.now)) }
 {
     let members = object_of(value, place)?;
     let signatures = signatures_at(alloc, members)?;
@@ -92,7 +93,8 @@ fn signed_at<'a>(
     alloc: Global,
     map: &'a Map<String, Value>,
 ) -> Result<(Text, &'a Map<String, Value>), Refusal>
-    ensures { GivesAs (λ signed. record { text = signed.0; payload = object_of_map signed.1.now.entries }) result (signed_in (object_of_map map.now.entries)) }
+    ensures { GivesAs (λ signed. record { text = signed.0; payload = object_of_map signed.1.now.entries }) result
+        (signed_in (object_of_map map.now.entries)) }
 {
     let (value, payload) = payload_at(map)?;
     let text = canonical(alloc, value)?;
@@ -104,7 +106,8 @@ fn payload_at<'a>(
     map: &'a Map<String, Value>,
 ) -> Result<(&'a Value, &'a Map<String, Value>), &'static str>
     ensures { MatchResult result
-        (λ found. (object_in (codes "signed") (object_of_map map.now.entries) ≡ Ok (view found.0.now)) × (view found.0.now ≡ object_of_map found.1.now.entries))
+        (λ found. (object_in (codes "signed") (object_of_map map.now.entries) ≡ Ok (view found.0.now))
+        × (view found.0.now ≡ object_of_map found.1.now.entries))
         (λ fault. IsFault (object_in (codes "signed") (object_of_map map.now.entries)) (codes "signed") fault.now) }
 {
     let value = member_at(map, "signed")?;

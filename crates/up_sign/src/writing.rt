@@ -17,7 +17,8 @@ pub(crate) fn push_signatures(
     signatures: &[Signature],
 ) -> Result<(), AllocError>
     requires { IsTrue (list_all signature_fits signatures.now) }
-    ensures value { IfOk result (λ _. string_bytes out.new ≡ string_bytes out.old ++ text (list_with (map signature_value signatures.now))) }
+    ensures value { IfOk result
+        (λ _. string_bytes out.new ≡ string_bytes out.old ++ text (list_with (map signature_value signatures.now))) }
     ensures bytes { OnOk result (list_all (λ s. list_all is_byte s.sig) signatures.now ≡ true) }
 {
     out.push('[')?;
@@ -34,7 +35,8 @@ pub(crate) fn push_signatures(
 #[tactic(auto, unfolding(crate::specs::Formats::signature_value))]
 fn push_signature(alloc: Global, out: &mut String, signature: &Signature) -> Result<(), AllocError>
     requires { IsTrue (signature_fits signature.now) }
-    ensures value { IfOk result (λ _. string_bytes out.new ≡ string_bytes out.old ++ text (signature_value signature.now)) }
+    ensures value { IfOk result
+        (λ _. string_bytes out.new ≡ string_bytes out.old ++ text (signature_value signature.now)) }
     ensures bytes { OnOk result (list_all is_byte signature.now.sig ≡ true) }
 {
     out.push_str("{\"keyid\":")?;
