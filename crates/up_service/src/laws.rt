@@ -16,9 +16,7 @@ use up_sign::scheme::Scheme;
 /// From each state that the tables showed before the run: each text is the answer in the state behind the lines before it, or tells
 /// that memory or the database refused, and then that line changed nothing. A crash leaves what it could leave before, or what
 /// one of the lines makes of the state behind those before it. Behind each `done`, and each reply to a new manifest, it leaves the
-/// state behind that line, or what one of the lines that follow makes from there on. Where the disk counted no fault, on a connection
-/// that was open, with no limit on the steps of a query, each line makes the next database of the one before it, and what isn't a line's
-/// answer tells a fault of the database only where that database refuses what the line's command comes to.
+/// state behind that line, or what one of the lines that follow makes from there on.
 pub fn scripts_outlast_crashes<K: Scheme, D: Alter>()
     ensures { LinesLast (K.rules) D.Store }
 {
