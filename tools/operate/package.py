@@ -8,7 +8,8 @@ PROGRAM is `crates/uptane_desk_ed25519/out/uptane_desk_ed25519` where none is na
 is installed as `/usr/bin/uptane_desk`. `/usr/lib/uptane_desk/MANIFEST` has the commit, whether the checkout differed from it, the
 program's name, and the SHA-256 sum of each file; `sha256sum --check` reads it, from `/`.
 Installing makes a user, a group of operators and folders, and enables the units, which start nothing before the founding. Removing
-stops the units, and leaves data, copies, the spool and the journal.
+stops the units, and leaves data, copies, the spool and the journal. A program that was built without a proof is refused; with --unproved
+it is packed, and MANIFEST says so.
 """
 import argparse
 import hashlib
@@ -24,6 +25,8 @@ sys.dont_write_bytecode = True
 TOP = Path(__file__).resolve().parents[2]
 LIBRARY, DOCUMENTS, UNITS = Path("usr/lib/uptane_desk"), Path("usr/share/doc/uptane-desk"), Path("usr/lib/systemd/system")
 SERVICE = TOP / "examples" / "service"
+# how a program ends that `tools/try/unproved.py` built
+LABEL = b"\nUNPROVED: "
 
 CONTROL = """Package: uptane-desk
 Version: %s
@@ -67,6 +70,10 @@ def git(*words):
     return ran.stdout.strip() if ran.returncode == 0 else ""
 
 
+def is_unproved(program):
+    return LABEL in program.read_bytes()[-200:]
+
+
 def parts(program):
     """Each file of the package, by its place, with the file that it is a copy of and its mode."""
     yield Path("usr/bin/uptane_desk"), program, 0o755
@@ -80,8 +87,10 @@ def parts(program):
     for path in sorted((TOP / "tools" / "operate").iterdir()):
         if path.suffix in (".py", ".js", ".css") and path.name != "package.py":
             yield LIBRARY / "tools" / "operate" / path.name, path, 0o755 if os.access(path, os.X_OK) else 0o644
-    for path in sorted((TOP / "docs").rglob("*.md")):
-        yield LIBRARY / path.relative_to(TOP), path, 0o644
+    # (the pages link to the examples and to these; what else they link to is for whoever has the sources)
+    examples = [it for it in (TOP / "examples").rglob("*") if it.is_file() and it.suffix != ".pyc"]
+    for path in sorted([*(TOP / "docs").rglob("*.md"), *examples, *(TOP / it for it in ("README.md", "SECURITY.md", "CHANGELOG.md"))]):
+        yield LIBRARY / path.relative_to(TOP), path, 0o755 if os.access(path, os.X_OK) else 0o644
     for name in ("README.md", "nginx.conf", "haproxy.cfg", "several/nginx.conf", "several/haproxy.cfg", "alerts/uptane.yml"):
         yield DOCUMENTS / "examples" / name, SERVICE / name, 0o644
     for name in ("LICENSE", "README.md", "SECURITY.md", "CHANGELOG.md"):
@@ -99,7 +108,7 @@ def manifest(listed, program):
     """The commit, and the sum of each file."""
     changed = git("status", "--porcelain", "--untracked-files=no")
     head = ["# commit %s%s" % (git("rev-parse", "HEAD") or "unknown", ", and changes that are in no commit" if changed else ""),
-            "# program %s, %s, %d bytes" % (program.name, hashlib.sha256(program.read_bytes()).hexdigest(), program.stat().st_size)]
+            "# program %s%s, %s, %d bytes" % (program.name, ", built without a proof" if is_unproved(program) else "", hashlib.sha256(program.read_bytes()).hexdigest(), program.stat().st_size)]
     sums = ["%s  %s" % (hashlib.sha256(path.read_bytes()).hexdigest(), place) for place, path in listed]
     return "\n".join(head + sums) + "\n"
 
@@ -151,9 +160,12 @@ def main():
     parser.add_argument("--program", type=Path, default=TOP / "crates" / "uptane_desk_ed25519" / "out" / "uptane_desk_ed25519")
     parser.add_argument("--to", type=Path, default=Path("."))
     parser.add_argument("--tree", type=Path)
+    parser.add_argument("--unproved", action="store_true")
     given = parser.parse_args()
     os.umask(0o022)
     try:
+        if is_unproved(given.program) and not given.unproved:
+            raise OSError("%s was built without a proof" % given.program)
         if given.tree:
             laid(given.program, given.tree)
         else:

@@ -25,6 +25,7 @@ sys.path += map(str, Path(__file__).resolve().parents[1].iterdir())
 
 import fleet
 import http_cases
+import package
 import plan
 import speed
 import trials
@@ -385,7 +386,13 @@ def packaged(program, own):
     if not shutil.which("dpkg-deb"):
         print("there is no dpkg, so no package is made")
         return
-    made = tool("package", "--program", program, "--to", own)
+    without = own / "without"
+    without.write_bytes(Path(program).read_bytes() + package.LABEL + b"no proof\n")
+    refused = tool("package", "--program", without, "--tree", own / "none")
+    yield "a program built without a proof is refused", refused.returncode == 1 and "without a proof" in refused.stderr and not (own / "none").exists()
+    # (the program that is tried may be such a one)
+    asked = ["package", "--unproved", "--program", program]
+    made = tool(*asked, "--to", own)
     path = Path(made.stdout.strip())
     yield "a package", made.returncode == 0 and path.is_file() and path.parent == own
     root = own / "root"
@@ -401,7 +408,12 @@ def packaged(program, own):
     named = [word for unit in root.glob("usr/lib/systemd/system/*") for word in re.findall(r"(?m)^(?:ExecStart|ExecStartPost)=(/\S+)|^Documentation=file://(\S+)", unit.read_text("ascii"))]
     places = {first or second for first, second in named} - {"/bin/sh"}
     yield "what its units name is there", len(places) >= 5 and all((root / name[1:]).exists() for name in places)
-    operate = root / "usr/lib/uptane_desk/tools/operate"
+    library = root / "usr/lib/uptane_desk"
+    links = [(page, link) for page in (library / "docs").rglob("*.md") for link in re.findall(r"\]\(([^)#:]+)[^):]*\)", page.read_text("utf-8"))]
+    lost = [(page.name, link) for page, link in links if re.search(r"\.md$|/examples/", link) and not re.search(r"\b(?:crates|rows|vectors)/", link) and not (page.parent / link).exists()]
+    print("".join("%s links to %s, which isn't packaged\n" % it for it in lost), end="")
+    yield "pages find each other, and the examples", len(links) > 100 and not lost
+    operate = library / "tools/operate"
     helped = {path.name: ran(sys.executable, path, "--help").returncode for path in operate.glob("*.py") if "__main__" in path.read_text("ascii")}
     yield "its tools have what they need", len(helped) >= 9 and set(helped.values()) <= {0, 2} and ran(sys.executable, operate / "check_script.py", input=vehicle("V9") + "\n").returncode == 0
     data = root / "var/lib/uptane"
@@ -414,7 +426,7 @@ def packaged(program, own):
     left = sorted(str(it.relative_to(root)) for it in root.rglob("*") if it.is_file() and "var/lib/dpkg" not in str(it))
     yield "removed, it leaves the data", gone.returncode == 0 and left in (["var/lib/uptane/desk.db"], ["var/lib/uptane/desk.db", "var/lib/uptane/desk.db-wal"])
     tree = own / "tree"
-    laid = tool("package", "--program", program, "--tree", tree)
+    laid = tool(*asked, "--tree", tree)
     yield "the same files without dpkg", laid.returncode == 0 and (tree / "usr/lib/uptane_desk/MANIFEST").read_text("ascii") == text
 
 
