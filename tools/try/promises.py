@@ -8,8 +8,7 @@
 Which promise an edit or a test belongs to is written once, where it stands: in the edit's file as a line `promise: NAME`, with several names parted by
 commas; above a test's function as a comment `// promise: NAME`; in a tool's own first lines; and, where rows have no place for a comment, in the file
 `promises` beside the rows that a crate carries out, whose lines name a section or a row, a colon, and its promises. A promise that has neither an edit
-nor a test fails, and so does a name that is no promise's, and a section or row that isn't there. Edits in tools/edits/waiting are listed as
-without a verdict.
+nor a test fails, and so does a name that is no promise's, and a section or row that isn't there.
 """
 import re
 import subprocess
@@ -45,9 +44,7 @@ def marks(pattern, folder=TOP / "crates"):
 
 
 def edits():
-    """Those that were refused, and those that wait for their verdict."""
     yield from ((name, path.stem, path) for name, path, _ in marks("*/refused/*.edit"))
-    yield from ((name, path.stem + " (no verdict yet)", path) for name, path, _ in marks("*/*.edit", TOP / "tools" / "edits" / "waiting"))
 
 
 def sections(folder):
