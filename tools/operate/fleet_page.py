@@ -5,9 +5,9 @@
 
 COPY is made as `docs/use/TABLES.md` says; a log that lies beside it is read with it, and neither is written to. The page shows how
 far each campaign is, and since when; files that expire soon, plans that were withheld, attacks that ECUs reported, releases by
-hardware, ECUs that were replaced, and the vehicles with what they have and are assigned, to be searched and filtered. Each table can
-be saved as CSV. It holds no secrets, but it names vehicles and says which of them have old software: show it to no one who needn't
-know that.
+hardware, ECUs that were replaced, and the vehicles with what they have and are assigned, to be searched and filtered. Of several
+desks it shows what each accepted, and when it last did. Each table can be saved as CSV. It holds no secrets, but it names vehicles and
+says which of them have old software: show it to no one who needn't know that.
 
 Everything is as of the newest moment in the copies; what has expired and who was long silent is reckoned from now, by this machine's
 clock, or from SECONDS. The status is 1, with a message, where a file isn't a database of this product, of schema 1, 2 or 3.
@@ -26,8 +26,8 @@ sys.dont_write_bytecode = True
 import fleet_tables
 from fleet_tables import DAY, IMAGES, ROOTS, WEEK
 
-# rows of a table that are shown at once, at the top of the page
-SHOWN = 10
+# rows of a table that are shown at once, at the top of the page; so few more are shown, too
+SHOWN, FEW = 10, 5
 # points of a line over time
 POINTS = 60
 SCRIPT = Path(__file__).resolve().parent / "fleet_page.js"
@@ -66,6 +66,8 @@ def campaigns_of(desks):
             whole["running"] |= it["running"]
             for name in SUMS:
                 whole[name] += it[name]
+    for it in made.values():
+        it["moments"].sort()
     return sorted(made.values(), key=lambda it: (not it["running"], it["name"]))
 
 
@@ -115,7 +117,8 @@ def table(name, head, rows, empty):
     made = '<div class="wide"><table data-csv="%s"><thead><tr>%s</tr></thead><tbody>%%s</tbody></table></div>'
     made %= name, "".join("<th>%s</th>" % it for it in head)
     lines = ["<tr>%s</tr>" % "".join('<td data-head="%s">%s</td>' % it for it in zip(head, row)) for row in rows]
-    first, more = made % "".join(lines[:SHOWN]), lines[SHOWN:]
+    shown = len(lines) if len(lines) <= SHOWN + FEW else SHOWN
+    first, more = made % "".join(lines[:shown]), lines[shown:]
     return first + ("<details><summary>%s more</summary>%s</details>" % (grouped(len(more)), made % "".join(more)) if more else "")
 
 
@@ -163,7 +166,7 @@ def state_of(it, now):
 
 
 def file_rows(desks, now):
-    """One row a file: of several desks the one that expires first."""
+    """One row a file: of several desks the one that expires first, which is named where another's expires later."""
     every = {}
     for desk in desks:
         for it in desk["files"]:
@@ -171,9 +174,17 @@ def file_rows(desks, now):
     for name, its in sorted(every.items(), key=lambda pair: min(it["expires"] for it in pair[1])):
         first, versions = min(its, key=lambda it: it["expires"]), sorted({it["version"] for it in its})
         state = state_of(first, now)
-        where = " at %s" % html.escape(first["desk"]) if len(its) > 1 else ""
+        where = " at %s" % html.escape(first["desk"]) if any(it["expires"] > first["expires"] for it in its) else ""
         told = "%d" % versions[0] if len(versions) == 1 else "%d to %d" % (versions[0], versions[-1])
         yield code(name), told, date(first["expires"]) + where, '<span class="tag %s">%s</span>' % state, code(first["by"]) if state[0] != "well" else ""
+
+
+def desk_rows(desks):
+    """What each desk accepted: one that vehicles no longer reach is seen here, as the others' newest moment is the page's."""
+    for it in desks:
+        seen = max((one["seen"] for one in it["vehicles"] if one["seen"] is not None), default=None)
+        last = "never" if seen is None else date(seen)
+        yield code(it["name"]), grouped(len(it["vehicles"])), last, grouped(it["day"]), grouped(it["kept"]), size(it["size"])
 
 
 def withheld_rows(vehicles):
@@ -245,7 +256,7 @@ def packed(vehicles, campaigns):
     return made.replace("<", "\\u003c").replace(">", "\\u003e").replace("&", "\\u0026")
 
 
-VEHICLES = """<p class="controls"><input id="search" type="search" placeholder="vehicle, ECU, hardware or file" aria-label="search">
+VEHICLES = """<p class="controls"><input id="search" type="search" placeholder="vehicle, ECU, hardware, file" aria-label="search">
 <select id="filter" aria-label="filter"><option value="all">all vehicles</option><option value="open">with an open assignment</option>
 <option value="withheld">withheld</option><option value="attack">report an attack</option><option value="silent">silent for a week</option>
 <option value="never">never seen</option></select>
@@ -257,10 +268,9 @@ VEHICLES = """<p class="controls"><input id="search" type="search" placeholder="
 
 def heading(desks, images, now):
     newest = max(it["newest"] for it in desks)
-    old = ", %s before now" % span(now - newest) if now - newest >= 120 else ""
     roots = sorted({it["meta"]["root"] for it in desks})
     grown = sum(it["day"] * it["size"] // it["kept"] for it in desks if it["kept"])
-    told = ["as of %s UTC%s" % (moment(newest), old), many(len(desks), "desk") if len(desks) > 1 else "",
+    told = ["as of %s UTC" % moment(newest), "made %s UTC" % moment(now), many(len(desks), "desk") if len(desks) > 1 else "",
             "root version %s of %d" % (" to ".join(map(str, {roots[0]: 0, roots[-1]: 0})), ROOTS), "%s of %s images" % (grouped(len(images)), grouped(IMAGES)),
             "%s in %s, %s a day" % (many(sum(it["kept"] for it in desks), "kept reply").replace("replys", "replies"), size(sum(it["size"] for it in desks)), size(grown)),
             "schema %s" % " and ".join(map(str, sorted({it["meta"]["schema"] for it in desks})))]
@@ -277,8 +287,13 @@ def parts(desks, now):
     yield tiles(vehicles, desks, now)
     yield '<h2 id="campaigns">Campaigns</h2>' + table("campaigns", heads, list(campaign_rows(running, newest)), "No campaign runs.")
     if closed:
-        yield "<details><summary>%s closed</summary>%s</details>" % (many(len(closed), "campaign"), table("closed", heads, list(campaign_rows(closed, newest)), ""))
+        # of those there is nothing over time, and no vehicle is left
+        ended = table("closed", heads[:4], list(campaign_rows(closed, newest)), "")
+        yield "<details><summary>%s closed</summary>%s</details>" % (many(len(closed), "campaign"), ended)
     yield '<h2 id="files">Files</h2>' + table("files", ["File", "Version", "Expires (UTC)", "Left", "Made anew by"], list(file_rows(desks, now)), "The repositories aren't founded.")
+    if len(desks) > 1:
+        heads = ["Desk", "Vehicles", "Last manifest (UTC)", "In the last day", "Kept replies", "Size"]
+        yield "<h2>Desks</h2>" + table("desks", heads, list(desk_rows(desks)), "")
     yield "<h2>Releases</h2>" + table("releases", ["Hardware", "Reported", "Release", "ECUs"], list(release_rows(vehicles, images)), "There are no vehicles.")
     yield "<h2>Withheld plans</h2>" + table("withheld", ["Vehicle", "Cause", "Seen (UTC)"], list(withheld_rows(vehicles)), "None.")
     yield "<h2>Attacks reported</h2>" + table("attacks", ["Vehicle", "ECU", "Its note", "Seen (UTC)"], list(attack_rows(vehicles)), "None.")

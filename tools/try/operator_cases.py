@@ -432,13 +432,43 @@ def pages(program, own):
     trials.printed(program, path, [fleet.line("bench", vehicle="new", primary="n", key=fleet.key(9), counter=1, reports=[attack])])
     made = page_of(path)
     yield "an attack's note is text", "<b>&" not in made and data_of(made)["vehicles"][0][4][0][4] == "</script><b>&"
-    late = page_of(path, NOW + 30 * 86400 + 5)
+    late = page_of(path, now=NOW + 30 * 86400 + 5)
     yield "expired files are told, at the top too", "expired 29 days ago" in late and "<b>2 files</b>expired" in late and "expired" not in made.split("<h2")[0]
+    yield from pages_of_several(program, own)
     other = own / "other"
     other.write_bytes(b"")
     ran = subprocess.run([sys.executable, TOOLS / "fleet_page.py", other], capture_output=True, check=False)
     yield "another file is refused", (ran.returncode, ran.stdout) == (1, b"") and ran.stderr.count(b"\n") == 1
     yield from other_schemas(path, own)
+
+
+def pages_of_several(program, own):
+    """Of several desks the page says of campaigns and vehicles what one desk's with all vehicles does."""
+    every = list(fleet.script(vehicles=24, ecus=3, rounds=6, campaigns=3, seed=3))
+    vehicle_of = lambda line: json.loads(line).get("vehicle")
+    home = {name: at % 3 for at, name in enumerate(sorted(set(filter(None, map(vehicle_of, every)))))}
+    copies = []
+    for desk in range(3):
+        lines = [line for line in every if home.get(vehicle_of(line), desk) == desk]
+        copies.append("desk%d=%s" % (desk, own / ("desk%d" % desk)))
+        trials.printed(program, own / ("desk%d" % desk), [reached(line, lambda name: home[name] == desk) for line in lines])
+    trials.printed(program, own / "alone", every)
+    one, several = page_of(own / "alone"), page_of(*copies)
+    campaigns = lambda page: page.split('<h2 id="campaigns">')[1].split('<h2 id="files">')[0]
+    yield "a campaign of several desks is as it would be of one", campaigns(one) == campaigns(several) and one.count("<svg") > 1
+    listed = lambda page: [it[:5] for it in data_of(page)["vehicles"]]
+    yield "and so are the vehicles", listed(one) == listed(several) and len(listed(one)) == 24
+    table = several.split("<h2>Desks</h2>")[1].split("<h2>")[0]
+    rows = re.findall("<code.*?>(desk.)</code></td>.*?>([0-9]+)</td>", table)
+    yield "each desk has a row", rows == [("desk%d" % at, "8") for at in range(3)] and "Desks" not in one
+
+
+def reached(line, whether):
+    """The line, in which a campaign reaches only such vehicles."""
+    told = json.loads(line)
+    if told["do"] != "open_campaign" or told["vehicles"] == "all":
+        return line
+    return json.dumps(told | {"vehicles": list(filter(whether, told["vehicles"]))})
 
 
 def date_of(seconds):
@@ -469,8 +499,8 @@ def unlike(lines):
         yield fleet.line("deliver", last["at"], body=fleet.body(last | {"counter": last["counter"] + 9, "reports": reports}))
 
 
-def page_of(path, now=NOW + 4 * 3600):
-    ran = subprocess.run([sys.executable, TOOLS / "fleet_page.py", path, "--now", str(now)], capture_output=True, check=False)
+def page_of(*copies, now=NOW + 4 * 3600):
+    ran = subprocess.run([sys.executable, TOOLS / "fleet_page.py", *copies, "--now", str(now)], capture_output=True, check=False)
     return ran.stdout.decode("ascii") if not ran.returncode and not ran.stderr else ""
 
 
