@@ -243,7 +243,10 @@ def ends():
     hook.write_text('#!/bin/sh\necho "$1" > /run/failed\n', "ascii")
     hook.chmod(0o755)
     wrong = changed(served_so(0)) and ran("systemctl", "restart", UNIT) and until(lambda: shown("ActiveState") == "failed")
-    yield "wrong words aren't tried again", wrong and (shown("ExecMainStatus"), shown("NRestarts")) == ("2", "0")
+    # (those before, behind the last of the connections, may be among them)
+    tries = shown("NRestarts")
+    time.sleep(4)
+    yield "wrong words aren't tried again", wrong and (shown("ExecMainStatus"), shown("NRestarts"), shown("ActiveState")) == ("2", tries, "failed")
     yield "where it failed, that is told", until(lambda: Path("/run/failed").exists()) and Path("/run/failed").read_text("ascii") == UNIT + "\n"
     yield "its own words again", changed("") and well("systemctl", "restart", UNIT) and delivered(kept[-1][0]) == kept[-1][1]
     yield "a stop", well("systemctl", "stop", UNIT) and shown("ActiveState") == "inactive" and trials.faults(FILE) == []
