@@ -1,0 +1,141 @@
+//! One run of a section at a desk over a machine's files, which may stop.
+ghost use Rattle.std.specs.Prelude.{◌≡◌, false};
+ghost use Rattle.sqlite.specs.Held.{state};
+
+use crate::machine::Machine;
+use crate::rows::{Before, Ended, all_of, carried_out, so_many};
+use sqlite::{Alter, Connection, FileStore, Files, Options};
+use sqlite_disk::Crash;
+use std::alloc::{AllocError, Global};
+use up_desk::desk::Desk;
+use up_sign::hmac_sha256::HmacSha256;
+use up_store::store::{OpenFault, Store};
+
+/// Opens the machine's files, carries out the section at a desk over them, and closes them: how that ended.
+pub(crate) fn run<D: Crash + Drop>(
+    alloc: Global,
+    machine: &mut Machine<D>,
+    section: &str,
+    before: Before,
+) -> Result<Ended, AllocError> {
+    match machine.take() {
+        Some(files) => run_over(alloc, machine, section, before, files),
+        None => Ok(Ended::Other("the files are lost".to_string(alloc)?)),
+    }
+}
+
+fn run_over<D: Crash + Drop>(
+    alloc: Global,
+    machine: &mut Machine<D>,
+    section: &str,
+    before: Before,
+    files: Files<D>,
+) -> Result<Ended, AllocError> {
+    match opened(alloc, files) {
+        Ok(conn) => run_within(alloc, machine, section, before, conn),
+        Err(files) => Ok(stopped(machine, files, so_many(0, 0))),
+    }
+}
+
+/// A connection over the files, or what is left of files that stop.
+fn opened<D: Crash + Drop>(
+    alloc: Global,
+    files: Files<D>,
+) -> Result<Connection<FileStore<D>>, Files<D>> {
+    if !files.log.may_be_used() || !files.db.may_be_used() {
+        return Err(files);
+    }
+    match Connection::open_files(alloc, files, options()) {
+        Ok(conn) => Ok(conn),
+        Err((_, left)) => Err(left.into_files()),
+    }
+}
+
+/// A cache of few pages: each opening clears the whole of it, and these tables are small.
+fn options() -> Options {
+    Options {
+        cache_pages: 64,
+        ..Options::new(1)
+    }
+}
+
+fn stopped<D: Crash + Drop>(machine: &mut Machine<D>, files: Files<D>, before: Before) -> Ended {
+    machine.keep(files);
+    Ended::Stopped(before)
+}
+
+fn run_within<D: Crash + Drop>(
+    alloc: Global,
+    machine: &mut Machine<D>,
+    section: &str,
+    before: Before,
+    conn: Connection<FileStore<D>>,
+) -> Result<Ended, AllocError> {
+    match tables_in(conn) {
+        Ok(store) => run_at(alloc, machine, section, before, store),
+        Err(conn) => Ok(stopped(machine, conn.into_store().close(), so_many(0, 0))),
+    }
+}
+
+/// The tables in a database, which are created where there are none; or the connection, where the files stop.
+fn tables_in<S: Alter + Drop>(conn: Connection<S>) -> Result<Store<S>, Connection<S>> {
+    if !conn.is_autocommit() {
+        return Err(conn);
+    }
+    match Store::adopt(conn) {
+        Ok(store) => Ok(store),
+        Err((conn, OpenFault::NotOurs)) => created(conn),
+        Err((conn, _)) => Err(conn),
+    }
+}
+
+fn created<S: Alter + Drop>(conn: Connection<S>) -> Result<Store<S>, Connection<S>>
+    requires { (state S.Store conn).in_transaction ≡ false }
+{
+    match Store::create(conn) {
+        Ok(store) => Ok(store),
+        Err((conn, _)) => Err(conn),
+    }
+}
+
+fn run_at<D: Crash + Drop>(
+    alloc: Global,
+    machine: &mut Machine<D>,
+    section: &str,
+    before: Before,
+    store: Store<FileStore<D>>,
+) -> Result<Ended, AllocError> {
+    let mut desk = Desk::new(HmacSha256, store);
+    let ended = carried_out(alloc, &mut desk, section, before);
+    closed(machine, section, ended, desk.release().release())
+}
+
+/// Closes the connection behind a whole run, and lets go of the files behind another.
+fn closed<D: Crash + Drop>(
+    machine: &mut Machine<D>,
+    section: &str,
+    ended: Result<Ended, AllocError>,
+    conn: Connection<FileStore<D>>,
+) -> Result<Ended, AllocError> {
+    match ended {
+        Ok(Ended::Whole) => Ok(closed_whole(machine, section, conn)),
+        ended => {
+            machine.keep(conn.into_store().close());
+            ended
+        }
+    }
+}
+
+fn closed_whole<D: Crash + Drop>(
+    machine: &mut Machine<D>,
+    section: &str,
+    conn: Connection<FileStore<D>>,
+) -> Ended {
+    match conn.close_files() {
+        Ok(files) => {
+            machine.keep(files);
+            Ended::Whole
+        }
+        Err((_, store)) => stopped(machine, store.close(), all_of(section)),
+    }
+}
