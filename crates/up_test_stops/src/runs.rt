@@ -64,6 +64,7 @@ fn stopped<D: Crash + Drop>(machine: &mut Machine<D>, files: Files<D>, before: B
     Ended::Stopped(before)
 }
 
+/// Carries out the section within the database of a connection, and closes that.
 fn run_within<D: Crash + Drop>(
     alloc: Global,
     machine: &mut Machine<D>,
@@ -71,14 +72,25 @@ fn run_within<D: Crash + Drop>(
     before: Before,
     conn: Connection<FileStore<D>>,
 ) -> Result<Ended, AllocError> {
+    let (ended, conn) = carried_out_in(alloc, section, before, conn);
+    closed(machine, section, ended, conn)
+}
+
+/// How the section ended at a desk over the tables of a database, and the connection.
+fn carried_out_in<S: Alter>(
+    alloc: Global,
+    section: &str,
+    before: Before,
+    conn: Connection<S>,
+) -> (Result<Ended, AllocError>, Connection<S>) {
     match tables_in(conn) {
-        Ok(store) => run_at(alloc, machine, section, before, store),
-        Err(conn) => Ok(stopped(machine, conn.into_store().close(), so_many(0, 0))),
+        Ok(store) => carried_out_at(alloc, section, before, store),
+        Err(conn) => (Ok(Ended::Stopped(so_many(0, 0))), conn),
     }
 }
 
 /// The tables in a database, which are created where there are none; or the connection, where the files stop.
-fn tables_in<S: Alter + Drop>(conn: Connection<S>) -> Result<Store<S>, Connection<S>> {
+fn tables_in<S: Alter>(conn: Connection<S>) -> Result<Store<S>, Connection<S>> {
     if !conn.is_autocommit() {
         return Err(conn);
     }
@@ -89,7 +101,7 @@ fn tables_in<S: Alter + Drop>(conn: Connection<S>) -> Result<Store<S>, Connectio
     }
 }
 
-fn created<S: Alter + Drop>(conn: Connection<S>) -> Result<Store<S>, Connection<S>>
+fn created<S: Alter>(conn: Connection<S>) -> Result<Store<S>, Connection<S>>
     requires { (state S.Store conn).in_transaction ≡ false }
 {
     match Store::create(conn) {
@@ -98,16 +110,15 @@ fn created<S: Alter + Drop>(conn: Connection<S>) -> Result<Store<S>, Connection<
     }
 }
 
-fn run_at<D: Crash + Drop>(
+fn carried_out_at<S: Alter>(
     alloc: Global,
-    machine: &mut Machine<D>,
     section: &str,
     before: Before,
-    store: Store<FileStore<D>>,
-) -> Result<Ended, AllocError> {
+    store: Store<S>,
+) -> (Result<Ended, AllocError>, Connection<S>) {
     let mut desk = Desk::new(HmacSha256, store);
     let ended = carried_out(alloc, &mut desk, section, before);
-    closed(machine, section, ended, desk.release().release())
+    (ended, desk.release().release())
 }
 
 /// Closes the connection behind a whole run, and lets go of the files behind another.
@@ -120,10 +131,15 @@ fn closed<D: Crash + Drop>(
     match ended {
         Ok(Ended::Whole) => Ok(closed_whole(machine, section, conn)),
         ended => {
-            machine.keep(conn.into_store().close());
+            let_go(machine, conn);
             ended
         }
     }
+}
+
+/// Takes the files back from a connection that isn't closed.
+fn let_go<D: Crash + Drop>(machine: &mut Machine<D>, conn: Connection<FileStore<D>>) {
+    machine.keep(conn.into_store().close());
 }
 
 fn closed_whole<D: Crash + Drop>(
