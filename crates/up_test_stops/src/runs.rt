@@ -64,7 +64,13 @@ fn stopped<D: Crash + Drop>(machine: &mut Machine<D>, files: Files<D>, before: B
     Ended::Stopped(before)
 }
 
-/// Carries out the section within the database of a connection, and closes that.
+/// What a run leaves: a connection behind a whole one, and behind another how it ended and what it had of the files.
+enum Left<S: Alter> {
+    Whole(Connection<S>),
+    Cut(Result<Ended, AllocError>, S),
+}
+
+/// Carries out the section within the database of a connection. Only a whole run closes that.
 fn run_within<D: Crash + Drop>(
     alloc: Global,
     machine: &mut Machine<D>,
@@ -72,20 +78,24 @@ fn run_within<D: Crash + Drop>(
     before: Before,
     conn: Connection<FileStore<D>>,
 ) -> Result<Ended, AllocError> {
-    let (ended, conn) = carried_out_in(alloc, section, before, conn);
-    closed(machine, section, ended, conn)
+    match carried_out_in(alloc, section, before, conn) {
+        Left::Whole(conn) => Ok(closed(machine, section, conn)),
+        Left::Cut(ended, store) => {
+            machine.keep(store.close());
+            ended
+        }
+    }
 }
 
-/// How the section ended at a desk over the tables of a database, and the connection.
-fn carried_out_in<S: Alter>(
+fn carried_out_in<S: Alter + Drop>(
     alloc: Global,
     section: &str,
     before: Before,
     conn: Connection<S>,
-) -> (Result<Ended, AllocError>, Connection<S>) {
+) -> Left<S> {
     match tables_in(conn) {
         Ok(store) => carried_out_at(alloc, section, before, store),
-        Err(conn) => (Ok(Ended::Stopped(so_many(0, 0))), conn),
+        Err(conn) => Left::Cut(Ok(Ended::Stopped(so_many(0, 0))), conn.into_store()),
     }
 }
 
@@ -110,39 +120,27 @@ fn created<S: Alter>(conn: Connection<S>) -> Result<Store<S>, Connection<S>>
     }
 }
 
-fn carried_out_at<S: Alter>(
+/// Carries out the section at a desk over the tables.
+fn carried_out_at<S: Alter + Drop>(
     alloc: Global,
     section: &str,
     before: Before,
     store: Store<S>,
-) -> (Result<Ended, AllocError>, Connection<S>) {
+) -> Left<S> {
     let mut desk = Desk::new(HmacSha256, store);
     let ended = carried_out(alloc, &mut desk, section, before);
-    (ended, desk.release().release())
+    left_behind(ended, desk.release().release())
 }
 
-/// Closes the connection behind a whole run, and lets go of the files behind another.
-fn closed<D: Crash + Drop>(
-    machine: &mut Machine<D>,
-    section: &str,
-    ended: Result<Ended, AllocError>,
-    conn: Connection<FileStore<D>>,
-) -> Result<Ended, AllocError> {
+fn left_behind<S: Alter + Drop>(ended: Result<Ended, AllocError>, conn: Connection<S>) -> Left<S> {
     match ended {
-        Ok(Ended::Whole) => Ok(closed_whole(machine, section, conn)),
-        ended => {
-            let_go(machine, conn);
-            ended
-        }
+        Ok(Ended::Whole) => Left::Whole(conn),
+        ended => Left::Cut(ended, conn.into_store()),
     }
 }
 
-/// Takes the files back from a connection that isn't closed.
-fn let_go<D: Crash + Drop>(machine: &mut Machine<D>, conn: Connection<FileStore<D>>) {
-    machine.keep(conn.into_store().close());
-}
-
-fn closed_whole<D: Crash + Drop>(
+/// Closes the connection, whose files may stop in that.
+fn closed<D: Crash + Drop>(
     machine: &mut Machine<D>,
     section: &str,
     conn: Connection<FileStore<D>>,
