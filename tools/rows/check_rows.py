@@ -31,7 +31,7 @@ PRIMARY = EXAMPLES / "primary"
 REFERENCE = trials.TOP / "tools" / "oracle" / "reference.py"
 CARRIES = trials.TOP / "crates" / "up_test_worked_rows"
 COMPUTED = [("texts", "rows/expected_texts.py"), ("decisions", "rows/expected_decisions.py"), ("the store", "rows/expected_store.py"),
-            ("streams", "rows/expected_streams.py"), ("lines", "try/each_line.py", "wanted")]
+            ("streams", "rows/expected_streams.py"), ("stops", "rows/expected_stops.py"), ("lines", "try/each_line.py", "wanted")]
 
 
 def read(path):
