@@ -809,8 +809,12 @@ class Verdicts(OnATree):
         all_kinds = self.begun({**self.REAL, **self.HARMLESS, **self.BROKEN}, "low")
         real = self.begun(self.REAL, "low")
         drawn = self.begun({**self.REAL, **self.HARMLESS}, "--drawn", "a word")
-        self.assertEqual(self.ended(*all_kinds), (1, wanted, "2 passed, 6 failed", []))
-        self.assertEqual(self.ended(*real), (0, {name: "refused" for name in self.REAL}, "2 passed, 0 failed", ["low"]))
+        apart = self.begun({**self.REAL, **self.HARMLESS, **self.BROKEN}, "--apart", "low")
+        real_apart = self.begun(self.REAL, "--apart", "low")
+        for it in (all_kinds, apart):
+            self.assertEqual(self.ended(*it), (1, wanted, "2 passed, 6 failed", []))
+        for it in (real, real_apart):
+            self.assertEqual(self.ended(*it), (0, {name: "refused" for name in self.REAL}, "2 passed, 0 failed", ["low"]))
         known = {name: wanted[name] for name in (*self.REAL, *self.HARMLESS)}
         self.assertEqual(self.ended(*drawn), (1, known, "2 passed, 2 failed", []))
 
