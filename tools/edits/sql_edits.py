@@ -199,7 +199,7 @@ class Database:
         values = [vehicle, first, number(version), number(counter)]
         if self.run("upsert_vehicle", *values) != [tuple(values)]:
             raise Refused
-        self.each_ecu("upsert_ecu", vehicle, ecus)
+        self.each_ecu("update_ecu", vehicle, ecus)
         words = split(kept, 8)
         self.run("insert_kept", words[0], *map(number, words[1:5]), *words[5:])
 

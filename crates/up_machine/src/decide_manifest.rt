@@ -57,7 +57,13 @@ impl<'a> Model for DeliveryRows<'a> {
 
     ghost coded = { Prim.hlevel (codes, table.code) };
 
-    ghost view = { λ a. record { founding = option_copied a.founding; vehicle = option_copied a.vehicle; kept = option_copied a.kept; images = a.images.now; campaigns = a.campaigns.now } };
+    ghost view = { λ a. record {
+      founding = option_copied a.founding;
+      vehicle = option_copied a.vehicle;
+      kept = option_copied a.kept;
+      images = a.images.now;
+      campaigns = a.campaigns.now;
+    } };
 }
 
 /// Decides on a manifest, as it was read, at a command's moment: `NotFounded`; `UnknownVehicle`; `WrongPrimary`;

@@ -76,7 +76,12 @@ impl Model for Campaign {
 
     ghost view = { λ a. record { name = a.name; reach = a.reach; items = a.items; running = a.running } };
 
-    ghost invariant = { λ a. campaign_fits (record { name = a.name; reach = a.reach; items = a.items; running = a.running }) ≡ true };
+    ghost invariant = { λ a. campaign_fits (record {
+      name = a.name;
+      reach = a.reach;
+      items = a.items;
+      running = a.running;
+    }) ≡ true };
 }
 
 impl Campaign {

@@ -49,9 +49,27 @@ impl Model for Image {
 
     ghost Value = { ImageData };
 
-    ghost view = { λ a. record { file = a.file; length = a.length; sha256 = a.sha256; sha512 = a.sha512; hardware = a.hardware; release = a.release; needs = a.needs; conflicts = a.conflicts } };
+    ghost view = { λ a. record {
+      file = a.file;
+      length = a.length;
+      sha256 = a.sha256;
+      sha512 = a.sha512;
+      hardware = a.hardware;
+      release = a.release;
+      needs = a.needs;
+      conflicts = a.conflicts;
+    } };
 
-    ghost invariant = { λ a. image_fits (record { file = a.file; length = a.length; sha256 = a.sha256; sha512 = a.sha512; hardware = a.hardware; release = a.release; needs = a.needs; conflicts = a.conflicts }) ≡ true };
+    ghost invariant = { λ a. image_fits (record {
+      file = a.file;
+      length = a.length;
+      sha256 = a.sha256;
+      sha512 = a.sha512;
+      hardware = a.hardware;
+      release = a.release;
+      needs = a.needs;
+      conflicts = a.conflicts;
+    }) ≡ true };
 }
 
 impl Image {

@@ -32,7 +32,14 @@ impl<'a> Model for Resulting<'a> {
 
     ghost Value = { Seen };
 
-    ghost view = { λ a. record { ecu = a.ecu.now; hardware = a.hardware.now; updated = a.updated; file = a.file.now; level = a.level; image = option_copied a.image } };
+    ghost view = { λ a. record {
+      ecu = a.ecu.now;
+      hardware = a.hardware.now;
+      updated = a.updated;
+      file = a.file.now;
+      level = a.level;
+      image = option_copied a.image;
+    } };
 }
 
 pub(crate) fn resulting_set<'a>(

@@ -29,7 +29,8 @@ impl<T: Limit + Drop, S: TrySource + Drop> Source for Bounded<T, S> {
 
     ghost can_read = { λ bounded. S.can_read bounded.inner × T.can_check bounded.limit };
 
-    ghost has_failed = { λ bounded. S.has_failed bounded.inner ⊎ (T.has_run_out bounded.limit × S.can_read bounded.inner) };
+    ghost has_failed = { λ bounded. S.has_failed bounded.inner
+        ⊎ (T.has_run_out bounded.limit × S.can_read bounded.inner) };
 
     ghost has_ended = { λ bounded. S.has_ended bounded.inner };
 
@@ -64,7 +65,8 @@ impl<T: Limit + Drop, S: TrySink + Drop> Sink for Bounded<T, S> {
 
     ghost can_write = { λ bounded. S.can_write bounded.inner × T.can_check bounded.limit };
 
-    ghost has_failed = { λ bounded. S.has_failed bounded.inner ⊎ (T.has_run_out bounded.limit × S.can_write bounded.inner) };
+    ghost has_failed = { λ bounded. S.has_failed bounded.inner
+        ⊎ (T.has_run_out bounded.limit × S.can_write bounded.inner) };
 
     /// Writes as the inner one does, by one call of it, or by up to 1,000 where a signal interrupted those before. The limit is
     /// asked before each.

@@ -38,7 +38,8 @@ impl<F: FnMut() -> io::Result<Duration> + Drop> Limit for Since<F> {
 
     ghost can_check = { λ since. F.IsAlwaysCallable since.passed };
 
-    ghost checks = { λ old told new. (passed : _) × F.step old.passed passed new.passed × (IsOk told ↔ IsInTime passed) };
+    ghost checks = { λ old told new. (passed : _) × F.step old.passed passed new.passed
+        × (IsOk told ↔ IsInTime passed) };
 
     ghost has_run_out = { λ _. ⊤ };
 

@@ -84,7 +84,7 @@ pub use Rattle.up_tables.specs.Stands.{Alters, AnyRows, AreWith, GoesOn, HasNoTa
 pub use Rattle.up_tables.specs.Statements.{AltersRows, BlamesDisk, HasVehicle, HoldsBy, HoldsOfAll, HoldsOfFiles, IsOpenStep, SetsEcu, WhereInside}
 pub use Rattle.up_tables.specs.Stored.{AllWritten, AreLines, EachSays, IsLine, IsTold, IsWritten, Tells, Written}
 pub use Rattle.up_tables.specs.Tables.{campaign_table, ecu_table, image_sha512_table, image_table, kept_table, meta_table, repo_file_table, retired_table, role_key_table, up_schema, vehicle_table}
-pub use Rattle.up_tables.specs.Texts.{insert_campaign_text, insert_ecu_text, insert_image_text, insert_kept_text, insert_retired_text, insert_role_key_text, insert_sha512_text, insert_vehicle_text, replace_ecu_text, upsert_ecu_text, upsert_file_text, upsert_vehicle_text}
+pub use Rattle.up_tables.specs.Texts.{insert_campaign_text, insert_ecu_text, insert_image_text, insert_kept_text, insert_retired_text, insert_role_key_text, insert_sha512_text, insert_vehicle_text, replace_ecu_text, update_ecu_text, upsert_file_text, upsert_vehicle_text}
 pub use Rattle.up_tables.specs.Tried.{BlamesOne, Makes, Ran}
 pub use Rattle.up_tables.specs.declared.meta.MetaRow.{MetaRow}
 pub use Rattle.up_tables.specs.declared.values.StoreFault.{StoreFault}

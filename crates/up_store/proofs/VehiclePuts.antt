@@ -1,7 +1,7 @@
 -- A vehicle is put into the tables, with its ECUs.
 use Rattle.std.proofs.Common.{◌≡◌, ◌+◌, ℕ, zero, suc, List, [], ◌∷◌, ◌++◌, Some, Result, Ok, Err, OnOk, IsTrue, length, map, slice_get, refl, sym, ap, subst, subst₂, ◌∙◌, arith, zero-add}
 use Rattle.std.specs.FinMap as table
-use Rattle.up_store.proofs.Common.{AllByRecursion, Row, Connected, Name, EcuRow, VehicleRow, VehicleRows, with_vehicle_rows, StateRows, StoreFault, VehicleShown, vehicle_row, EcuLine, ecu_row, vehicle_line, changed_at, with_row, MutBor, Held, Ghosts, AltersRows, SetsEcu, IsWritten, insert_ecu_text, upsert_ecu_text, IsWithin, GoesOn, HasTables, Alters, Lists, up_schema, vehicle_table, ecu_table, goes_on, lists_vehicles, lists_ecus, IsNewVehicle, vehicle_lines, ecu_line, ecu_lines, ecus_lines, ListsRows, table_rows, vehicle_read, IsTypedEcu, IsTypedVehicleRow}
+use Rattle.up_store.proofs.Common.{AllByRecursion, Row, Connected, Name, EcuRow, VehicleRow, VehicleRows, with_vehicle_rows, StateRows, StoreFault, VehicleShown, vehicle_row, EcuLine, ecu_row, vehicle_line, changed_at, with_row, MutBor, Held, Ghosts, AltersRows, SetsEcu, IsWritten, insert_ecu_text, update_ecu_text, IsWithin, GoesOn, HasTables, Alters, Lists, up_schema, vehicle_table, ecu_table, goes_on, lists_vehicles, lists_ecus, IsNewVehicle, vehicle_lines, ecu_line, ecu_lines, ecus_lines, ListsRows, table_rows, vehicle_read, IsTypedEcu, IsTypedVehicleRow}
 use Rattle.up_store.proofs.Alike.{lists_as, alters_as}
 use Rattle.up_store.proofs.Inserted.{changed_inserted, row_inserted}
 use Rattle.up_store.proofs.TypedRows.{typed_vehicle}
@@ -21,9 +21,9 @@ length-ecu_lines vehicle from [] = refl
 length-ecu_lines vehicle from (row ∷ rows) = ap suc (length-ecu_lines vehicle (suc from) rows)
 
 -- a statement on the line that is the row's
-pub as_set : {S A : Type 0} (g : Ghosts S) (a e : EcuLine) → a ≡ e → (old new : MutBor (Held S)) (r : Result A StoreFault) → IsWritten g upsert_ecu_text (ecu_row a) (SetsEcu a) old new r
-    → IsWritten g upsert_ecu_text (ecu_row e) (SetsEcu e) old new r
-as_set g a e is old new r h = subst (λ x. IsWritten g upsert_ecu_text (ecu_row x) (SetsEcu x) old new r) is h
+pub as_set : {S A : Type 0} (g : Ghosts S) (a e : EcuLine) → a ≡ e → (old new : MutBor (Held S)) (r : Result A StoreFault) → IsWritten g update_ecu_text (ecu_row a) (SetsEcu a) old new r
+    → IsWritten g update_ecu_text (ecu_row e) (SetsEcu e) old new r
+as_set g a e is old new r h = subst (λ x. IsWritten g update_ecu_text (ecu_row x) (SetsEcu x) old new r) is h
 
 pub as_added : {S A : Type 0} (g : Ghosts S) (given name : List ℕ) (a e : EcuLine) → given ≡ name → a ≡ e → (old new : MutBor (Held S)) (r : Result A StoreFault)
     → IsWritten g insert_ecu_text (ecu_row a) (AltersRows ecu_table 2 (with_row given (ecu_row a))) old new r → IsWritten g insert_ecu_text (ecu_row e) (AltersRows ecu_table 2 (with_row name (ecu_row e))) old new r

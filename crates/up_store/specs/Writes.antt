@@ -18,7 +18,7 @@ use Rattle.up_rows.specs.Changes.{with_campaign_row, with_accepted_rows}
 use Rattle.up_rows.specs.StateRows.{StateRows}
 use Rattle.up_tables.specs.Lines.{retired_line}
 use Rattle.up_tables.specs.Texts.{insert_image_text, insert_sha512_text, insert_campaign_text, close_campaign_text, insert_vehicle_text}
-use Rattle.up_tables.specs.Texts.{insert_retired_text, insert_kept_text, update_meta_text, replace_ecu_text, insert_ecu_text, upsert_ecu_text}
+use Rattle.up_tables.specs.Texts.{insert_retired_text, insert_kept_text, update_meta_text, replace_ecu_text, insert_ecu_text, update_ecu_text}
 use Rattle.up_tables.specs.Texts.{insert_role_key_text, upsert_file_text, upsert_vehicle_text}
 use Rattle.up_tables.specs.Tried.{Makes, RefusesOne}
 use Rattle.up_tables.specs.declared.values.StoreFault.{StoreFault}
@@ -73,7 +73,7 @@ vehicle_writes new =
 -- the same of a vehicle that is there
 abbrev pub reported_writes : VehicleRows → List (List ℕ × Row)
 reported_writes new =
-    each_with upsert_vehicle_text (vehicle_lines (Some new)) ++ each_with upsert_ecu_text (ecus_lines new.vehicle.vehicle (Some new))
+    each_with upsert_vehicle_text (vehicle_lines (Some new)) ++ each_with update_ecu_text (ecus_lines new.vehicle.vehicle (Some new))
 
 -- what was reported, and the row that is kept
 abbrev pub accept_writes : AcceptedRows → List (List ℕ × Row)

@@ -12,7 +12,7 @@ ghost use Rattle.up_tables.specs.Rows.{changed_at};
 ghost use Rattle.up_tables.specs.Statements.{AltersRows, SetsEcus, WhereOpen};
 ghost use Rattle.up_tables.specs.Stored.{AreWritten};
 ghost use Rattle.up_tables.specs.Tables.{ecu_table};
-ghost use Rattle.up_tables.specs.Texts.{insert_ecu_text, upsert_ecu_text};
+ghost use Rattle.up_tables.specs.Texts.{insert_ecu_text, update_ecu_text};
 ghost use Rattle.up_store.specs.Lines.{ecu_line, ecu_lines};
 ghost use Rattle.up_store.specs.ReadAs.{IsPartlyNull, SaysInstalled};
 ghost use Rattle.up_store.specs.Shown.{reported_sha512};
@@ -28,7 +28,7 @@ use up_canon::text::Text;
 use up_machine::rows::EcuRow;
 use up_manifest::manifest_read::report_sha512;
 use up_manifest::report::Installed;
-use up_tables::ecu::{EcuRow as EcuShown, Installed as InstalledShown, insert_ecu, upsert_ecu};
+use up_tables::ecu::{EcuRow as EcuShown, Installed as InstalledShown, insert_ecu, update_ecu};
 use up_tables::reading::RowReading;
 use up_tables::values::{bytes_at, is_null};
 
@@ -153,13 +153,13 @@ pub(crate) fn set_ecus<D: Alter>(
     ecus: &[EcuRow],
 ) -> Result<(), StoreFault>
     requires few { length ecus.now < 2 ^ 63 }
-    ensures set { WhereOpen D.Store tx.old.conn (AreWritten D.Store (map (λ e. (upsert_ecu_text, ecu_row e))
+    ensures set { WhereOpen D.Store tx.old.conn (AreWritten D.Store (map (λ e. (update_ecu_text, ecu_row e))
         (ecu_lines vehicle.now 0 ecus.now)) (λ _. ⊤) (SetsEcus vehicle.now (ecu_lines vehicle.now 0 ecus.now))
         tx.old.conn tx.new.conn result) }
     ensures typed { OnOk result (AllByRecursion IsTypedEcu ecus.now) }
 {
     for (place, row) in ecus.iter().enumerate() {
-        upsert_ecu(tx, vehicle.text(), place as u64, &ecu_of(row))?;
+        update_ecu(tx, vehicle.text(), place as u64, &ecu_of(row))?;
     }
     Ok(())
 }

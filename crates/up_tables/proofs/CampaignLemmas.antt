@@ -15,7 +15,7 @@ use Rattle.up_tables.specs.Rows.{columns_at, has_number, has_text}
 use Rattle.up_tables.proofs.AnswerLemmas.{all_columns, equals_int}
 use Rattle.up_tables.proofs.Casts.{cast_int, cast_null}
 use Rattle.up_tables.proofs.EcuRows.{text_is, column_after}
-use Rattle.up_tables.proofs.EcuUpsert.{equals}
+use Rattle.up_tables.proofs.EcuUpdate.{equals}
 use Rattle.up_tables.specs.Tables.{campaign_table}
 use Rattle.up_tables.specs.Forms.{campaign_row, campaign_places}
 use Rattle.up_tables.specs.Lines.{yes_or_no}

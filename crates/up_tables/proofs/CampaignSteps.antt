@@ -29,7 +29,7 @@ use Rattle.up_tables.specs.Lines.{campaign_line}
 use Rattle.up_tables.specs.Stands.{Lists, IfClean, IsInside, Alters, HasTables}
 use Rattle.up_tables.proofs.AnswerLemmas.{over, answer_is, shows_passing, equals_text}
 use Rattle.up_tables.proofs.Casts.{cast_int}
-use Rattle.up_tables.proofs.EcuUpsert.{equals}
+use Rattle.up_tables.proofs.EcuUpdate.{equals}
 use Rattle.up_tables.proofs.EcuSteps.{row_in}
 use Rattle.up_tables.proofs.EcuRows.{text_is, own_text}
 use Rattle.up_tables.proofs.OnlyLemmas.{alone, rewritten_shaped, rewritten_parts}

@@ -19,7 +19,7 @@ use Rattle.up_tables.proofs.ByNameLemmas.{listed_in}
 use Rattle.up_tables.proofs.Casts.{cast_null}
 use Rattle.up_tables.proofs.EcuRows.{text_is}
 use Rattle.up_tables.proofs.EcuSets.{lists_same}
-use Rattle.up_tables.proofs.EcuUpsert.{terms, casts}
+use Rattle.up_tables.proofs.EcuUpdate.{terms, casts}
 use Rattle.up_tables.proofs.InsertLemmas.{inserts_in}
 use Rattle.up_tables.proofs.RefusalLemmas.{Writes}
 use Rattle.up_tables.proofs.OthersLemmas.{alters_to, alters_none, has_after, alters_then}

@@ -12,52 +12,52 @@ use Rattle.sqlite_rules.specs.Lists.{Has}
 use Rattle.sqlite_trees.specs.View.{IsShaped}
 use Rattle.sqlite_trees.specs.declared.store.Shape.TheVariants.{Table}
 use Rattle.up_tables.specs.Tables.{up_schema, ecu_table}
-use Rattle.up_tables.specs.Texts.{upsert_ecu_text}
+use Rattle.up_tables.specs.Texts.{update_ecu_text}
 use Rattle.up_tables.specs.Rows.{has_text, rows_with, changed_at}
 use Rattle.up_tables.specs.Stands.{Lists, IfClean, IsInside, IsOpen, Alters, HasTables}
 use Rattle.up_tables.specs.Lines.{EcuLine, ecu_row, IsKept, IsSameEcu, swapped, set_ecu, AreSameEcus, AreDistinct, IsRecorded, AreRecorded, set_first, set_ecus}
 use Rattle.up_tables.proofs.EcuRows.{text_is, own_text, same_text, swapped_parts, swapped_shaped}
 use Rattle.up_tables.proofs.OthersLemmas.{alters_to, alters_none, has_after, alters_then}
 use Rattle.up_tables.proofs.RunLemmas.{IsRun, run_in, then_ok, run_alters}
-use Rattle.up_tables.proofs.EcuSteps.{row_in, keyed_id, upserts_ecu}
+use Rattle.up_tables.proofs.EcuSteps.{row_in, keyed_id, updates_ecu}
 
 -- ---- one row
 
 sets_ecu : (old new : State) (e was : EcuLine) (rows_of : List ℕ → List Row) (count : ℕ) → old.now.schema ≡ up_schema → IsDatabase old.now → IsKept e → IsRecorded e was rows_of (old.now.trees ecu_table.tree)
-    → Executes upsert_ecu_text (ecu_row e) old new (Ok count)
+    → Executes update_ecu_text (ecu_row e) old new (Ok count)
     → (new.now.schema ≡ up_schema) × IsDatabase new.now × Lists 2 (set_ecu e rows_of) (new.now.trees ecu_table.tree) × AllByRecursion (λ t. t.tree ≢ 11 → new.now.trees t.tree ≡ old.now.trees t.tree) up_schema.tables
 sets_ecu old new e was rows_of count has sound kept recorded h =
     let rows = old.now.trees ecu_table.tree in
     let lists = recorded.lists in
     let alike = recorded.same in
     let it = row_in 2 e.vehicle rows (ecu_row was) lists.shaped (subst (λ xs. Has xs (ecu_row was)) (sym (lists.parts e.vehicle)) recorded.there) in
-    let done = upserts_ecu old new was e it.0 count has sound lists.shaped kept alike it.1 h in
+    let done = updates_ecu old new was e it.0 count has sound lists.shaped kept alike it.1 h in
     let is_sound : IsSound up_schema old.now.trees = subst (λ s. IsSound s old.now.trees) has sound in
     let group : has_text 2 e.vehicle (Int it.0 ∷ ecu_row was) ≡ true = ap (λ v. has_text 2 e.vehicle (Int it.0 ∷ Text was.ecu ∷ Text v ∷ [])) alike.vehicle ∙ text_is e.vehicle e.vehicle ∙ own_text e.vehicle in
     let same : (n : List ℕ) → has_text 2 n (Int it.0 ∷ ecu_row e) ≡ has_text 2 n (Int it.0 ∷ ecu_row was) = λ n. ap (λ v. has_text 2 n (Int it.0 ∷ Text e.ecu ∷ Text v ∷ [])) (sym alike.vehicle) in
     let out : (n : List ℕ) → bytes_eq e.vehicle n ≡ false → has_text 2 n (Int it.0 ∷ ecu_row was) ≡ false = λ n other. ap (λ v. has_text 2 n (Int it.0 ∷ Text was.ecu ∷ Text v ∷ [])) alike.vehicle ∙ text_is e.vehicle n ∙ other in
     let keyed : has_text 1 e.ecu (Int it.0 ∷ ecu_row was) ≡ true = ap (λ v. has_text 1 e.ecu (Int it.0 ∷ Text v ∷ [])) alike.ecu ∙ text_is e.ecu e.ecu ∙ own_text e.ecu in
     let one : (x : Row) → Has rows x → has_text 1 e.ecu x ≡ true → has_rowid it.0 x ≡ true = λ x here hit. keyed_id old.now.trees was it.0 x is_sound lists.shaped it.1 here (ap (λ v. has_text 1 v x) alike.ecu ∙ hit) in (
-      done.0,
-      done.1,
+      done.schema_is,
+      done.sound,
       record {
-        shaped = subst (IsShaped Table) (sym done.2) (swapped_shaped 2 it.0 e.ecu e.vehicle (ecu_row was) (ecu_row e) rows lists.shaped it.1 group same out keyed one);
-        parts = λ n. ap (rows_with 2 n) done.2 ∙ swapped_parts 2 it.0 e.ecu e.vehicle (ecu_row was) (ecu_row e) rows lists.shaped it.1 group same out keyed one rows_of lists.parts n;
+        shaped = subst (IsShaped Table) (sym done.rows) (swapped_shaped 2 it.0 e.ecu e.vehicle (ecu_row was) (ecu_row e) rows lists.shaped it.1 group same out keyed one);
+        parts = λ n. ap (rows_with 2 n) done.rows ∙ swapped_parts 2 it.0 e.ecu e.vehicle (ecu_row was) (ecu_row e) rows lists.shaped it.1 group same out keyed one rows_of lists.parts n;
       },
-      done.3,
+      done.others,
     )
 
 -- in a transaction
 pub sets_in : (r : Result ℕ Error) (old new : State) (e : EcuLine) → IsKept e → Survives old new (λ _. ⊥) → IfClean IsInside old
-    → (HasCleanDisk new → IsTrue old.in_transaction → ExecutesInside 0 upsert_ecu_text (ecu_row e) old new r)
+    → (HasCleanDisk new → IsTrue old.in_transaction → ExecutesInside 0 update_ecu_text (ecu_row e) old new r)
     → HasCleanDisk new → OnOk r ((rows_of : List ℕ → List Row) (was : EcuLine) → HasTables old → IsRecorded e was rows_of (old.now.trees ecu_table.tree) → Alters ecu_table (Lists 2 (set_ecu e rows_of)) old new)
-sets_in r old new e kept survives inside ran clean = then_ok r sets (run_in upsert_ecu_text (ecu_row e) old new r survives inside ran clean)
+sets_in r old new e kept survives inside ran clean = then_ok r sets (run_in update_ecu_text (ecu_row e) old new r survives inside ran clean)
   where
-    sets : IsRun upsert_ecu_text (ecu_row e) old new → (rows_of : List ℕ → List Row) (was : EcuLine) → HasTables old → IsRecorded e was rows_of (old.now.trees ecu_table.tree) → Alters ecu_table (Lists 2 (set_ecu e rows_of)) old new
+    sets : IsRun update_ecu_text (ecu_row e) old new → (rows_of : List ℕ → List Row) (was : EcuLine) → HasTables old → IsRecorded e was rows_of (old.now.trees ecu_table.tree) → Alters ecu_table (Lists 2 (set_ecu e rows_of)) old new
     sets run rows_of was has recorded =
         let here = has run.was_open in
         let done = sets_ecu old new e was rows_of run.count here.schema_is here.sound kept recorded run.went in
-        run_alters upsert_ecu_text (ecu_row e) ecu_table _ old new run done.0 done.1 done.2 done.3
+        run_alters update_ecu_text (ecu_row e) ecu_table _ old new run done.0 done.1 done.2 done.3
 
 -- ---- one after another
 

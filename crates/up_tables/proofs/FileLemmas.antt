@@ -12,7 +12,7 @@ use Rattle.up_tables.specs.Rows.{bare, columns_at, has_text, has_texts, with_onl
 use Rattle.up_tables.specs.Stands.{IsInside, Alters, HasTables, ListsPairs, IsOpen}
 use Rattle.up_tables.proofs.AnswerLemmas.{over, all_columns, equals_text}
 use Rattle.up_tables.proofs.EcuRows.{column_after}
-use Rattle.up_tables.proofs.EcuUpsert.{equals}
+use Rattle.up_tables.proofs.EcuUpdate.{equals}
 use Rattle.up_tables.specs.Tables.{up_schema, repo_file_table}
 use Rattle.up_tables.specs.Forms.{file_row, file_places, set_files}
 use Rattle.up_tables.specs.declared.repo_file.FileRow.{FileRow}

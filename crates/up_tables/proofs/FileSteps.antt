@@ -19,7 +19,7 @@ use Rattle.up_tables.specs.Stands.{IfClean, IsInside, Alters, HasTables, ListsPa
 use Rattle.up_tables.proofs.AnswerLemmas.{over, given, equals_text, equals_int, answer_is, shows_passing}
 use Rattle.up_tables.proofs.Casts.{cast_int, cast_null}
 use Rattle.up_tables.proofs.EcuRows.{text_is, same_text}
-use Rattle.up_tables.proofs.EcuUpsert.{equals}
+use Rattle.up_tables.proofs.EcuUpdate.{equals}
 use Rattle.std.specs.List.{AllByRecursion, list_all}
 use Rattle.std.specs.List.Sorted.{IsPermutation}
 use Rattle.sqlite.specs.declared.types.Value.{Value}

@@ -13,7 +13,7 @@ use Rattle.up_tables.specs.Stands.{Lists}
 use Rattle.up_tables.proofs.AnswerLemmas.{equals_text, equals_int}
 use Rattle.up_tables.proofs.Casts.{cast_int, cast_null}
 use Rattle.up_tables.proofs.EcuRows.{text_is, column_after}
-use Rattle.up_tables.proofs.EcuUpsert.{equals}
+use Rattle.up_tables.proofs.EcuUpdate.{equals}
 use Rattle.up_tables.proofs.StoredLemmas.{IsInsertOf, IsQueryOf}
 use Rattle.up_tables.specs.Tables.{kept_table}
 use Rattle.up_tables.specs.Forms.{kept_row, kept_places}

@@ -21,7 +21,7 @@ pub mod VehicleLemmas
 pub mod ReturnLemmas
 pub mod KeyLemmas
 pub mod Casts
-pub mod EcuUpsert
+pub mod EcuUpdate
 pub mod EcuRows
 pub mod EcuSteps
 pub mod EcuSets

@@ -25,7 +25,7 @@ use Rattle.up_tables.specs.declared.values.StoreFault.{StoreFault}
 use Rattle.up_tables.proofs.AnswerLemmas.{over, equals_text}
 use Rattle.up_tables.proofs.BlameLemmas.{Takes, blames, shown_one}
 use Rattle.up_tables.proofs.EcuRows.{column_after, text_is, own_text}
-use Rattle.up_tables.proofs.EcuUpsert.{equals}
+use Rattle.up_tables.proofs.EcuUpdate.{equals}
 use Rattle.up_tables.proofs.PlaceLemmas.{any_has}
 use Rattle.up_tables.proofs.ReadLemmas.{bare_filter, Asks, answers_some}
 use Rattle.up_tables.proofs.TypedLemmas.{HasTextAt, first_texts, second_texts, one_at_most}

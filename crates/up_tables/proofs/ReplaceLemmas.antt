@@ -1,6 +1,6 @@
 -- An ECU's row is put in the place of another one's.
-use Rattle.std.proofs.Common.{◌≡◌, ℕ, ℤ, pos, List, [], ◌∷◌, map, filter, Bool, true, false, Result, OnOk, IsTrue, refl, sym, ap, subst, ◌∙◌, bytes_eq}
-use Rattle.std.specs.List.{AllByRecursion, list_all}
+use Rattle.std.proofs.Common.{◌≡◌, ℕ, ℤ, pos, List, [], ◌∷◌, map, filter, true, false, Result, OnOk, IsTrue, refl, sym, ap, subst, ◌∙◌, bytes_eq}
+use Rattle.std.specs.List.{list_all}
 use Rattle.std.specs.List.Sorted.{IsPermutation}
 use Rattle.std.proofs.Math.Bool.{and-true}
 use Rattle.sqlite.specs.declared.types.Value.TheVariants.{Null, Int, Text, Blob}
@@ -16,7 +16,6 @@ use Rattle.sqlite.proofs.Callers.{IsPlain, command_of, one_permutation}
 use Rattle.sqlite_catalog.specs.Listing.{IsSound}
 use Rattle.sqlite_tied.specs.Compute.{everything}
 use Rattle.sqlite_rules.specs.Lists.{Has}
-use Rattle.sqlite_rules.proofs.ListLemmas.{all_has, all_from}
 use Rattle.sqlite_keyed.proofs.ListLemmas.{filter_same}
 use Rattle.sqlite_schema.specs.declared.program.Program.{Program}
 use Rattle.sqlite_trees.specs.View.{IsShaped}
@@ -30,10 +29,10 @@ use Rattle.up_tables.specs.Replaced.{replaced_line, with_replaced}
 use Rattle.up_tables.specs.Stands.{Lists, IfClean, IsInside, Alters, HasTables}
 use Rattle.up_tables.proofs.AnswerLemmas.{over, answer_is, shows_passing, equals_text}
 use Rattle.up_tables.proofs.Casts.{cast_int, cast_null}
-use Rattle.up_tables.proofs.EcuUpsert.{equals, casts}
-use Rattle.up_tables.proofs.EcuSteps.{row_in, keyed_id}
+use Rattle.up_tables.proofs.EcuUpdate.{equals, casts}
+use Rattle.up_tables.proofs.EcuSteps.{row_in, keyed_id, passes_alike, tests_alike}
 use Rattle.up_tables.proofs.EcuRows.{text_is, own_text, swapped_parts, swapped_shaped}
-use Rattle.up_tables.proofs.PlaceLemmas.{only, unique}
+use Rattle.up_tables.proofs.PlaceLemmas.{only}
 use Rattle.up_tables.proofs.RunLemmas.{IsRun, run_in, then_ok, run_alters, idle}
 use Rattle.up_tables.proofs.UpdateLemmas.{updates_row}
 
@@ -50,26 +49,8 @@ replace_is = (refl, (refl, refl))
 abbrev pub given : List ℕ → List ℕ → List ℕ → List ℕ → Row
 given ecu hardware public_key old = Text ecu ∷ Text hardware ∷ Blob public_key ∷ Text old ∷ []
 
--- two tests that agree on the rows pass the same ones
-passes_alike : (p q : Row → Bool) (rows : List Row) → AllByRecursion (λ r. p r ≡ q r) rows → filter p rows ≡ filter q rows
-passes_alike p q [] all = refl
-passes_alike p q (r ∷ rows) all = let rest = passes_alike p q rows all.1 in rw (all.0, rest) refl
-
 kept : (ecu hardware public_key : List ℕ) (was : EcuLine) → IsKept (replaced_line ecu hardware public_key was)
 kept ecu hardware public_key was = record { file = refl; size = cast_null; hash = refl; report = refl }
-
--- the row with the name has that rowid, and no other has it
-tests_alike : (db : Trees) (was : EcuLine) (id : ℤ) → IsSound up_schema db → IsShaped Table (db 11) → Has (db 11) (Int id ∷ ecu_row was) → AllByRecursion (λ x. has_text 1 was.ecu x ≡ has_rowid id x) (db 11)
-tests_alike db was id sound shaped there = all_from (λ x. has_text 1 was.ecu x ≡ has_rowid id x) (db 11) (λ x h. go x h (has_text 1 was.ecu x) (has_rowid id x) refl refl)
-  where
-    its : AllByRecursion (λ x. has_rowid id x ≡ true → x ≡ Int id ∷ ecu_row was) (db 11)
-    its = unique id (Int id ∷ ecu_row was) (db 11) refl shaped.0 there
-
-    go : (x : Row) → Has (db 11) x → (a b : Bool) → has_text 1 was.ecu x ≡ a → has_rowid id x ≡ b → has_text 1 was.ecu x ≡ has_rowid id x
-    go x h true true p q = p ∙ sym q
-    go x h false false p q = p ∙ sym q
-    go x h true false p q = absurd (let e = sym (keyed_id db was id x sound shaped there h p) ∙ q in cc)
-    go x h false true p q = absurd (let e = sym p ∙ ap (has_text 1 was.ecu) (all_has (λ y. has_rowid id y ≡ true → y ≡ Int id ∷ ecu_row was) (db 11) x its h q) ∙ text_is was.ecu was.ecu ∙ own_text was.ecu in cc)
 
 -- the query of the update answers the row of the old ECU with the new one's values
 update_rows : (db : Trees) (ecu hardware public_key : List ℕ) (was : EcuLine) (id : ℤ) (rows : List Row) → IsSound up_schema db → IsShaped Table (db 11) → Has (db 11) (Int id ∷ ecu_row was)

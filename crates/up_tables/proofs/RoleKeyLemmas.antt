@@ -17,7 +17,7 @@ use Rattle.up_tables.specs.Stands.{ListsAll, IfClean, IsInside, Alters, HasTable
 use Rattle.up_tables.proofs.AnswerLemmas.{over, given, all_columns, equals_int}
 use Rattle.up_tables.proofs.Casts.{cast_int, cast_null}
 use Rattle.up_tables.proofs.EcuRows.{column_after}
-use Rattle.up_tables.proofs.EcuUpsert.{equals}
+use Rattle.up_tables.proofs.EcuUpdate.{equals}
 use Rattle.up_tables.proofs.InsertLemmas.{inserts_in}
 use Rattle.std.proofs.lemmas.List.{map-append, append_assoc}
 use Rattle.up_tables.specs.Tables.{up_schema, role_key_table}

@@ -14,7 +14,7 @@ use Rattle.up_tables.proofs.AnswerLemmas.{all_columns}
 use Rattle.up_tables.proofs.ByNameLemmas.{filter_true}
 use Rattle.up_tables.proofs.Casts.{cast_null}
 use Rattle.up_tables.proofs.EcuRows.{text_is, column_after}
-use Rattle.up_tables.proofs.EcuUpsert.{equals}
+use Rattle.up_tables.proofs.EcuUpdate.{equals}
 use Rattle.up_tables.proofs.StoredLemmas.{IsInsertOf, IsListingOf, IsQueryOf, named_its, named_meets}
 use Rattle.up_tables.proofs.TypedLemmas.{first_texts}
 

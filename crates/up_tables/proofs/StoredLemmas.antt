@@ -42,7 +42,7 @@ use Rattle.up_tables.proofs.ByNameLemmas.{each_named, listed_in}
 use Rattle.up_tables.proofs.CallLemmas.{is_read, is_written}
 use Rattle.up_tables.proofs.CommandLemmas.{IsRowAsked}
 use Rattle.up_tables.proofs.EcuRows.{column_after}
-use Rattle.up_tables.proofs.EcuUpsert.{equals}
+use Rattle.up_tables.proofs.EcuUpdate.{equals}
 use Rattle.up_tables.proofs.InsertLemmas.{inserts_in}
 use Rattle.up_tables.proofs.ReadLemmas.{Asks, answers_all, answers_some, bare_filter, by_rowid, few_permutation}
 use Rattle.up_tables.proofs.StateLemmas.{ok_then, query_told}

@@ -56,7 +56,7 @@ use Rattle.up_tables.proofs.Casts.{cast_int, cast_null}
 use Rattle.up_tables.proofs.CreateLemmas.{went}
 use Rattle.up_tables.proofs.EcuRows.{text_is, column_after}
 use Rattle.up_tables.proofs.EcuSteps.{with_id}
-use Rattle.up_tables.proofs.EcuUpsert.{equals}
+use Rattle.up_tables.proofs.EcuUpdate.{equals}
 use Rattle.up_tables.proofs.OnlyLemmas.{rewritten_shaped, rewritten_parts}
 use Rattle.up_tables.proofs.OthersLemmas.{others_stay}
 use Rattle.up_tables.proofs.PlaceLemmas.{only}

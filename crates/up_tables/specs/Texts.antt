@@ -36,8 +36,8 @@ replace_ecu_text = codes "UPDATE ecu SET ecu = ?1, hardware = ?2, public_key = ?
 abbrev pub insert_ecu_text : List ℕ
 insert_ecu_text = codes "INSERT INTO ecu (ecu, vehicle, place, hardware, public_key, file, length, sha256, counter, report) VALUES (?1, ?2, ?3, ?4, ?5, ?6, ?7, ?8, ?9, ?10)"
 
-abbrev pub upsert_ecu_text : List ℕ
-upsert_ecu_text = codes "INSERT INTO ecu (ecu, vehicle, place, hardware, public_key, file, length, sha256, counter, report) VALUES (?1, ?2, ?3, ?4, ?5, ?6, ?7, ?8, ?9, ?10) ON CONFLICT (ecu) DO UPDATE SET file = excluded.file, length = excluded.length, sha256 = excluded.sha256, counter = excluded.counter, report = excluded.report"
+abbrev pub update_ecu_text : List ℕ
+update_ecu_text = codes "UPDATE ecu SET file = ?6, length = ?7, sha256 = ?8, counter = ?9, report = ?10 WHERE ecu = ?1"
 
 abbrev pub insert_role_key_text : List ℕ
 insert_role_key_text = codes "INSERT INTO role_key (root, repository, role, place, secret, threshold) VALUES (?1, ?2, ?3, ?4, ?5, ?6)"

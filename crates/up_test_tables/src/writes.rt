@@ -12,7 +12,7 @@ use crate::words::{bytes, first_of, parts_of, word};
 use sqlite::{Alter, Transaction};
 use std::alloc::Global;
 use up_tables::campaign::{close_campaign, insert_campaign};
-use up_tables::ecu::{insert_ecu, upsert_ecu};
+use up_tables::ecu::{insert_ecu, update_ecu};
 use up_tables::image::insert_image;
 use up_tables::image_sha512::insert_image_sha512;
 use up_tables::kept::insert_kept;
@@ -225,7 +225,7 @@ fn set_one<S: Alter>(
 {
     let key = bytes(alloc, word(given, 2))?;
     let hash = bytes(alloc, installed_hash(given))?;
-    upsert_ecu(
+    update_ecu(
         tx,
         vehicle,
         place,
