@@ -7,6 +7,7 @@ mod commands;
 mod compared;
 mod marked;
 mod media;
+mod row;
 mod scripts;
 mod telling;
 mod trickle;

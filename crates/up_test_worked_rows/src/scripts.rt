@@ -1,4 +1,6 @@
 //! Rows as scripts.
+use crate::compared::compared;
+use crate::row::Row;
 use crate::trickle::Trickle;
 use sqlite::Alter;
 use std::alloc::{AllocError, Global};
@@ -6,18 +8,19 @@ use up_desk::desk::Desk;
 use up_service::script::run_script;
 use up_sign::scheme::Scheme;
 
-/// What the script prints, read so many bytes at a time.
-pub(crate) fn by_script<K: Scheme, D: Alter + Drop>(
+/// What the script prints, read so many bytes at a time, beside what the row says.
+pub(crate) fn by_script<K: Scheme, D: Alter>(
     alloc: Global,
-    mut desk: Desk<K, D>,
-    script: &str,
+    desk: &mut Desk<K, D>,
+    row: &Row,
     most: usize,
 ) -> Result<String, AllocError> {
     let mut written = Vec::new(alloc);
-    let bytes = script.as_bytes();
+    let bytes = row.asked.as_bytes();
     let mut reader = Trickle { bytes, most };
-    let answered = run_script(alloc, &mut desk, &mut reader, &mut written).ok();
-    counted(alloc, written.as_slice(), answered)
+    let answered = run_script(alloc, desk, &mut reader, &mut written).ok();
+    let had = counted(alloc, written.as_slice(), answered)?;
+    compared(alloc, had.as_str(), row.printed.as_str())
 }
 
 /// What was written, if it has as many lines as are told.

@@ -1,12 +1,14 @@
-//! Rows as runs and as calls. Behind the line of a reply stands the reply's text.
+//! Rows as runs and as calls, beside what the row says of them. Behind the line of a reply stands the reply's text.
 ghost use Rattle.std.specs.Prelude.{IsTrue};
 ghost use Rattle.std.specs.List.{AllByRecursion};
 ghost use Rattle.up_machine.specs.Commands.{opens_running};
 ghost use Rattle.up_script.specs.AskedLines.{asks_running};
 
 use crate::commands::commands_of;
+use crate::compared::compared;
 use crate::marked::push_line;
 use crate::media::{files_again, memory_again};
+use crate::row::Row;
 use sqlite::{Alter, FileStore, MemStore};
 use sqlite_disk::Memory;
 use std::alloc::{AllocError, Global};
@@ -21,16 +23,15 @@ use up_script::printed::{answer_text, push_ecu, refused_text, vehicle_text};
 use up_sign::scheme::Scheme;
 use up_store::store::{Store, StoreFault};
 
-/// The answers of one run over the lines, which are commands.
-pub(crate) fn by_run<K: Scheme, D: Alter + Drop>(
+/// The answers of one run over the commands.
+pub(crate) fn by_run<K: Scheme, D: Alter>(
     alloc: Global,
-    mut desk: Desk<K, D>,
-    lines: &str,
+    desk: &mut Desk<K, D>,
+    row: &Row,
 ) -> Result<String, AllocError> {
-    match commands_of(alloc, desk.scheme(), lines) {
-        Ok(commands) => run_at(alloc, &mut desk, commands.as_slice()),
-        Err(refused) => Err(refused),
-    }
+    let commands = commands_of(alloc, desk.scheme(), row.commands.as_str())?;
+    let had = run_at(alloc, desk, commands.as_slice())?;
+    compared(alloc, had.as_str(), row.answered.as_str())
 }
 
 fn run_at<K: Scheme, D: Alter>(
@@ -64,18 +65,18 @@ fn push_answer(alloc: Global, out: &mut String, answer: &Answer) -> Result<(), A
 }
 
 /// The answers of one call after another, a view by the calls that read.
-pub(crate) fn by_calls<K: Scheme, D: Alter + Drop>(
+pub(crate) fn by_calls<K: Scheme, D: Alter>(
     alloc: Global,
-    mut desk: Desk<K, D>,
-    lines: &str,
+    desk: &mut Desk<K, D>,
+    row: &Row,
 ) -> Result<String, AllocError> {
     let mut out = String::new(alloc);
-    for line in lines.lines() {
+    for line in row.asked.lines() {
         if !line.is_empty() {
-            push_called(alloc, &mut desk, &mut out, line)?;
+            push_called(alloc, desk, &mut out, line)?;
         }
     }
-    Ok(out)
+    compared(alloc, out.as_str(), row.called.as_str())
 }
 
 /// The same, where before each line the database in memory is let go of and taken again by another desk.
@@ -83,15 +84,15 @@ pub(crate) fn by_turns_in_memory<K: Scheme + Copy>(
     alloc: Global,
     scheme: K,
     mut store: Store<MemStore>,
-    lines: &str,
+    row: &Row,
 ) -> Result<String, AllocError> {
     let mut out = String::new(alloc);
-    for line in lines.lines() {
+    for line in row.asked.lines() {
         if !line.is_empty() {
             store = turn(alloc, scheme, memory_again(store)?, &mut out, line)?;
         }
     }
-    Ok(out)
+    compared(alloc, out.as_str(), row.called.as_str())
 }
 
 /// The same, where before each line the files are closed and opened again.
@@ -99,15 +100,15 @@ pub(crate) fn by_turns_in_files<K: Scheme + Copy>(
     alloc: Global,
     scheme: K,
     mut store: Store<FileStore<Memory>>,
-    lines: &str,
+    row: &Row,
 ) -> Result<String, AllocError> {
     let mut out = String::new(alloc);
-    for line in lines.lines() {
+    for line in row.asked.lines() {
         if !line.is_empty() {
             store = turn(alloc, scheme, files_again(alloc, store)?, &mut out, line)?;
         }
     }
-    Ok(out)
+    compared(alloc, out.as_str(), row.called.as_str())
 }
 
 fn turn<K: Scheme, D: Alter + Drop>(
@@ -129,26 +130,27 @@ fn push_called<K: Scheme, D: Alter>(
     line: &str,
 ) -> Result<(), AllocError> {
     match asked_by(alloc, desk.scheme(), line.as_bytes()) {
-        Ok(asked) => push_asked(alloc, desk, out, &asked),
-        Err(refusal) => push_refused(alloc, out, &refusal),
+        Ok(asked) => push_asked(alloc, desk, out, asked),
+        Err(refusal) => push_refused(alloc, out, refusal),
     }
 }
 
-fn push_refused(alloc: Global, out: &mut String, refusal: &Refusal) -> Result<(), AllocError> {
-    push_line(out, refused_text(alloc, refusal)?.as_str())
+fn push_refused(alloc: Global, out: &mut String, refusal: Refusal) -> Result<(), AllocError> {
+    push_line(out, refused_text(alloc, &refusal)?.as_str())
 }
 
 fn push_asked<K: Scheme, D: Alter>(
     alloc: Global,
     desk: &mut Desk<K, D>,
     out: &mut String,
-    asked: &Asked,
+    asked: Asked,
 ) -> Result<(), AllocError>
-    requires { IsTrue (asks_running asked.now.what) }
+    requires { IsTrue (asks_running asked.what) }
 {
-    match &asked.what {
-        What::Call(command) => push_answered(alloc, desk, out, asked.at.get(), command),
-        What::Show(vehicle) => push_view(alloc, desk, out, vehicle),
+    let Asked { at, what } = asked;
+    match what {
+        What::Call(command) => push_answered(alloc, desk, out, at.get(), &command),
+        What::Show(vehicle) => push_view(alloc, desk, out, &vehicle),
     }
 }
 
