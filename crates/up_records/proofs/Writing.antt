@@ -1,6 +1,6 @@
 -- What a write of records comes to, from what is written over their connection.
 use Rattle.std.proofs.Common.{◌≡◌, ◌⊎◌, ℕ, List, Result, Ok, Err, OnErr, OnOk, IfErr, inl, inr, sym, subst}
-use Rattle.std.specs.Prelude.{⊤, None}
+use Rattle.std.specs.Prelude.{⊤, None, IfSome}
 use Rattle.sqlite_disk.specs.Disk.{MoreFaults}
 use Rattle.sqlite.specs.Order.{Row}
 use Rattle.sqlite.proofs.StateLemmas.{survives_weaker}
@@ -15,8 +15,8 @@ use Rattle.up_tables.proofs.TransactionLemmas.{stands_kept}
 use Rattle.up_store.specs.Connections.{HoldsRows, KeepsRows, MayWrite, WritesStore}
 use Rattle.up_store.specs.Listing.{ListsRows}
 use Rattle.up_store.specs.Writes.{AreWrites, RefusesToWrite}
-use Rattle.up_records.specs.Catalogs.{Fits}
-use Rattle.up_records.specs.Standing.{HasCleanDisk, HoldsState, IfClean, ShowsState, Standing}
+use Rattle.up_records.specs.Catalogs.{CanDecide, Fits}
+use Rattle.up_records.specs.Standing.{CanUse, HasCleanDisk, HoldsState, IfClean, ShowsState, Standing}
 use Rattle.up_records.specs.Writes.{Takes}
 
 -- rows that fit, which take those of the state to those of the next; these statements write them, and fit the columns where the next state
@@ -77,3 +77,7 @@ takes k s next old new w these held fits change was will memory it = record {
 -- what was kept is dropped
 pub dropped : (s next : State) (old new : Standing) → new.catalog ≡ None → StillFits s next old new
 dropped s next old new none = record { moved = λ was. subst (Fits next) (sym none) tt; same = λ was. subst (Fits s) (sym none) tt }
+
+-- nothing is there that couldn't decide
+pub can_none : (k : Rules) (new : Standing) → new.catalog ≡ None → CanUse k new
+can_none k new none = subst (λ kept. IfSome kept (CanDecide k)) (sym none) tt

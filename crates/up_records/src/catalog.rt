@@ -13,6 +13,7 @@ ghost use Rattle.up_records.specs.Standing.{over};
 use crate::reads::read_founding;
 use sqlite::Alter;
 use std::alloc::Global;
+use std::mem::replace;
 use up_canon::table::Table;
 use up_machine::primary::Primary;
 use up_machine::rows::Founding;
@@ -34,6 +35,13 @@ pub struct Catalog {
     pub primaries: Table<Primary>,
 }
 
+/// Leaves nothing of the tables in memory.
+pub(crate) fn forget(catalog: &mut Option<Catalog>)
+    ensures { catalog.new ≡ None }
+{
+    drop(catalog.take());
+}
+
 /// Reads the catalog where there is none. There is none before founding, and after a fault.
 pub(crate) fn load<K: Scheme, D: Alter>(
     store: &mut Store<D>,
@@ -53,7 +61,7 @@ pub(crate) fn load<K: Scheme, D: Alter>(
     }
     match read_catalog(store, alloc, scheme) {
         Ok(read) => {
-            *catalog = read;
+            drop(replace(catalog, read));
             Ok(())
         }
         Err(fault) => Err(fault),
@@ -91,11 +99,17 @@ fn read_registers<K: Scheme, D: Alter>(
 {
     let hashed = match hashed_roles(alloc, scheme, &founding.keys.director) {
         Ok(hashed) => hashed,
-        Err(_) => return Err(StoreFault::Memory),
+        Err(_) => {
+            drop(founding);
+            return Err(StoreFault::Memory);
+        }
     };
     let campaigns = match read_running(store, alloc) {
         Ok(campaigns) => campaigns,
-        Err(fault) => return Err(fault),
+        Err(fault) => {
+            drop((founding, hashed));
+            return Err(fault);
+        }
     };
     match store.images(alloc) {
         Ok(images) => Ok(Some(Catalog {
@@ -105,7 +119,10 @@ fn read_registers<K: Scheme, D: Alter>(
             images,
             primaries: Table::new(alloc),
         })),
-        Err(fault) => Err(fault),
+        Err(fault) => {
+            drop((founding, hashed, campaigns));
+            Err(fault)
+        }
     }
 }
 

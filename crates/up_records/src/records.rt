@@ -15,7 +15,7 @@ ghost use Rattle.up_records.specs.Steps.{Decides};
 ghost use Rattle.up_records.specs.Writes.{AcceptsWith, AddsVehicleWith, AddsWith, ClosesWith, FoundsWith, OpensWith};
 ghost use Rattle.up_records.specs.Writes.{RefreshesWith, ReplacesWith, RotatesWith, Writes};
 
-use crate::catalog::Catalog;
+use crate::catalog::{Catalog, forget};
 use crate::deciding::decide;
 use crate::reads::{is_known, is_taken, read_founding, read_vehicle};
 use crate::views::{assigned_of, ecus_of, installed_on, version_of};
@@ -86,6 +86,7 @@ impl<D: Alter> Records<D> {
     pub fn release(self) -> Store<D>
         ensures { result ≡ self.held }
     {
+        drop(self.catalog);
         self.store
     }
 
@@ -233,7 +234,7 @@ impl<D: Alter> Records<D> {
         ensures { Writes D.Store (λ k. FoundsWith k new.now) self.old self.new result }
     {
         roots_are_added();
-        self.catalog = None; // nothing was founded of which it could be
+        forget(&mut self.catalog); // nothing was founded of which it could be
         self.store.write_found(alloc, new)
     }
 
@@ -242,7 +243,7 @@ impl<D: Alter> Records<D> {
         ensures { Writes D.Store (λ k. RotatesWith k new.now) self.old self.new result }
     {
         roots_are_added();
-        self.catalog = None; // its keys are those of the root version before
+        forget(&mut self.catalog); // its keys are those of the root version before
         self.store.write_rotate(alloc, new)
     }
 
@@ -256,7 +257,7 @@ impl<D: Alter> Records<D> {
         ensures { Writes D.Store (λ k. AddsWith k image.now new.now) self.old self.new result }
     {
         images_are_added();
-        self.catalog = None; // its images lack the new one
+        forget(&mut self.catalog); // its images lack the new one
         self.store.write_image(alloc, image, new)
     }
 
@@ -265,7 +266,7 @@ impl<D: Alter> Records<D> {
         ensures { Writes D.Store (λ k. RefreshesWith k new.now) self.old self.new result }
     {
         images_are_added();
-        self.catalog = None; // its numbers are those before the refresh
+        forget(&mut self.catalog); // its numbers are those before the refresh
         self.store.write_refresh(new)
     }
 
@@ -276,7 +277,7 @@ impl<D: Alter> Records<D> {
         rows_are_found();
         vehicles_are_added();
         ecus_tell_their_hash();
-        self.catalog = None; // it may be of a vehicle that is not this one
+        forget(&mut self.catalog); // it may be of a vehicle that is not this one
         self.store.write_vehicle(new)
     }
 
@@ -286,7 +287,7 @@ impl<D: Alter> Records<D> {
     {
         rows_are_found();
         ecus_are_replaced();
-        self.catalog = None; // the Primary of the vehicle may change
+        forget(&mut self.catalog); // the Primary of the vehicle may change
         self.store.write_replace(new)
     }
 
@@ -295,7 +296,7 @@ impl<D: Alter> Records<D> {
         ensures { Writes D.Store (λ k. OpensWith new.now) self.old self.new result }
     {
         campaigns_are_written();
-        self.catalog = None; // its campaigns lack the new one
+        forget(&mut self.catalog); // its campaigns lack the new one
         self.store.write_campaign(alloc, new)
     }
 
@@ -304,7 +305,7 @@ impl<D: Alter> Records<D> {
         ensures { Writes D.Store (λ k. ClosesWith closed.now) self.old self.new result }
     {
         campaigns_are_written();
-        self.catalog = None; // its campaigns have the closed one
+        forget(&mut self.catalog); // its campaigns have the closed one
         self.store.write_close(closed)
     }
 

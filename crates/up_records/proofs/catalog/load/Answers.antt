@@ -1,5 +1,7 @@
-use Rattle.std.proofs.Common.{◌≡◌, true, false, sym, ◌∙◌}
-use Rattle.up_records.specs.Catalogs.{primaries_in}
+use Rattle.std.proofs.Common.{◌≡◌, Ok, true, false, ap, sym, subst, ◌∙◌}
+use Rattle.std.specs.Prelude.{⊤}
+use Rattle.up_records.specs.Catalogs.{IsLoaded, primaries_in}
+use Rattle.up_records.specs.Reads.{ReadsSuch}
 use Rattle.up_records.specs.Standing.{over}
 use Rattle.up_records.proofs.Cataloged.{come_empty, come_none, loaded_anew, stays, there_loaded}
 use Rattle.up_records.proofs.Viewing.{loads_read, reads_beside, reads_nothing, shown_alone}
@@ -20,13 +22,15 @@ returns-then-is_some-clause-came g c = come_none _ (primaries_in c.args.catalog.
 
 pub returns-in-Ok-clause-loads : goal.returns-in-Ok-clause-loads
 returns-in-Ok-clause-loads g c =
-    loads_read g.D.Store (g.K.Scheme.rules c.args.scheme.now) c.args.store.now c.read_catalog.new.store c.args.catalog.now c.in-Ok.read c.in-Ok.ensures.found c.in-Ok.ensures.fresh.can
+    let k = g.K.Scheme.rules c.args.scheme.now in
+    subst (λ r. ReadsSuch {A = ⊤} k (λ s _. IsLoaded s r) (over g.D.Store c.args.store.now c.args.catalog.now) (over g.D.Store c.read_catalog.new.store r) (Ok tt)) (sym c.replace.ensures.after)
+    (loads_read g.D.Store k c.args.store.now c.read_catalog.new.store c.args.catalog.now c.in-Ok.read c.in-Ok.ensures.found c.in-Ok.ensures.fresh.can)
 
 pub returns-in-Ok-clause-kept : goal.returns-in-Ok-clause-kept
-returns-in-Ok-clause-kept g c = loaded_anew c.args.catalog.now c.in-Ok.read (sym c.is_some.ensures ∙ c.if-is_some.false)
+returns-in-Ok-clause-kept g c = loaded_anew c.args.catalog.now c.replace.new.dest (sym c.is_some.ensures ∙ c.if-is_some.false)
 
 pub returns-in-Ok-clause-came : goal.returns-in-Ok-clause-came
-returns-in-Ok-clause-came g c = come_empty _ (primaries_in c.args.catalog.now) (primaries_in c.in-Ok.read) c.in-Ok.ensures.fresh.none
+returns-in-Ok-clause-came g c = come_empty _ (primaries_in c.args.catalog.now) (primaries_in c.replace.new.dest) (ap primaries_in c.replace.ensures.after ∙ c.in-Ok.ensures.fresh.none)
 
 pub returns-in-Ok-clause-there : goal.returns-in-Ok-clause-there
 returns-in-Ok-clause-there g c = λ there. absurd (let no : true ≡ false = sym there ∙ sym c.is_some.ensures ∙ c.if-is_some.false in cc)
