@@ -6,6 +6,8 @@ ghost use Rattle.sqlite.specs.Held.{state};
 use crate::connections::serve;
 use crate::scripts::answer_lines;
 use sqlite::{Alter, Connection, FileFrom, FileStore, Unknown};
+use sqlite_disk::Disk;
+use std::alloc::Global;
 use std::fs;
 use up_desk::desk::Desk;
 use up_file::adopting::{adopt_or_create, take_for};
@@ -40,9 +42,21 @@ pub(crate) fn work_over<K: Scheme>(
 }
 
 fn over_memory<K: Scheme>(rt: &HostRuntime, scheme: K, work: Work) -> Result<(), Failure> {
-    let Ok(conn) = Connection::open_in_memory(rt.alloc()) else {
-        return told(&mut rt.stderr(), Err(Failure::Unopened));
-    };
+    match Connection::open_in_memory(rt.alloc()) {
+        Ok(conn) => over_new(rt, scheme, conn, work),
+        Err(_) => told(&mut rt.stderr(), Err(Failure::Unopened)),
+    }
+}
+
+/// Works over a database that nothing else has, and drops it then.
+fn over_new<K: Scheme, D: Alter + Drop>(
+    rt: &HostRuntime,
+    scheme: K,
+    conn: Connection<D>,
+    work: Work,
+) -> Result<(), Failure>
+    requires mode { (state D.Store conn).in_transaction ≡ false }
+{
     match adopt_or_create(conn) {
         Ok(store) => {
             let mut desk = Desk::new(scheme, store);
@@ -52,8 +66,7 @@ fn over_memory<K: Scheme>(rt: &HostRuntime, scheme: K, work: Work) -> Result<(),
     }
 }
 
-/// A file whose keys are another scheme's stays as it is. At the end the database's log is copied into its file; where it can't
-/// be, the next run finds all that was committed in the log.
+/// A file whose keys are another scheme's stays as it is.
 fn over_file<K: Scheme>(
     rt: &HostRuntime,
     scheme: K,
@@ -63,19 +76,51 @@ fn over_file<K: Scheme>(
     if !is_usable(rt, path) {
         return told(&mut rt.stderr(), Err(Failure::Unopened));
     }
-    let Some(conn) = connected(rt, path) else {
-        return told(&mut rt.stderr(), Err(Failure::Unopened));
-    };
-    match take_for(rt.alloc(), scheme.method(), conn) {
-        Ok(store) => closing(
-            Desk::new(scheme, store),
+    match connected(rt, path) {
+        Some(conn) => over_files(rt, scheme, conn, work),
+        None => told(&mut rt.stderr(), Err(Failure::Unopened)),
+    }
+}
+
+/// Works over the files of a database, and closes it as the work left it: its log is copied into its file; where it can't be, the
+/// next run finds all that was committed in the log.
+fn over_files<K: Scheme, D: Disk + Drop>(
+    rt: &HostRuntime,
+    scheme: K,
+    conn: Connection<FileStore<D>>,
+    work: Work,
+) -> Result<(), Failure>
+    requires mode { (file_state conn).in_transaction ≡ false }
+{
+    match desk_over(rt.alloc(), scheme, conn) {
+        Some(desk) => closing(
+            desk,
             |desk| work_at(rt, desk, work),
             |desk| {
-                close_file(desk.release().release()).ok();
+                close_file(released(desk)).ok();
             },
         ),
-        Err(_) => told(&mut rt.stderr(), Err(Failure::Unopened)),
+        None => told(&mut rt.stderr(), Err(Failure::Unopened)),
     }
+}
+
+/// A desk over a database that may be another scheme's; none where it is, or can't be taken.
+fn desk_over<K: Scheme, D: Alter + Drop>(
+    alloc: Global,
+    scheme: K,
+    conn: Connection<D>,
+) -> Option<Desk<K, D>>
+    requires mode { (state D.Store conn).in_transaction ≡ false }
+{
+    match take_for(alloc, scheme.method(), conn) {
+        Ok(store) => Some(Desk::new(scheme, store)),
+        Err(_) => None,
+    }
+}
+
+/// The connection of a desk.
+fn released<K: Scheme, D: Alter>(desk: Desk<K, D>) -> Connection<D> {
+    desk.release().release()
 }
 
 /// A connection over the database file at the path and its log; none where they can't be opened, or no connection can be made over
