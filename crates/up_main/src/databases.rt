@@ -48,7 +48,7 @@ fn over_memory<K: Scheme>(rt: &HostRuntime, scheme: K, work: Work) -> Result<(),
     }
 }
 
-/// Works over a database that nothing else has, and drops it then.
+/// Works over a database that is dropped then. Its tables are made where they aren't there.
 fn over_new<K: Scheme, D: Alter + Drop>(
     rt: &HostRuntime,
     scheme: K,
@@ -82,8 +82,9 @@ fn over_file<K: Scheme>(
     }
 }
 
-/// Works over the files of a database, and closes it as the work left it: its log is copied into its file; where it can't be, the
-/// next run finds all that was committed in the log.
+/// Works over a database in files. At the end its log is copied into its file; where it can't be, the next run finds all that was
+/// committed in the log. What is called here for any kind of database (`desk_over`, `released`) is proved where none is named: over
+/// files, each step that names a desk costs the proof ten seconds.
 fn over_files<K: Scheme, D: Disk + Drop>(
     rt: &HostRuntime,
     scheme: K,
@@ -104,7 +105,7 @@ fn over_files<K: Scheme, D: Disk + Drop>(
     }
 }
 
-/// A desk over a database that may be another scheme's; none where it is, or can't be taken.
+/// A desk over a database that is this scheme's; none where it is another's, or can't be taken.
 fn desk_over<K: Scheme, D: Alter + Drop>(
     alloc: Global,
     scheme: K,
@@ -118,7 +119,7 @@ fn desk_over<K: Scheme, D: Alter + Drop>(
     }
 }
 
-/// The connection of a desk.
+/// The connection that a desk is over.
 fn released<K: Scheme, D: Alter>(desk: Desk<K, D>) -> Connection<D> {
     desk.release().release()
 }
