@@ -42,25 +42,16 @@ pub(crate) fn work_over<K: Scheme>(
 }
 
 fn over_memory<K: Scheme>(rt: &HostRuntime, scheme: K, work: Work) -> Result<(), Failure> {
-    match Connection::open_in_memory(rt.alloc()) {
-        Ok(conn) => over_new(rt, scheme, conn, work),
-        Err(_) => told(&mut rt.stderr(), Err(Failure::Unopened)),
-    }
-}
-
-/// Works over a database that is dropped then. Its tables are made where they aren't there.
-fn over_new<K: Scheme, D: Alter + Drop>(
-    rt: &HostRuntime,
-    scheme: K,
-    conn: Connection<D>,
-    work: Work,
-) -> Result<(), Failure>
-    requires mode { (state D.Store conn).in_transaction ≡ false }
-{
+    let Ok(conn) = Connection::open_in_memory(rt.alloc()) else {
+        return told(&mut rt.stderr(), Err(Failure::Unopened));
+    };
     match adopt_or_create(conn) {
         Ok(store) => {
             let mut desk = Desk::new(scheme, store);
-            work_at(rt, &mut desk, work)
+            let ended = work_at(rt, &mut desk, work);
+            // The connection is what is dropped, which has a drop of its own: the proof of a desk's goes through all its parts.
+            released(desk);
+            ended
         }
         Err(_) => told(&mut rt.stderr(), Err(Failure::Unopened)),
     }
@@ -83,8 +74,10 @@ fn over_file<K: Scheme>(
 }
 
 /// Works over a database in files. At the end its log is copied into its file; where it can't be, the next run finds all that was
-/// committed in the log. What is called here for any kind of database (`desk_over`, `released`) is proved where none is named: over
-/// files, each step that names a desk costs the proof ten seconds.
+/// committed in the log.
+///
+/// Each call here that takes or gives a desk costs the proof ten seconds, since it is over files. So `desk_over` and `released`, which
+/// are over any database, hold the others.
 fn over_files<K: Scheme, D: Disk + Drop>(
     rt: &HostRuntime,
     scheme: K,
