@@ -113,7 +113,9 @@ fn desk_over<K: Scheme, D: Alter + Drop>(
 }
 
 /// The connection that a desk is over.
-fn released<K: Scheme, D: Alter>(desk: Desk<K, D>) -> Connection<D> {
+fn released<K: Scheme, D: Alter>(desk: Desk<K, D>) -> Connection<D>
+    ensures { result ≡ desk.store.held }
+{
     desk.release().release()
 }
 
