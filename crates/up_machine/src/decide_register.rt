@@ -45,6 +45,8 @@ pub fn decide_image(
     };
     match old {
         Some(old) => {
+            // Dropped by name: at the end of a scope it would be proved part by part.
+            drop(founding);
             if same_image(image, old) {
                 Ok(Decision::Already)
             } else {
@@ -71,9 +73,11 @@ pub fn decide_new_image<K: Scheme>(
     ensures decided { MakesImageRows (K.rules scheme.now) at image.now founding images.now result }
 {
     if images.len() >= MAX_IMAGES {
+        drop(founding);
         return Err(Refusal::RegisterFull);
     }
     if founding.image_version >= MAX_COUNT {
+        drop(founding);
         return Err(Refusal::VersionLimit);
     }
     let version = founding.image_version + 1;
@@ -97,6 +101,7 @@ pub fn decide_refresh(
         return Err(Refusal::NotFounded);
     };
     if version.get() <= old.image_version {
+        drop(old);
         return Err(Refusal::VersionNotGreater);
     }
     Ok(with_version(old, version.get(), at))

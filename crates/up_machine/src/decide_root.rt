@@ -49,6 +49,8 @@ fn first_root(hashed: HashedKeySet, is_founded: bool) -> Result<NextRoot, Refusa
         → IfOk result (λ new. CanMakeRoot k at keys new) }
 {
     if is_founded {
+        // Dropped by name: at the end of a scope it would be proved part by part.
+        drop(hashed);
         return Err(Refusal::AlreadyFounded);
     }
     Ok(NextRoot {
@@ -74,8 +76,13 @@ pub fn decide_rotate<K: Scheme>(
     ensures fits { IfSome founding (λ f. IsTrue (founding_fits (K.rules scheme.now) f))
         → IfOk result (λ new. CanMakeRoot (K.rules scheme.now) at keys.now new) }
 {
-    let hashed = check_keys(alloc, scheme, keys)?;
-    next_root(hashed, founding)
+    match check_keys(alloc, scheme, keys) {
+        Ok(hashed) => next_root(hashed, founding),
+        Err(refusal) => {
+            drop(founding);
+            Err(refusal)
+        }
+    }
 }
 
 /// The root version that is due of a rotation with keys that fit; `NotFounded`; `RootFull`; `VersionLimit`. It takes no
@@ -88,12 +95,17 @@ fn next_root(hashed: HashedKeySet, founding: Option<Founding>) -> Result<NextRoo
         → IfSome founding (λ f. IsTrue (founding_fits k f)) → IfOk result (λ new. CanMakeRoot k at keys new) }
 {
     let Some(old) = founding else {
+        drop(hashed);
         return Err(Refusal::NotFounded);
     };
     if old.root >= MAX_ROOTS {
+        drop(old);
+        drop(hashed);
         return Err(Refusal::RootFull);
     }
     if old.image_version >= MAX_COUNT {
+        drop(old);
+        drop(hashed);
         return Err(Refusal::VersionLimit);
     }
     Ok(NextRoot {

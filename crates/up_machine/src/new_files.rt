@@ -158,7 +158,11 @@ pub fn register_rows<K: Scheme>(
 {
     match image_targets(alloc, images.values()) {
         Ok(targets) => rows_with_targets(alloc, scheme, founding, targets),
-        Err(error) => Err(error),
+        Err(error) => {
+            // Dropped by name: at the end of a scope it would be proved part by part.
+            drop(founding);
+            Err(error)
+        }
     }
 }
 
@@ -180,7 +184,10 @@ pub(crate) fn rows_with_targets<K: Scheme>(
 {
     match image_files(alloc, scheme, &founding, targets) {
         Ok(files) => Ok(RegisterRows { founding, files }),
-        Err(error) => Err(error),
+        Err(error) => {
+            drop(founding);
+            Err(error)
+        }
     }
 }
 
@@ -202,7 +209,10 @@ pub(crate) fn rows_with_image<K: Scheme>(
 {
     match targets_with(alloc, images, image) {
         Ok(targets) => rows_with_targets(alloc, scheme, founding, targets),
-        Err(error) => Err(error),
+        Err(error) => {
+            drop(founding);
+            Err(error)
+        }
     }
 }
 

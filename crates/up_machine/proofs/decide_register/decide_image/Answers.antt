@@ -16,14 +16,14 @@ returns-then-same_image-clause-decided c = λ s row old.
     let same : same_image c.args.image.now c.in-Some-old.old.now ≡ true = sym c.same_image.ensures ∙ c.if-same_image.true in
     image_there s c.args.at c.args.image.now c.in-Some-old.old.now c.requires (has_roots s c.in-Some.founding (sym c.in-Some.is ∙ row)) found same
 
-pub returns-in-Some-old-clause-decided : goal.returns-in-Some-old-clause-decided
-returns-in-Some-old-clause-decided c = λ s row old.
+pub returns-else-same_image-clause-decided : goal.returns-else-same_image-clause-decided
+returns-else-same_image-clause-decided c = λ s row old.
     let found : table.get s.images c.args.image.now.file ≡ Some c.in-Some-old.old.now = sym old ∙ ap option_copied c.in-Some-old.is in
     let other : same_image c.args.image.now c.in-Some-old.old.now ≡ false = sym c.same_image.ensures ∙ c.if-same_image.false in
     image_taken s c.args.at c.args.image.now c.in-Some-old.old.now c.requires (has_roots s c.in-Some.founding (sym c.in-Some.is ∙ row)) found other
 
-pub returns-clause-decided : goal.returns-clause-decided
-returns-clause-decided c = λ s row old.
+pub returns-in-None-clause-decided : goal.returns-in-None-clause-decided
+returns-in-None-clause-decided c = λ s row old.
     let there = sym c.in-Some.is ∙ row in
     let none : table.get s.images c.args.image.now.file ≡ None = sym old ∙ ap option_copied c.in-None.is in
     (sym there, none, image_new s c.args.at c.args.image.now c.requires (has_roots s c.in-Some.founding there) none)
