@@ -6,6 +6,8 @@ ghost use Rattle.sqlite.specs.Held.{state};
 use crate::connections::serve;
 use crate::scripts::answer_lines;
 use sqlite::{Alter, Connection, FileFrom, FileStore, Unknown};
+use sqlite_disk::Disk;
+use std::alloc::Global;
 use std::fs;
 use up_desk::desk::Desk;
 use up_file::adopting::{adopt_or_create, take_for};
@@ -46,14 +48,16 @@ fn over_memory<K: Scheme>(rt: &HostRuntime, scheme: K, work: Work) -> Result<(),
     match adopt_or_create(conn) {
         Ok(store) => {
             let mut desk = Desk::new(scheme, store);
-            work_at(rt, &mut desk, work)
+            let ended = work_at(rt, &mut desk, work);
+            // The connection is what is dropped, which has a drop of its own: the proof of a desk's goes through all its parts.
+            released(desk);
+            ended
         }
         Err(_) => told(&mut rt.stderr(), Err(Failure::Unopened)),
     }
 }
 
-/// A file whose keys are another scheme's stays as it is. At the end the database's log is copied into its file; where it can't
-/// be, the next run finds all that was committed in the log.
+/// A file whose keys are another scheme's stays as it is.
 fn over_file<K: Scheme>(
     rt: &HostRuntime,
     scheme: K,
@@ -63,19 +67,56 @@ fn over_file<K: Scheme>(
     if !is_usable(rt, path) {
         return told(&mut rt.stderr(), Err(Failure::Unopened));
     }
-    let Some(conn) = connected(rt, path) else {
-        return told(&mut rt.stderr(), Err(Failure::Unopened));
-    };
-    match take_for(rt.alloc(), scheme.method(), conn) {
-        Ok(store) => closing(
-            Desk::new(scheme, store),
+    match connected(rt, path) {
+        Some(conn) => over_files(rt, scheme, conn, work),
+        None => told(&mut rt.stderr(), Err(Failure::Unopened)),
+    }
+}
+
+/// Works over a database in files. At the end its log is copied into its file; where it can't be, the next run finds all that was
+/// committed in the log.
+///
+/// Each call here that takes or gives a desk costs the proof ten seconds, since it is over files. So `desk_over` and `released`, which
+/// are over any database, hold the others.
+fn over_files<K: Scheme, D: Disk + Drop>(
+    rt: &HostRuntime,
+    scheme: K,
+    conn: Connection<FileStore<D>>,
+    work: Work,
+) -> Result<(), Failure>
+    requires mode { (file_state conn).in_transaction ≡ false }
+{
+    match desk_over(rt.alloc(), scheme, conn) {
+        Some(desk) => closing(
+            desk,
             |desk| work_at(rt, desk, work),
             |desk| {
-                close_file(desk.release().release()).ok();
+                close_file(released(desk)).ok();
             },
         ),
-        Err(_) => told(&mut rt.stderr(), Err(Failure::Unopened)),
+        None => told(&mut rt.stderr(), Err(Failure::Unopened)),
     }
+}
+
+/// A desk over a database that is this scheme's; none where it is another's, or can't be taken.
+fn desk_over<K: Scheme, D: Alter + Drop>(
+    alloc: Global,
+    scheme: K,
+    conn: Connection<D>,
+) -> Option<Desk<K, D>>
+    requires mode { (state D.Store conn).in_transaction ≡ false }
+{
+    match take_for(alloc, scheme.method(), conn) {
+        Ok(store) => Some(Desk::new(scheme, store)),
+        Err(_) => None,
+    }
+}
+
+/// The connection that a desk is over.
+fn released<K: Scheme, D: Alter>(desk: Desk<K, D>) -> Connection<D>
+    ensures { result ≡ desk.store.held }
+{
+    desk.release().release()
 }
 
 /// A connection over the database file at the path and its log; none where they can't be opened, or no connection can be made over
