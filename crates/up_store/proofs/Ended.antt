@@ -1,10 +1,11 @@
--- A write, from the start of its transaction to its end.
-use Rattle.std.proofs.Common.{true, ◌≡◌, ℕ, List, Result, Ok, Err, OnErr, IsTrue, refl, sym, subst, arith}
+-- A write or a read, from the start of its transaction to its end.
+use Rattle.std.proofs.Common.{true, ◌≡◌, ℕ, List, Result, Ok, Err, IfErr, OnErr, IsTrue, refl, sym, subst, arith}
 use Rattle.sqlite.proofs.StateLemmas.{survives_then}
 use Rattle.sqlite.proofs.Callers.{survives_begin}
 use Rattle.up_tables.proofs.TransactionLemmas.{undone}
-use Rattle.up_store.specs.Within.{EndsWrite, MadeAndPut}
-use Rattle.up_store.proofs.Common.{⊤, MutBor, Held, state, Row, Connected, HasCleanDisk, IsRolledBack, Trees, Ghosts, StateRows, AreWith, IfClean, IsAsCommitted, IsInside, Steps, WhereInside, up_schema, StoreFault, PutsRows, WritesStore, ListsRows}
+use Rattle.up_store.specs.Connections.{BlamesWithin, FindsSuch, NeedsOpen, ReadsStore}
+use Rattle.up_store.specs.Within.{EndsWrite, FoundWithin, MadeAndPut}
+use Rattle.up_store.proofs.Common.{⊤, MutBor, Held, state, Row, Connected, HasCleanDisk, IsRolledBack, Survives, Trees, Ghosts, StateRows, AreWith, IfClean, IsAsCommitted, IsInside, IsWithin, Steps, WhereInside, up_schema, StoreFault, KeepsRows, PutsRows, WritesStore, ListsRows, on_ok}
 use Rattle.up_store.proofs.WriteBlames.{put_blames, commit_blames, ran_write}
 use Rattle.up_store.proofs.Written.{was_open_before, wrote}
 
@@ -68,3 +69,31 @@ writes_store {S} g {viewed} {old} {tx} {mid} last {fits} {may} {next} {these} {P
     }
 writes_store {S} g {viewed} {old} {tx} {mid} last {fits} {may} {next} {these} {P} (Err f) r same begun step ends settled so =
     subst (WritesStore fits next these may (state g old) (state g last)) (sym ends.told) (failed g last f same begun step (subst (EndsWrite (Err f) (state g mid.now) (state g last)) ends.told ends) so)
+
+on_fault : {A E : Type 0} (r : Result A E) (P Q : E → Type 0) → ((f : E) → P f → Q f) → IfErr r P → IfErr r Q
+on_fault (Ok x) P Q so holds = tt
+on_fault (Err f) P Q so holds = so f holds
+
+-- what a read says, of what its step found and of how its transaction was dropped; what it finds in the tables speaks of no mode of the connection
+pub reads_store : {S A : Type 0} (g : Ghosts S) {viewed old : Held S} {tx mid : MutBor (Held S)} (last : Held S) {answer : StateRows → A} {finds : Connected → Connected → Result A StoreFault → Type 0} (r : Result A StoreFault)
+    → viewed ≡ old → tx.now ≡ record viewed { in_transaction = true } → WhereInside g tx (FoundWithin g (λ rows found. found ≡ answer rows) finds (λ _. ⊤) tx mid r)
+    → IfClean (IsRolledBack (state g mid.now)) (state g last) → Survives (state g mid.now) (state g last) (λ _. ⊥)
+    → ((HasCleanDisk (state g last) → HasCleanDisk (state g mid.now)) → finds (state g (record old { in_transaction = true })) (state g mid.now) r → finds (state g old) (state g last) r)
+    → ReadsStore answer finds (state g old) (state g last) r
+reads_store {S} {A} g {viewed} {old} {tx} {mid} last {answer} {finds} r same begun step rolled ends keeps =
+    let found = step (within g viewed begun) in
+    let began : tx.now ≡ record old { in_transaction = true } = subst (λ h. tx.now ≡ record h { in_transaction = true }) same begun in
+    let went : Steps (state g (record old { in_transaction = true })) (state g mid.now) = subst (λ h. Steps (state g h) (state g mid.now)) began found.step.steps in
+    let before : HasCleanDisk (state g last) → HasCleanDisk (state g mid.now) = λ clean. omega (arith, clean, ends.clean) in
+    let first : HasCleanDisk (state g last) → HasCleanDisk (state g old) = λ clean. omega (arith, clean, ends.clean, went.survives.clean) in
+    let told : FindsSuch (λ rows x. x ≡ answer rows) (state g (record old { in_transaction = true })) (state g mid.now) r = subst (λ h. FindsSuch (λ rows x. x ≡ answer rows) (state g h) (state g mid.now) r) began found.found in
+    let blame : BlamesWithin (λ _. ⊤) (state g (record old { in_transaction = true })) (state g mid.now) r = subst (λ h. BlamesWithin (λ _. ⊤) (state g h) (state g mid.now) r) began found.blame in
+    let kept : (rows : StateRows) → HasCleanDisk (state g last) → IfClean (KeepsRows rows) (state g old) → IsWithin up_schema (ListsRows rows) (state g (record old { in_transaction = true })) = λ rows clean keeps. record { mode = refl; here = (keeps (first clean)).here } in
+    record {
+      told = λ clean. on_ok r _ _ (λ x is rows keeps. is rows (kept rows clean keeps)) (told (before clean));
+      shown = keeps before (subst (λ h. finds (state g h) (state g mid.now) r) began found.shown);
+      blame = λ clean. on_fault r _ _ (λ f more is is_open limit rows keeps. let so = more is is_open limit rows (kept rows clean keeps) tt in omega (arith, ends.counts, so)) (blame (before clean));
+      kept = as_before g old mid.now (state g last) went before rolled;
+      crash = survives_then (state g old) (state g mid.now) (state g last) (λ _. ⊥) (λ _. ⊥) (λ _. ⊥) (λ _ db none. none) (λ _ db none. none) (survives_begin g old (state g mid.now) (λ _. ⊥) went.survives) ends;
+      «open» = λ clean. (subst (λ h. NeedsOpen (state g h) (state g mid.now) r) began found.«open») (before clean);
+    }

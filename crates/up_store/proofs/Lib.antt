@@ -11,6 +11,7 @@ pub mod VehicleReads
 pub mod Inserted
 pub mod EcuReads
 pub mod EcuSays
+pub mod LineSays
 pub mod VehiclePuts
 pub mod FoundingReads
 pub mod RootPuts

@@ -59,11 +59,12 @@ impl RowReading for CampaignReading {
     ghost line = { campaign_shown_line };
 
     fn read(_: Global, row: &Row) -> Result<CampaignShown, StoreFault> {
+        // The number first: where it is damaged, no text was copied yet.
         Ok(CampaignShown {
+            running: flag_at(row, 3)?,
             name: ident_at(row, 0)?,
             reach: words_at(row, 1)?,
             items: words_at(row, 2)?,
-            running: flag_at(row, 3)?,
         })
     }
 }
@@ -226,10 +227,8 @@ fn add_running(
     ensures told { OnOk result (PutsCampaign shown.now running.old running.new) }
     ensures fault { OfCampaign shown.now (λ _. OnlyMemory result) }
 {
-    let campaign = read_campaign(alloc, shown)?;
-    let name = name_of(alloc, campaign.name.text())?;
-    running.insert(name, campaign)?;
-    Ok(())
+    let reach = read_its_reach(alloc, shown)?;
+    put_reached(running, alloc, shown, reach)
 }
 
 /// The row of a campaign, of the columns of its reach and its items.

@@ -49,6 +49,8 @@ impl RowReading for EcuReading {
     ghost line = { ecu_shown };
 
     fn read(alloc: Global, row: &Row) -> Result<EcuRow, StoreFault> {
+        // The number first: where it is damaged, no text was copied yet.
+        let counter = count_at(row, 6)?;
         let report = words_or_null_at(row, 7)?;
         let installed = installed_at(alloc, row, &report)?;
         Ok(EcuRow {
@@ -56,7 +58,7 @@ impl RowReading for EcuReading {
             hardware: ident_at(row, 1)?,
             public: Bytes::new(bytes_at(row, 2)?),
             installed,
-            counter: count_at(row, 6)?,
+            counter,
             report,
         })
     }

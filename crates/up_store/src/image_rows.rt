@@ -59,12 +59,13 @@ impl RowReading for ImageReading {
     ghost line = { image_shown_line };
 
     fn read(_: Global, row: &Row) -> Result<ImageShown, StoreFault> {
+        // Numbers first: where one is damaged, no text was copied yet.
         Ok(ImageShown {
-            file: file_name_at(row, 0)?,
             length: count_at(row, 1)?,
             sha256: sha256_at(row, 2)?,
-            hardware: words_at(row, 3)?,
             release: count_at(row, 4)?,
+            file: file_name_at(row, 0)?,
+            hardware: words_at(row, 3)?,
             needs: words_at(row, 5)?,
             conflicts: words_at(row, 6)?,
         })

@@ -33,15 +33,16 @@ impl RowReading for KeptReading {
     ghost line = { kept_line };
 
     fn read(alloc: Global, row: &Row) -> Result<Kept, StoreFault> {
+        // Numbers first: where one is damaged, no text was copied yet.
         Ok(Kept {
-            vehicle: ident_at(row, 0)?,
             counter: count_at(row, 1)?,
             version: number_at(row, 2)?,
             at: moment_at(row, 3)?,
             root: number_at(row, 4)?,
+            vehicle: ident_at(row, 0)?,
             signed: words_at(row, 5)?,
-            plan: plan_at(alloc, row, 6)?,
             reply: words_at(row, 7)?,
+            plan: plan_at(alloc, row, 6)?,
         })
     }
 }

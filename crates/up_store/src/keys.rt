@@ -53,13 +53,14 @@ impl RowReading for KeyReading {
     ghost line = { key_row };
 
     fn read(_: Global, row: &Row) -> Result<RoleKey, StoreFault> {
+        // Numbers first: where one is damaged, no text was copied yet.
         Ok(RoleKey {
             root: number_at(row, 0)?,
+            place: number_at(row, 3)?,
+            threshold: number_at(row, 5)?,
             repository: words_at(row, 1)?,
             role: words_at(row, 2)?,
-            place: number_at(row, 3)?,
             secret: Bytes::new(bytes_at(row, 4)?),
-            threshold: number_at(row, 5)?,
         })
     }
 }

@@ -163,10 +163,10 @@ fn read_founding(
         → IfErr result (λ fault. fault ≡ StoreFault.Memory) }
 {
     Ok(Some(Founding {
+        stamp: moment_in(row.stamp)?,
         root: row.root,
         keys: read_keys(alloc, keys)?,
         image_version: row.image_version,
-        stamp: moment_in(row.stamp)?,
     }))
 }
 

@@ -48,11 +48,12 @@ impl RowReading for VehicleReading {
     ghost line = { row_of_vehicle };
 
     fn read(_: Global, row: &Row) -> Result<VehicleRow, StoreFault> {
+        // Numbers first: where one is damaged, no text was copied yet.
         Ok(VehicleRow {
-            vehicle: ident_at(row, 0)?,
-            primary: ident_at(row, 1)?,
             version: number_at(row, 2)?,
             last: count_at(row, 3)?,
+            vehicle: ident_at(row, 0)?,
+            primary: ident_at(row, 1)?,
         })
     }
 }

@@ -1,4 +1,4 @@
-use Rattle.std.proofs.Common.{◌≡◌, true, false, length, refl, sym, ap, ◌∙◌}
+use Rattle.std.proofs.Common.{◌≡◌, true, false, refl, sym, ap, ◌∙◌}
 use Rattle.up_store.proofs.Common.{image_fits, ok_then}
 use Rattle.up_store.proofs.ColumnReads.{same_image}
 use Rattle.up_store.proofs.MemoryAlone.{memory_on, fits_alone}

@@ -1,4 +1,4 @@
-use Rattle.std.proofs.Common.{◌≡◌, Some, None, refl, rules}
+use Rattle.std.proofs.Common.{◌≡◌, Some, None, rules}
 use Rattle.up_store.proofs.Common.{⊤, meta_shown, meta_table, meta_told, ok_then, state}
 use Rattle.up_store.proofs.KindsOfFounding.{held_blames, holds_numbers, numbers_found, said_fits}
 use Rattle.up_store.proofs.WithinLemmas.{finds_fault}
