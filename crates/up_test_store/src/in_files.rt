@@ -31,8 +31,9 @@ impl<D: Crash + Drop> InFiles<D> {
     }
 
     /// The files, where they are still held.
-    pub(crate) fn into_files(self) -> Option<Files<D>> {
-        let InFiles { held, .. } = self;
+    pub(crate) fn into_files(mut self) -> Option<Files<D>> {
+        let held = self.held.take();
+        drop(self);
         match held {
             Some(Held::Bare(conn)) => Some(conn.into_store().close()),
             Some(Held::Ours(store)) => Some(store.release().into_store().close()),

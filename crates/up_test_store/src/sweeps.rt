@@ -129,7 +129,10 @@ fn files_made(alloc: Global, statements: &str) -> Result<Option<Files<Memory>>, 
     let mut files = InFiles::new(alloc, new_files(alloc), false);
     match told(alloc, &mut files, statements) {
         Ok(_) => Ok(files.into_files()),
-        Err(refused) => Err(refused),
+        Err(refused) => {
+            drop(files);
+            Err(refused)
+        }
     }
 }
 
@@ -141,7 +144,10 @@ fn told_over(
     let mut files = InFiles::new(alloc, files, false);
     match told(alloc, &mut files, rows) {
         Ok(text) => Ok((text, files.into_files())),
-        Err(refused) => Err(refused),
+        Err(refused) => {
+            drop(files);
+            Err(refused)
+        }
     }
 }
 

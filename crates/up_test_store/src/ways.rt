@@ -46,5 +46,7 @@ pub(crate) fn one_way(alloc: Global, place: &str, section: &str) -> Result<Strin
 
 fn in_files(alloc: Global, section: &str, turns: bool) -> Result<String, AllocError> {
     let mut files = InFiles::new(alloc, new_files(alloc), turns);
-    told(alloc, &mut files, section)
+    let told = told(alloc, &mut files, section);
+    drop(files);
+    told
 }

@@ -3,11 +3,14 @@
 //! `do LINE` is carried out by the desk of each later client. `ends INPUT` is a client that writes its bytes and ends its half,
 //! `stays INPUT` one that keeps its half open.
 use crate::desks::{AT, carry_out, in_memory};
+use sqlite::Alter;
 use std::alloc::{AllocError, Global};
 use std::io;
 use std::io::Write;
 use std::net::{Shutdown, TcpListener, TcpStream};
+use up_desk::desk::Desk;
 use up_service::stream::serve_stream;
+use up_sign::hmac_sha256::HmacSha256;
 use up_test_rows::calls::Calls;
 use up_test_rows::devices::{bytes_of, text_of};
 use up_test_rows::sections::told;
@@ -92,8 +95,19 @@ fn answer_told(alloc: Global, requests: u32, answer: &str) -> Result<String, All
 /// Serves a connection at a desk of its own: how many requests were answered.
 fn served(alloc: Global, script: &str, stream: &TcpStream) -> io::Result<u32> {
     let mut desk = in_memory(alloc)?;
-    carry_out(alloc, &mut desk, script)?;
-    match serve_stream(alloc, &mut desk, AT, &mut &*stream, &mut &*stream) {
+    let requests = served_at(alloc, &mut desk, script, stream);
+    drop(desk);
+    requests
+}
+
+fn served_at<D: Alter>(
+    alloc: Global,
+    desk: &mut Desk<HmacSha256, D>,
+    script: &str,
+    stream: &TcpStream,
+) -> io::Result<u32> {
+    carry_out(alloc, desk, script)?;
+    match serve_stream(alloc, desk, AT, &mut &*stream, &mut &*stream) {
         Ok(served) => Ok(served.requests),
         Err(_) => Err(io::Error::from(io::ErrorKind::Other)),
     }

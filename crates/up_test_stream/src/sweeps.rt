@@ -184,15 +184,20 @@ fn other_lines(one: &str, another: &str) -> u32 {
 /// What comes of a run with a call that fails, and of the same once more, a line for each, at a desk of its own.
 fn runs_told(alloc: Global, sweep: Sweep, failing: Failing) -> Result<String, AllocError> {
     match sweep.medium {
-        Medium::Memory => {
-            let mut desk = in_memory(alloc)?;
-            runs_at(alloc, &mut desk, sweep, failing)
-        }
-        Medium::Files => {
-            let mut desk = in_files(alloc)?;
-            runs_at(alloc, &mut desk, sweep, failing)
-        }
+        Medium::Memory => runs_over(alloc, in_memory(alloc)?, sweep, failing),
+        Medium::Files => runs_over(alloc, in_files(alloc)?, sweep, failing),
     }
+}
+
+fn runs_over<D: Alter + Drop>(
+    alloc: Global,
+    mut desk: Desk<HmacSha256, D>,
+    sweep: Sweep,
+    failing: Failing,
+) -> Result<String, AllocError> {
+    let runs = runs_at(alloc, &mut desk, sweep, failing);
+    drop(desk);
+    runs
 }
 
 fn runs_at<D: Alter>(

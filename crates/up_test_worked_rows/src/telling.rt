@@ -37,16 +37,27 @@ fn told_under<K: Scheme + Copy>(
     format!(in alloc; "{name} {memory}\n{name} {files}")
 }
 
+/// A way to carry out a row at one desk.
+#[derive(Clone, Copy)]
+enum Way {
+    /// As a script that is read so many bytes at a time.
+    Script(usize),
+    /// As one run over the commands.
+    Run,
+    /// By one call after another.
+    Calls,
+}
+
 /// The ways over databases in memory.
 fn told_in_memory<K: Scheme + Copy>(
     alloc: Global,
     scheme: K,
     row: &Row,
 ) -> Result<String, AllocError> {
-    let whole = script_told(alloc, Desk::new(scheme, in_memory(alloc)?), row, 1_000_000)?;
-    let bytes = script_told(alloc, Desk::new(scheme, in_memory(alloc)?), row, 1)?;
-    let run = run_told(alloc, Desk::new(scheme, in_memory(alloc)?), row)?;
-    let calls = calls_told(alloc, Desk::new(scheme, in_memory(alloc)?), row)?;
+    let whole = over_memory(alloc, scheme, row, Way::Script(1_000_000))?;
+    let bytes = over_memory(alloc, scheme, row, Way::Script(1))?;
+    let run = over_memory(alloc, scheme, row, Way::Run)?;
+    let calls = over_memory(alloc, scheme, row, Way::Calls)?;
     let turns = by_turns_in_memory(alloc, scheme, in_memory(alloc)?, row)?;
     format!(in alloc;
         "in memory: script {whole}, by bytes {bytes}, run {run}, calls {calls}, in turns {turns}"
@@ -59,40 +70,45 @@ fn told_in_files<K: Scheme + Copy>(
     scheme: K,
     row: &Row,
 ) -> Result<String, AllocError> {
-    let whole = script_told(alloc, Desk::new(scheme, in_files(alloc)?), row, 1_000_000)?;
-    let bytes = script_told(alloc, Desk::new(scheme, in_files(alloc)?), row, 1)?;
-    let run = run_told(alloc, Desk::new(scheme, in_files(alloc)?), row)?;
-    let calls = calls_told(alloc, Desk::new(scheme, in_files(alloc)?), row)?;
+    let whole = over_files(alloc, scheme, row, Way::Script(1_000_000))?;
+    let bytes = over_files(alloc, scheme, row, Way::Script(1))?;
+    let run = over_files(alloc, scheme, row, Way::Run)?;
+    let calls = over_files(alloc, scheme, row, Way::Calls)?;
     let turns = by_turns_in_files(alloc, scheme, in_files(alloc)?, row)?;
     format!(in alloc;
         "in files: script {whole}, by bytes {bytes}, run {run}, calls {calls}, in turns {turns}"
     )
 }
 
-/// As a script that is read so many bytes at a time.
-fn script_told<K: Scheme, D: Alter + Drop>(
+fn over_memory<K: Scheme>(
     alloc: Global,
-    mut desk: Desk<K, D>,
+    scheme: K,
     row: &Row,
-    most: usize,
+    way: Way,
 ) -> Result<String, AllocError> {
-    by_script(alloc, &mut desk, row, most)
+    told_at(alloc, Desk::new(scheme, in_memory(alloc)?), row, way)
 }
 
-/// As one run over the commands.
-fn run_told<K: Scheme, D: Alter + Drop>(
+fn over_files<K: Scheme>(
     alloc: Global,
-    mut desk: Desk<K, D>,
+    scheme: K,
     row: &Row,
+    way: Way,
 ) -> Result<String, AllocError> {
-    by_run(alloc, &mut desk, row)
+    told_at(alloc, Desk::new(scheme, in_files(alloc)?), row, way)
 }
 
-/// By one call after another.
-fn calls_told<K: Scheme, D: Alter + Drop>(
+fn told_at<K: Scheme, D: Alter + Drop>(
     alloc: Global,
     mut desk: Desk<K, D>,
     row: &Row,
+    way: Way,
 ) -> Result<String, AllocError> {
-    by_calls(alloc, &mut desk, row)
+    let told = match way {
+        Way::Script(most) => by_script(alloc, &mut desk, row, most),
+        Way::Run => by_run(alloc, &mut desk, row),
+        Way::Calls => by_calls(alloc, &mut desk, row),
+    };
+    drop(desk);
+    told
 }

@@ -92,6 +92,7 @@ pub(crate) fn by_turns_in_memory<K: Scheme + Copy>(
             store = turn(alloc, scheme, memory_again(store)?, &mut out, line)?;
         }
     }
+    drop(store);
     compared(alloc, out.as_str(), row.called.as_str())
 }
 
@@ -105,10 +106,21 @@ pub(crate) fn by_turns_in_files<K: Scheme + Copy>(
     let mut out = String::new(alloc);
     for line in row.asked.lines() {
         if !line.is_empty() {
-            store = turn(alloc, scheme, files_again(alloc, store)?, &mut out, line)?;
+            store = turn_in_files(alloc, scheme, store, &mut out, line)?;
         }
     }
+    drop(store);
     compared(alloc, out.as_str(), row.called.as_str())
+}
+
+fn turn_in_files<K: Scheme>(
+    alloc: Global,
+    scheme: K,
+    store: Store<FileStore<Memory>>,
+    out: &mut String,
+    line: &str,
+) -> Result<Store<FileStore<Memory>>, AllocError> {
+    turn(alloc, scheme, files_again(alloc, store)?, out, line)
 }
 
 fn turn<K: Scheme, D: Alter + Drop>(
@@ -119,8 +131,13 @@ fn turn<K: Scheme, D: Alter + Drop>(
     line: &str,
 ) -> Result<Store<D>, AllocError> {
     let mut desk = Desk::new(scheme, store);
-    push_called(alloc, &mut desk, out, line)?;
-    Ok(desk.release())
+    match push_called(alloc, &mut desk, out, line) {
+        Ok(()) => Ok(desk.release()),
+        Err(refused) => {
+            drop(desk);
+            Err(refused)
+        }
+    }
 }
 
 fn push_called<K: Scheme, D: Alter>(
@@ -149,7 +166,11 @@ fn push_asked<K: Scheme, D: Alter>(
 {
     let Asked { at, what } = asked;
     match what {
-        What::Call(command) => push_answered(alloc, desk, out, at.get(), &command),
+        What::Call(command) => {
+            let pushed = push_answered(alloc, desk, out, at.get(), &command);
+            drop(command);
+            pushed
+        }
         What::Show(vehicle) => push_view(alloc, desk, out, &vehicle),
     }
 }
@@ -166,7 +187,10 @@ fn push_answered<K: Scheme, D: Alter>(
 {
     let copied = command.copy(alloc)?;
     let answer = call_again(alloc, desk, at, &copied);
-    push_copy(alloc, out, &answer)
+    drop(copied);
+    let pushed = push_copy(alloc, out, &answer);
+    drop(answer);
+    pushed
 }
 
 fn push_copy(alloc: Global, out: &mut String, answer: &Answer) -> Result<(), AllocError> {
