@@ -81,7 +81,7 @@ fn connected(
         client.shutdown(Shutdown::Write)?;
     }
     let (server, _) = listener.accept()?;
-    let requests = served(alloc, script, &server)?;
+    let requests = served_alone(alloc, script, &server)?;
     server.shutdown(Shutdown::Write)?;
     let answer = io::read_to_string(alloc, client)?;
     Ok(answer_told(alloc, requests, answer.as_str())?)
@@ -93,14 +93,14 @@ fn answer_told(alloc: Global, requests: u32, answer: &str) -> Result<String, All
 }
 
 /// Serves a connection at a desk of its own: how many requests were answered.
-fn served(alloc: Global, script: &str, stream: &TcpStream) -> io::Result<u32> {
+fn served_alone(alloc: Global, script: &str, stream: &TcpStream) -> io::Result<u32> {
     let mut desk = in_memory(alloc)?;
-    let requests = served_at(alloc, &mut desk, script, stream);
+    let requests = served(alloc, &mut desk, script, stream);
     drop(desk);
     requests
 }
 
-fn served_at<D: Alter>(
+fn served<D: Alter>(
     alloc: Global,
     desk: &mut Desk<HmacSha256, D>,
     script: &str,
