@@ -41,7 +41,16 @@ fn founding<K: Scheme>(
 {
     let is_founded = register.founding.is_some();
     let new = decide_found(alloc, scheme, at, keys, is_founded)?;
-    Ok(root_rows(alloc, scheme, at, keys, &new, &register.images)?)
+    match root_rows(alloc, scheme, at, keys, &new, &register.images) {
+        Ok(rows) => {
+            drop(new);
+            Ok(rows)
+        }
+        Err(refused) => {
+            drop(new);
+            Err(Refusal::from(refused))
+        }
+    }
 }
 
 /// The answer to a rotation.

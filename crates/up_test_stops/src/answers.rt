@@ -42,7 +42,11 @@ fn line_answered<D: Alter>(
     line: &str,
 ) -> Result<String, AllocError> {
     match asked_by(alloc, desk.scheme(), line.as_bytes()) {
-        Ok(asked) => asked_answered(alloc, desk, &asked),
+        Ok(asked) => {
+            let answered = asked_answered(alloc, desk, &asked);
+            drop(asked);
+            answered
+        }
         Err(refusal) => refused_text(alloc, &refusal),
     }
 }
