@@ -41,16 +41,7 @@ fn founding<K: Scheme>(
 {
     let is_founded = register.founding.is_some();
     let new = decide_found(alloc, scheme, at, keys, is_founded)?;
-    match root_rows(alloc, scheme, at, keys, &new, &register.images) {
-        Ok(rows) => {
-            drop(new);
-            Ok(rows)
-        }
-        Err(refused) => {
-            drop(new);
-            Err(Refusal::from(refused))
-        }
-    }
+    Ok(root_rows(alloc, scheme, at, keys, &new, &register.images)?)
 }
 
 /// The answer to a rotation.
