@@ -32,24 +32,6 @@ pub(crate) fn found(
     }
 }
 
-pub(crate) fn close(conn: Connection<FileStore<FileFrom<Unknown>>>) -> io::Result<()> {
-    match close_file(conn) {
-        Ok(_) => Ok(()),
-        Err(_) => Err(io::ErrorKind::Other.into()),
-    }
-}
-
-/// The fault with which a file is refused, and whether files came back with it; none where it is opened.
-fn refusal(rt: &HostRuntime, path: &str) -> Option<(OpenFault, bool)> {
-    match opened(rt, path) {
-        Ok(conn) => {
-            drop(conn);
-            None
-        }
-        Err(refused) => Some(refused),
-    }
-}
-
 fn mode(rt: &HostRuntime, path: &str) -> Result<u32, Fail> {
     Ok(fs::metadata(rt, path)?.mode() & 0o777)
 }
@@ -68,18 +50,6 @@ fn is_ours<S: Alter>(conn: &mut Connection<S>) -> Result<bool, OpenFault> {
     take_tables(conn)
 }
 
-/// Whether a file has the tables, and whether they are made then. It is closed.
-fn made(
-    rt: &HostRuntime,
-    path: &str,
-) -> io::Result<(Result<bool, OpenFault>, Result<(), OpenFault>)> {
-    let mut conn = found(rt, path)?;
-    let had = is_ours(&mut conn);
-    let made = create(&mut conn);
-    close(conn)?;
-    Ok((had, made))
-}
-
 pub(crate) fn in_new_folder(rt: &HostRuntime, folder: &str) -> Result<(), Fail> {
     let _ = fs::remove_dir_all(rt, folder);
     fs::create_dir(rt, folder)?;
@@ -90,14 +60,19 @@ pub(crate) fn in_new_folder(rt: &HostRuntime, folder: &str) -> Result<(), Fail> 
 #[test]
 fn a_new_file_is_its_owners_alone(rt: HostRuntime) -> Result<(), Fail> {
     in_new_folder(&rt, "up_file_new")?;
-    let conn = found(&rt, "up_file_new/a.db")?;
-    let second = refusal(&rt, "up_file_new/a.db");
-    drop(conn);
-    assert_eq!(rt; second, Some((OpenFault::Store, false)));
+    let conn = opened(&rt, "up_file_new/a.db");
+    assert!(rt; conn.is_ok());
     assert_eq!(rt; mode(&rt, "up_file_new/a.db")?, 0o600);
     assert_eq!(rt; mode(&rt, "up_file_new/a.db-wal")?, 0o600);
+    assert!(rt;
+        matches!(
+            opened(&rt, "up_file_new/a.db"),
+            Err((OpenFault::Store, false))
+        )
+    );
+    drop(conn);
     fs::set_permissions(&rt, "up_file_new/a.db", fs::Permissions::from_mode(0o640))?;
-    assert_eq!(rt; refusal(&rt, "up_file_new/a.db"), None);
+    assert!(rt; opened(&rt, "up_file_new/a.db").is_ok());
     assert_eq!(rt; mode(&rt, "up_file_new/a.db")?, 0o640);
     fs::remove_dir_all(&rt, "up_file_new")?;
     Ok(())
@@ -107,12 +82,14 @@ fn a_new_file_is_its_owners_alone(rt: HostRuntime) -> Result<(), Fail> {
 #[test]
 fn a_closed_file_stands_alone(rt: HostRuntime) -> Result<(), Fail> {
     in_new_folder(&rt, "up_file_closed")?;
-    assert_eq!(rt; made(&rt, "up_file_closed/a.db")?, (Ok(false), Ok(())));
+    let mut conn = found(&rt, "up_file_closed/a.db")?;
+    assert_eq!(rt; is_ours(&mut conn), Ok(false));
+    assert_eq!(rt; create(&mut conn), Ok(()));
+    assert!(rt; close_file(conn).is_ok());
     fs::remove_file(&rt, "up_file_closed/a.db-wal")?;
-    assert_eq!(rt;
-        made(&rt, "up_file_closed/a.db")?,
-        (Ok(true), Err(OpenFault::NotOurs))
-    );
+    let mut conn = found(&rt, "up_file_closed/a.db")?;
+    assert_eq!(rt; is_ours(&mut conn), Ok(true));
+    drop(conn);
     fs::remove_dir_all(&rt, "up_file_closed")?;
     Ok(())
 }
@@ -130,11 +107,10 @@ fn what_is_no_database_file_is_refused(rt: HostRuntime) -> Result<(), Fail> {
         ("up_file_refused/no/a.db", false),
         ("up_file_refused/text", true),
     ] {
-        assert_eq!(rt;
-            refusal(&rt, path),
-            Some((OpenFault::Store, has_files)),
-            "{path}"
-        );
+        let Err(refused) = opened(&rt, path) else {
+            return Err(Fail::from(io::Error::from(io::ErrorKind::Other)));
+        };
+        assert_eq!(rt; refused, (OpenFault::Store, has_files), "{path}");
     }
     assert!(rt; fs::metadata(&rt, "file:up_file_refused/a.db").is_err());
     let text = fs::read(&rt, "up_file_refused/text")?;
@@ -147,15 +123,19 @@ fn what_is_no_database_file_is_refused(rt: HostRuntime) -> Result<(), Fail> {
 #[test]
 fn a_changed_bit_is_found(rt: HostRuntime) -> Result<(), Fail> {
     in_new_folder(&rt, "up_file_changed")?;
-    assert_eq!(rt; made(&rt, "up_file_changed/a.db")?, (Ok(false), Ok(())));
+    let mut conn = found(&rt, "up_file_changed/a.db")?;
+    assert_eq!(rt; create(&mut conn), Ok(()));
+    assert!(rt; close_file(conn).is_ok());
     for at in [18, 100, 3000, 4095, 4096, 8000] {
         let mut bytes = fs::read(&rt, "up_file_changed/a.db")?;
         assert!(rt; at < bytes.len());
         bytes[at] ^= 1;
         fs::write(&rt, "up_file_changed/b.db", bytes.as_slice())?;
-        assert_eq!(rt;
-            refusal(&rt, "up_file_changed/b.db"),
-            Some((OpenFault::Store, true)),
+        assert!(rt;
+            matches!(
+                opened(&rt, "up_file_changed/b.db"),
+                Err((OpenFault::Store, true))
+            ),
             "{at}"
         );
     }

@@ -1,9 +1,10 @@
 //! Files of older schemas, which are taken. The statements are those of their own schema, and no part of the program.
-use crate::files::{close, found, in_new_folder};
-use sqlite::{Alter, Connection};
+use crate::files::{found, in_new_folder};
+use sqlite::{Alter, Connection, FileFrom, FileStore, Unknown};
 use std::test::Fail;
 use std::{fs, io};
 use up_file::adopting::adopt_or_create;
+use up_file::closing::close_file;
 
 const EIGHT_TABLES: [&str; 8] = [
     "CREATE TABLE meta (id INTEGER PRIMARY KEY, app TEXT NOT NULL, schema INTEGER NOT NULL, root INTEGER NOT NULL, image_version INTEGER NOT NULL, stamp INTEGER NOT NULL) STRICT",
@@ -80,15 +81,17 @@ fn taken<S: Alter + Drop>(conn: Connection<S>) -> Option<Connection<S>> {
 /// Makes a file of schema 1, carries out more statements, and closes it.
 fn make(rt: &HostRuntime, path: &str, more: &[&str]) -> io::Result<()> {
     let mut conn = found(rt, path)?;
-    let filled = fill(&mut conn, more);
-    close(conn)?;
-    filled
+    carry_out(&mut conn, EIGHT_TABLES.as_slice())?;
+    carry_out(&mut conn, ROWS.as_slice())?;
+    carry_out(&mut conn, more)?;
+    close(conn)
 }
 
-fn fill<S: Alter>(conn: &mut Connection<S>, more: &[&str]) -> io::Result<()> {
-    carry_out(conn, EIGHT_TABLES.as_slice())?;
-    carry_out(conn, ROWS.as_slice())?;
-    carry_out(conn, more)
+fn close(conn: Connection<FileStore<FileFrom<Unknown>>>) -> io::Result<()> {
+    match close_file(conn) {
+        Ok(_) => Ok(()),
+        Err(_) => failed(),
+    }
 }
 
 /// Whether the file is taken, holds the rows in tables of this schema, and has all ten of these. It is closed again.
@@ -96,43 +99,20 @@ fn is_raised(rt: &HostRuntime, path: &str) -> io::Result<bool> {
     let Some(mut conn) = taken(found(rt, path)?) else {
         return Ok(false);
     };
-    let is_raised = holds_rows(&mut conn);
-    close(conn)?;
-    is_raised
-}
-
-fn holds_rows<S: Alter>(conn: &mut Connection<S>) -> io::Result<bool> {
     for sql in HELD {
-        if count(conn, sql)? != 1 {
+        if count(&mut conn, sql)? != 1 {
             return Ok(false);
         }
     }
-    Ok(count(conn, TABLES)? == 10)
-}
-
-/// Whether the file is taken. It is closed again.
-fn is_taken(rt: &HostRuntime, path: &str) -> io::Result<bool> {
-    match taken(found(rt, path)?) {
-        Some(conn) => {
-            close(conn)?;
-            Ok(true)
-        }
-        None => Ok(false),
-    }
-}
-
-/// How many rows a query finds in the file.
-fn count_in(rt: &HostRuntime, path: &str, sql: &str) -> io::Result<usize> {
-    let mut conn = found(rt, path)?;
-    let rows = count(&mut conn, sql);
+    let tables = count(&mut conn, TABLES)?;
     close(conn)?;
-    rows
+    Ok(tables == 10)
 }
 
 /// Whether the file is refused, and none of its bytes is changed by that.
 fn is_refused(rt: &HostRuntime, path: &str) -> io::Result<bool> {
     let before = fs::read(rt, path)?;
-    if is_taken(rt, path)? {
+    if taken(found(rt, path)?).is_some() {
         return Ok(false);
     }
     let after = fs::read(rt, path)?;
@@ -157,8 +137,15 @@ fn a_file_of_schema_2_is_raised(rt: HostRuntime) -> Result<(), Fail> {
     in_new_folder(&rt, "up_file_second")?;
     make(&rt, "up_file_second/a.db", SECOND.as_slice())?;
     assert!(rt; is_raised(&rt, "up_file_second/a.db")?);
-    let retired = "SELECT ecu FROM retired WHERE ecu = 'S1' AND vehicle = 'V1'";
-    assert_eq!(rt; count_in(&rt, "up_file_second/a.db", retired)?, 1);
+    let mut conn = found(&rt, "up_file_second/a.db")?;
+    assert_eq!(rt;
+        count(
+            &mut conn,
+            "SELECT ecu FROM retired WHERE ecu = 'S1' AND vehicle = 'V1'"
+        )?,
+        1
+    );
+    drop(conn);
     fs::remove_dir_all(&rt, "up_file_second")?;
     Ok(())
 }
@@ -187,10 +174,18 @@ fn another_schema_is_refused(rt: HostRuntime) -> Result<(), Fail> {
 #[test]
 fn a_new_file_gets_the_tables(rt: HostRuntime) -> Result<(), Fail> {
     in_new_folder(&rt, "up_file_made")?;
-    assert!(rt; is_taken(&rt, "up_file_made/a.db")?);
-    let meta = "SELECT id FROM meta WHERE schema = 3 AND root = 0";
-    assert_eq!(rt; count_in(&rt, "up_file_made/a.db", TABLES)?, 10);
-    assert_eq!(rt; count_in(&rt, "up_file_made/a.db", meta)?, 1);
+    let Some(mut conn) = taken(found(&rt, "up_file_made/a.db")?) else {
+        return Err(Fail::from(io::Error::from(io::ErrorKind::Other)));
+    };
+    assert_eq!(rt; count(&mut conn, TABLES)?, 10);
+    assert_eq!(rt;
+        count(
+            &mut conn,
+            "SELECT id FROM meta WHERE schema = 3 AND root = 0"
+        )?,
+        1
+    );
+    drop(conn);
     fs::remove_dir_all(&rt, "up_file_made")?;
     Ok(())
 }
