@@ -8,13 +8,9 @@ import hashlib
 import hmac
 import json
 import re
-import sys
 from datetime import datetime, timedelta, timezone
-from pathlib import Path
 
 # (Python's standard library has no Ed25519; an ECU has a library of its own, or its hardware)
-sys.path.append(str(Path(__file__).resolve().parents[2] / "tools" / "oracle"))
-
 import ed25519
 
 
@@ -36,6 +32,8 @@ class Ed25519:
     public_of, sign, verify = ed25519.public_of, ed25519.sign, ed25519.verify
 
 
+# the greatest number, and how many lists and objects may stand in one another
+MOST, DEEPEST = 2**53 - 1, 16
 SCHEMES = {it.method: it for it in (HmacSha256, Ed25519)}
 scheme = HmacSha256
 
@@ -51,22 +49,54 @@ def canonical(value):
     return json.dumps(value, sort_keys=True, separators=(",", ":"))
 
 
+def is_plain(value, deepest=DEEPEST):
+    """Whether a value has a canonical text: of printable ASCII and whole numbers, and not too deep."""
+    if isinstance(value, (bool, type(None))):
+        return True
+    if isinstance(value, int):
+        return 0 <= value <= MOST
+    if isinstance(value, str):
+        return all(" " <= it <= "~" for it in value)
+    if not isinstance(value, (dict, list)) or deepest == 0:
+        return False
+    parts = [*value, *value.values()] if isinstance(value, dict) else value
+    return all(is_plain(it, deepest - 1) for it in parts)
+
+
+def value_of(text):
+    """The value of a JSON text. What is no JSON is a ValueError: Python's own reader takes NaN too,
+    and -0, which is no whole number, for 0."""
+
+    def refuse(name):
+        raise ValueError("%s is no JSON" % name)
+
+    try:
+        whole = lambda digits: -0.0 if digits == "-0" else int(digits)
+        return json.loads(text, parse_constant=refuse, parse_int=whole)
+    except RecursionError:
+        raise ValueError("lists in lists without end") from None
+
+
 def key_identifier(public):
     """The identifier of a key: HMAC-SHA-256 of a fixed word under its public part, in lower case hex."""
     return hmac.new(public, b"uptane-key-id", hashlib.sha256).hexdigest()
 
 
 class File(dict):
-    """An envelope, and its text as it was served: a Timestamp names the SHA-256 of the Snapshot's text."""
+    """An envelope, and its text as it was served: a Timestamp names the SHA-256 of the Snapshot's
+    text. What is no object has no member."""
 
     def __init__(self, text):
-        super().__init__(json.loads(text))
+        value = value_of(text)
+        super().__init__(value if isinstance(value, dict) else {})
         self.text = text
 
 
 def reply_of(text):
     """A Director's reply. Its files have their own texts: what stands between two members of the reply belongs to neither."""
-    reply, decoder, at = json.loads(text), json.JSONDecoder(), text.index("{") + 1
+    reply, decoder, at = value_of(text), json.JSONDecoder(), text.find("{") + 1
+    if not isinstance(reply, dict):
+        raise ValueError("that is no reply")
     spaces = re.compile(r"[ \t\n\r,:]*")
     while text[at := spaces.match(text, at).end()] != "}":
         name, at = decoder.raw_decode(text, at)
@@ -78,11 +108,13 @@ def reply_of(text):
 
 
 def has_form(key, name):
-    """Whether a Root shows a key as it has to: of this scheme, and under its identifier, in the one encoding of a point."""
+    """Whether a Root shows a key as it has to: of this scheme, and under its identifier, in the one
+    encoding of a point."""
     if scheme is HmacSha256:
         return key == key | {"method": scheme.method, "public": ""}
     public = bytes.fromhex(key["public"]) if re.fullmatch("[0-9a-f]{64}", key["public"]) else b""
-    return key["method"] == scheme.method and len(public) == 32 and key_identifier(public) == name and ed25519.decode(public) is not None
+    is_point = len(public) == 32 and ed25519.decode(public) is not None
+    return key["method"] == scheme.method and is_point and key_identifier(public) == name
 
 
 def shown_keys(root):
@@ -108,12 +140,15 @@ def sealed(secret, signed):
 
 
 def is_signed_by(envelope, key):
-    """Whether some signature of the envelope is this key's, over the canonical text of what is signed."""
+    """Whether some signature of the envelope is this key's, over the canonical text of what is
+    signed. The algorithm is that of the trusted key: a signature's `method` has to name it, and
+    never chooses one."""
     identifier, data = key_identifier(key), canonical(envelope["signed"]).encode("ascii")
-    return any(
-        one["keyid"] == identifier and one["method"] == scheme.method and scheme.verify(key, data, bytes.fromhex(one["sig"]))
-        for one in envelope["signatures"]
-    )
+    for one in envelope["signatures"]:
+        is_keys = one["keyid"] == identifier and one["method"] == scheme.method
+        if is_keys and scheme.verify(key, data, bytes.fromhex(one["sig"])):
+            return True
+    return False
 
 
 def hashes(given):

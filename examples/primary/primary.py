@@ -22,8 +22,9 @@ is with VEHICLE and SECRETS; under Ed25519 `check` takes the text of the Directo
 VEHICLE is a file that holds what the vehicle knows, `vehicle.json` for one; it is written anew in each round. It holds secrets: the
 ECUs', and under HMAC those of the repositories' roles. In a vehicle each ECU signs its own report with its own key and hands the envelope to
 the Primary, and checks the metadata once more; here one program holds all keys. Images aren't served by the repositories: a round
-takes them from a folder, by their filenames, and leaves out those that aren't there yet. What `trust` fetches is believed as it
-comes: so that is done once, in the factory, and over a connection that nobody else can change.
+takes them from a folder, by their filenames, and installs none before all are there. What `trust` fetches is believed as it
+comes: so that is done once, in the factory, and over a connection that nobody else can change. Where an ECU was
+replaced, its old identifier is put into the list `replaced`.
 
 The status is 0 where all went well, 1 with a message where it didn't, and 2 where the words are wrong.
 """
@@ -39,39 +40,67 @@ from pathlib import Path
 
 sys.dont_write_bytecode = True
 
+import forms
 import verify
-from envelopes import File, canonical, hashes, key_identifier, manifest, reply_of, use
+from envelopes import MOST, File, canonical, hashes, key_identifier, manifest, reply_of, use, value_of
 
-# seconds: what an answer may take, longer than the proxies of `examples/service` wait, and the waits between tries, each half as long again at
-# random so that a fleet doesn't come at once
+# seconds: what an answer may take, longer than the proxies of `examples/service` wait, and the waits
+# between tries, each half as long again at random so that a fleet doesn't come at once
 PATIENCE = 100
 WAITS = (1, 3, 9)
-# seconds between two rounds, and behind the first that failed; that wait doubles with each further one
-INTERVAL, FAILED = 86_400, 300
+# seconds between two rounds, and behind one that failed or installed something; behind each further
+# one that failed the wait doubles
+INTERVAL, SOON = 86_400, 300
 
 
 class Failed(Exception):
-    """What ends a round, told in one line."""
+    """What ends a round without a verdict, told in one line."""
 
 
 # ---- requests
 
 
+def follows(status, text):
+    """What a Primary does after an answer: `read` it; send the same `again`, since the answer is no
+    verdict on it; raise the manifest's `counter` above a number, or that of an ECU's `report`; or
+    nothing until somebody has made good what the answer names (`mend`)."""
+    try:
+        told = value_of(text) if status != 200 else {}
+        told = told if isinstance(told, dict) else {}
+    except ValueError:
+        told = {}
+    error, words = told.get("error"), str(told.get("text", "")).split()
+    if status == 200:
+        return "read", None
+    if status >= 500 or type(error) is not int or error < 1 or not words:
+        return "again", None
+    value = words[1] if len(words) == 2 else ""
+    if error == 13 and value.isdecimal():
+        return "counter", int(value)
+    return ("report", value) if error == 18 else ("mend", error)
+
+
 def asked(url, body=None):
-    """The status and the text of an answer. Where none comes, or the service says that the fault is its own, the same is asked
-    again after a while: a manifest that was accepted meanwhile is answered by its kept reply."""
+    """The status and the text of an answer. Where none comes, or the service says that the fault is
+    its own, the same is asked again after a while: a manifest that was accepted meanwhile is
+    answered by its kept reply. More than a file may have isn't read."""
     for wait in (*WAITS, None):
         try:
-            request = urllib.request.Request(url, data=body and body.encode("ascii"), headers={"Connection": "close"})
+            data = body and body.encode("ascii")
+            request = urllib.request.Request(url, data=data, headers={"Connection": "close"})
             with urllib.request.urlopen(request, timeout=PATIENCE) as answer:
-                return answer.status, answer.read().decode("ascii")
+                text = answer.read(forms.LARGEST + 1)
+                verify.expect(len(text) <= forms.LARGEST, "%s has no end", url)
+                return answer.status, text.decode("ascii")
         except urllib.error.HTTPError as refused:
-            status, said = refused.code, refused.read().decode("ascii", "replace")
-            if status not in (502, 503, 504) or wait is None:
-                return status, said
+            text = refused.read(forms.LARGEST).decode("ascii", "replace")
+            if follows(refused.code, text)[0] != "again":
+                return refused.code, text
+            wrong = "%d %s" % (refused.code, text)
         except (OSError, http.client.HTTPException, UnicodeError) as error:
-            if wait is None:
-                raise Failed("no answer from %s: %s" % (url, error)) from None
+            wrong = error
+        if wait is None:
+            raise Failed("no answer from %s: %s" % (url, wrong))
         time.sleep(wait * random.uniform(1, 1.5))
 
 
@@ -80,14 +109,19 @@ def send(url, body):
 
 
 def fetcher(url):
-    """Fetches a file of a repository as a JSON value; none where there is none of that name."""
+    """Fetches a file of a repository; none where there is none of that name. An answer that is no
+    JSON is somebody else's, and none of the service."""
 
     def fetch(name):
         status, text = asked("%s/%s" % (url, name))
-        if status == 404 and text.startswith('{"error":29,'):
+        if status == 404 and follows(status, text) == ("mend", 29):
             return None
-        verify.expect(status == 200, "%s: %d %s", name, status, text)
-        return File(text)
+        try:
+            if status == 200:
+                return File(text)
+        except ValueError:
+            pass
+        raise Failed("%s: %d %s" % (name, status, text[:200]))
 
     return fetch
 
@@ -95,101 +129,106 @@ def fetcher(url):
 # ---- a round
 
 
+def primary_of(told):
+    return next(ecu for ecu in told["ecus"] if ecu["ecu"] == told["primary"])
+
+
 def new_manifest(told, now):
-    """The body of the next manifest: its counter and that of each report rise, and each ECU reports what it has."""
+    """The body of the next manifest: its counter and that of each report rise, and each ECU reports
+    what it has, and the attack that it has seen."""
     told["counter"] += 1
     secrets, reports = {}, []
     for ecu in told["ecus"]:
         ecu["counter"] += 1
+        if max(ecu["counter"], told["counter"]) >= MOST:
+            raise Failed("the counters of %s come to their end" % ecu["ecu"])
         secrets[ecu["ecu"]] = ecu["secret"]
-        has = {name: ecu["installed"][name] for name in ("file", "length", "sha256", "sha512") if name in ecu["installed"]}
-        reports.append({"ecu": ecu["ecu"], "key": ecu["secret"], "counter": ecu["counter"], "time": now, "attack": ecu.get("attack", "")} | has)
+        own = ecu["installed"]
+        has = {name: own[name] for name in ("file", "length", "sha256", "sha512") if name in own}
+        signs = {"ecu": ecu["ecu"], "key": ecu["secret"], "counter": ecu["counter"]}
+        reports.append(signs | {"time": now, "attack": ecu.get("attack", "")} | has)
     made = {"vehicle": told["vehicle"], "primary": told["primary"], "key": secrets[told["primary"]]}
     return manifest(made | {"counter": told["counter"], "reports": reports})
 
 
-def verified(told, reply, url, now):
-    """What is to be installed, by ECU, and what is trusted from now on of both repositories. The Director's Root files come first."""
-    fetch, secrets = fetcher(url), {key_identifier(key): key for key in map(bytes.fromhex, told.get("role_secrets", []))}
-    ecus = {ecu["ecu"]: ecu for ecu in told["ecus"]}
-    director = verify.latest_root(told["director"], fetch, secrets, "director", now)
-    director["versions"] |= verify.check_reply(director, reply, secrets, told["vehicle"], now)
-    if not reply["targets"]["signed"]["targets"]:
-        return {}, {"director": director}
-    targets, image = image_repository(told["image"], fetch, secrets, now)
-    return verify.check_targets(reply["targets"], targets, ecus), {"director": director, "image": image}
-
-
-def image_repository(trust, fetch, secrets, now):
-    """The Image repository's Targets, and what is trusted from now on. A change of the repository between two of these requests mixes
-    files of two versions: so what can't be verified is fetched once more, from the Root on."""
-    for again in (True, False):
-        try:
-            image = verify.latest_root(trust, fetch, secrets, "image", now)
-            files = {role: fetch("image/%s.json" % role) for role in verify.ROLES}
-            verify.expect(all(files.values()), "the Image repository lacks a file")
-            versions = verify.check_files(image, files, secrets, "image", now)
-            return files["targets"], image | {"versions": image["versions"] | versions}
-        except verify.Refused:
-            if not again:
-                raise
+def role_secrets(told):
+    return {key_identifier(key): key for key in map(bytes.fromhex, told.get("role_secrets", []))}
 
 
 def answered(told, url, save):
-    """The reply to this round's manifest, verified. A manifest is kept until it was answered; one whose reply is old by now, of an
-    older Root or expired, can only ever get that same reply, so a new one follows it."""
-    for _ in range(3):
+    """What is to be installed by the reply to this round's manifest, by ECU, once it is verified.
+
+    A manifest is kept until it was answered. From then on its bytes would only ever bring the same
+    reply: so whatever that is, they aren't sent again. Behind a reply that is old by now one new
+    manifest follows at once; behind one that is refused, one in the next round."""
+    is_second = False
+    for _ in range(2 + 2 * len(told["ecus"])):
         now = int(time.time())
         if not told.get("pending"):
             told["pending"] = new_manifest(told, now)
             save()
         status, text = send(url, told["pending"])
-        refused = json.loads(text) if status != 200 and text.startswith("{") else {}
-        if refused.get("error") == 13:
-            told["counter"], told["pending"] = int(refused["text"].split()[1]), None
-            continue
-        if refused.get("error") == 18:
-            # (the ECU has lost its counter: no one says what the last one was, but counters needn't be consecutive)
-            skip(told, refused["text"].split()[1], now)
-            continue
-        if status != 200:
-            # (without an error it is a proxy's answer, and the service may not have had the manifest)
-            told["pending"] = None if refused and status < 500 else told["pending"]
-            raise Failed("%d %s" % (status, text))
+        what, value = follows(status, text)
         try:
-            return verified(told, reply_of(text), url, now)
+            if what == "read":
+                reply, fetch = reply_of(text), fetcher(url)
+                return verify.verified(told, reply, fetch, role_secrets(told), now)
         except verify.Old as old:
-            print("again with a new manifest: %s" % old)
             told["pending"] = None
-    raise Failed("the service's replies stay old: is its clock right?")
+            verify.expect(not is_second, "the service's replies stay old, or the clock is wrong: %s", old)
+            print("again with a new manifest: %s" % old)
+            is_second = True
+        except verify.Refused:
+            told["pending"] = None
+            raise
+        except ValueError:
+            raise Failed("an answer that is no reply: %s" % text[:200]) from None
+        if what == "counter":
+            told["counter"], told["pending"] = max(value, told["counter"]), None
+        elif what == "report":
+            skip(told, value, now)
+        elif what == "mend":
+            told["pending"] = None
+            raise Failed("%d %s" % (status, text))
+    raise Failed("the service goes on refusing the counters")
 
 
 def skip(told, name, now):
-    """The ECU goes on from the time in seconds, which is above all of its reports so far."""
+    """The ECU has lost its counter, and the refusal doesn't say what the last one was. Counters may
+    skip: so it goes on from the time in seconds, or from twice what was refused, which comes above
+    any other in a few tries."""
     for ecu in told["ecus"]:
         if ecu["ecu"] == name:
-            ecu["counter"] = max(ecu["counter"], now)
+            ecu["counter"] = max(2 * ecu["counter"], now)
     told["pending"] = None
 
 
 def within(folder, name):
     """The path of an image. A filename that would leave the folder is refused: the repository takes any."""
-    verify.expect(not name.startswith("/") and ".." not in name.split("/"), "the filename %s leaves its folder", name)
+    is_inside = not name.startswith("/") and ".." not in name.split("/")
+    verify.expect(is_inside, "the filename %s leaves its folder", name)
     return folder / name
 
 
 def install(told, due, folder):
-    """Puts each image that is there into its ECU."""
-    for ecu in told["ecus"]:
-        target = due.get(ecu["ecu"])
-        path = within(folder, target["file"]) if target and folder else None
-        if target and not (path and path.is_file()):
-            print("%s is to install %s, which isn't here yet" % (ecu["ecu"], target["file"]))
-        elif target:
+    """Puts each image into its ECU once all that are due are there and are what was meant: one may
+    need another. Returns whether something was installed."""
+    found = {}
+    for ecu in (it for it in told["ecus"] if it["ecu"] in due):
+        target = due[ecu["ecu"]]
+        path = within(folder, target["file"]) if folder else None
+        if path and path.is_file():
             verify.check_image(target, path.read_bytes())
-            has = {"file": target["file"], "length": target["length"], **hashes(target["hashes"]), "release": target["release"]}
-            ecu["installed"] = has
-            print("%s installed %s" % (ecu["ecu"], target["file"]))
+            has = {"file": target["file"], "length": target["length"], **hashes(target["hashes"])}
+            found[ecu["ecu"]] = has | {"release": target["release"]}
+        else:
+            print("%s is to install %s, which isn't here yet" % (ecu["ecu"], target["file"]))
+    if len(found) < len(due):
+        return False
+    for ecu in (it for it in told["ecus"] if it["ecu"] in due):
+        ecu["installed"] = found[ecu["ecu"]]
+        print("%s installed %s" % (ecu["ecu"], ecu["installed"]["file"]))
+    return bool(due)
 
 
 def write(path, told):
@@ -201,37 +240,47 @@ def write(path, told):
 
 
 def go_round(url, path, images):
+    """A round. What is wrong with the metadata or an image is told in the Primary's own report, from
+    the next manifest on, until a reply is accepted again."""
     told = json.loads(path.read_text(encoding="ascii"))
     use(told)
     save = lambda: write(path, told)
+    own = primary_of(told)
     try:
-        due, trusted = answered(told, url, save)
-        told |= trusted | {"pending": None}
+        due = answered(told, url, save)
+        told["pending"], own["attack"] = None, ""
         save()
-        install(told, due, images)
+        has_installed = install(told, due, images)
         print("verified: version %d, targets %d" % (told["director"]["versions"]["targets"], len(due)))
+        return has_installed
+    except verify.Refused as wrong:
+        own["attack"] = "".join(it for it in str(wrong) if " " <= it <= "~")[:256]
+        raise
     finally:
         save()
 
 
-def pause(failed):
-    """The seconds until the next round, behind so many that failed in a row. They differ at random, so that a fleet that was switched
-    on at one moment, or met one outage, doesn't come at one moment: by a tenth, and behind a failure by half the wait."""
+def pause(failed, has_installed=False):
+    """The seconds until the next round, behind so many that failed in a row. They differ at random,
+    so that a fleet that was switched on at one moment, or met one outage, doesn't come at one
+    moment: by a tenth, and behind a failure by half the wait. What was installed is told soon."""
     if not failed:
-        return INTERVAL * random.uniform(0.9, 1.1)
-    return min(INTERVAL, FAILED * 2 ** min(failed - 1, 20)) * random.uniform(0.5, 1)
+        return SOON * random.uniform(0.5, 1) if has_installed else INTERVAL * random.uniform(0.9, 1.1)
+    return min(INTERVAL, SOON * 2 ** min(failed - 1, 20)) * random.uniform(0.5, 1)
 
 
 def go_rounds(url, path, images):
     failed = 0
     while True:
+        has_installed = False
         try:
-            go_round(url, path, images)
+            has_installed = go_round(url, path, images)
             failed = 0
         except (Failed, verify.Refused, OSError, ValueError, KeyError, TypeError, AttributeError) as wrong:
-            print("primary: %s" % (wrong if isinstance(wrong, (Failed, verify.Refused)) else repr(wrong)), file=sys.stderr, flush=True)
+            is_told = isinstance(wrong, (Failed, verify.Refused))
+            print("primary: %s" % (wrong if is_told else repr(wrong)), file=sys.stderr, flush=True)
             failed += 1
-        wait = pause(failed)
+        wait = pause(failed, has_installed)
         print("the next round is in %d minutes" % (wait // 60), flush=True)
         time.sleep(wait)
 

@@ -1,11 +1,15 @@
-"""What a Primary verifies before anything is installed: the full verification of the Uptane Standard 2.1.0.
+"""What a Primary verifies before anything is installed: the full verification of the Uptane
+Standard 2.1.0.
 
-What a vehicle trusts of a repository is `{"root": ENVELOPE, "versions": {ROLE: N, ..}}`: the last Root that it verified (the first
-is put in when the vehicle is built), and the versions of the last files. `secrets` are the roles' keys that the vehicle holds, by
-identifier: under Ed25519 none, since a Root shows the keys of its roles. A check that fails raises `Refused`, and then nothing is trusted that wasn't before.
+What a vehicle trusts of a repository is `{"root": ENVELOPE, "versions": {ROLE: N, ..}}`: the last
+Root that it verified (the first is put in when the vehicle is built), and the versions of the last
+files. `secrets` are the roles' keys that the vehicle holds, by identifier: under Ed25519 none,
+since a Root shows the keys of its roles. A check that fails raises `Refused`. Then the Roots that
+were verified before it stay, and nothing else is trusted that wasn't.
 """
 import hashlib
 
+import forms
 from envelopes import has_form, is_signed_by, seconds, shown_keys
 
 ROLES = ("timestamp", "snapshot", "targets")
@@ -26,98 +30,177 @@ def expect(holds, words, *given, kind=Refused):
         raise kind(words % given)
 
 
+# ---- Roots
+
+
 def check_signed(envelope, root, role, secrets, what):
     """That enough of the role's keys signed, by this Root. Keys are counted, and not signatures."""
     told, keys = root["roles"][role], secrets | shown_keys(root)
     signers = {it for it in told["keyids"] if it in keys and is_signed_by(envelope, keys[it])}
-    expect(len(signers) >= told["threshold"], "%s isn't signed by %d of the %s keys", what, told["threshold"], role)
+    words = "%s isn't signed by %d of the %s keys"
+    expect(len(signers) >= told["threshold"], words, what, told["threshold"], role)
 
 
-def check_root(root, what):
-    """That a Root has the form of one: each key as it has to be shown and of some role, and thresholds that its keys can meet."""
-    roles = [root["roles"][role] for role in ("root", *ROLES)]
-    fits = all(1 <= it["threshold"] <= len(it["keyids"]) == len(set(it["keyids"])) <= 4 for it in roles)
-    expect(fits, "%s has a role that its keys can't sign", what)
-    expect({name for it in roles for name in it["keyids"]} == set(root["keys"]), "%s has other keys than its roles", what)
-    expect(all(has_form(key, name) for name, key in root["keys"].items()), "%s shows a key in another form", what)
-
-
-def next_root(trusted, envelope, secrets, repository):
-    """The Root after the trusted one: of the next version, signed by enough of the old root keys and of its own."""
+def check_next(trusted, envelope, secrets, repository):
+    """That a Root may come behind the trusted one: of the next version, and signed by enough of
+    the old root keys and of its own."""
     before, root = trusted["signed"], envelope["signed"]
     what = "%s root %d" % (repository, before["version"] + 1)
-    expect((root["type"], root["repository"]) == ("root", repository), "%s is another file", what)
+    expect(forms.fits(envelope, "root"), "%s is no Root", what)
+    expect(root["repository"] == repository, "%s is of the other repository", what)
     expect(root["version"] == before["version"] + 1, "%s has the version %d", what, root["version"])
-    check_root(root, what)
+    shown = [has_form(key, name) for name, key in root["keys"].items()]
+    expect(all(shown), "%s shows a key in another form", what)
     check_signed(envelope, before, "root", secrets, what + ", by the Root before,")
     check_signed(envelope, root, "root", secrets, what)
-    return envelope
 
 
-def latest_root(trust, fetch, secrets, repository, now):
-    """What is trusted once each newer Root was fetched and verified in its turn. Where a rotation gave the Timestamp or the
-    Snapshot role other keys, their versions are forgotten: who had the old keys may have made them far too great."""
-    root, versions = trust["root"], dict(trust["versions"])
+def forgotten(before, root):
+    """The versions that are forgotten with a new Root. Whoever had a role's old keys may have made
+    its versions far too great: those of Timestamp and Snapshot go together, that of Targets alone."""
+
+    def differs(role):
+        old, new = (it["signed"]["roles"][role]["keyids"] for it in (before, root))
+        return {*old} != {*new}
+
+    found = {"timestamp": 0, "snapshot": 0} if differs("timestamp") or differs("snapshot") else {}
+    return found | ({"targets": 0} if differs("targets") else {})
+
+
+def follow(trust, fetch, secrets, repository, now):
+    """Fetches each newer Root, and trusts it once it is verified. The latest alone must not have
+    expired."""
     for _ in range(MOST_ROOTS):
+        root = trust["root"]
         newer = fetch("%s/%d.root.json" % (repository, root["signed"]["version"] + 1))
         if newer is None:
             break
-        before, root = root, next_root(root, newer, secrets, repository)
-        keys = lambda it: [set(it["signed"]["roles"][role]["keyids"]) for role in ("timestamp", "snapshot")]
-        if keys(before) != keys(root):
-            versions |= {"timestamp": 0, "snapshot": 0}
-    expect(seconds(root["signed"]["expires"]) > now, "%s root %d has expired", repository, root["signed"]["version"])
-    return {"root": root, "versions": versions}
+        check_next(root, newer, secrets, repository)
+        trust["root"], trust["versions"] = newer, trust["versions"] | forgotten(root, newer)
+    root = trust["root"]["signed"]
+    words = "%s root %d has expired"
+    expect(seconds(root["expires"]) > now, words, repository, root["version"])
+
+
+# ---- files
 
 
 def check_files(trust, files, secrets, repository, now, vehicle=None):
-    """The versions of a repository's Timestamp, Snapshot and Targets, once they are verified in this order."""
+    """The versions of a repository's Timestamp, Snapshot and Targets, once they are verified in
+    this order."""
     root, versions = trust["root"]["signed"], trust["versions"]
     for role in ROLES:
-        told, what = files[role]["signed"], "%s %s" % (repository, role)
+        what = "%s %s" % (repository, role)
+        expect(forms.fits(files[role], role), "%s isn't of its form", what)
+        told = files[role]["signed"]
         check_signed(files[role], root, role, secrets, what)
-        expect((told["type"], told["repository"], told.get("vehicle")) == (role, repository, vehicle), "%s is another file", what)
-        expect(told["version"] >= versions.get(role, 0), "%s goes back to version %d", what, told["version"])
-        expect(seconds(told["expires"]) > now, "%s has expired", what, kind=Old if repository == "director" else Refused)
-    named = files["timestamp"]["signed"]["meta"]["snapshot.json"]
+        expect(told["repository"] == repository, "%s is of the other repository", what)
+        expect(vehicle is None or told["vehicle"] == vehicle, "%s is for another vehicle", what)
+        words = "%s goes back to version %d"
+        expect(told["version"] >= versions.get(role, 0), words, what, told["version"])
+        kind = Old if repository == "director" else Refused
+        expect(seconds(told["expires"]) > now, "%s has expired", what, kind=kind)
+    signed = {role: files[role]["signed"] for role in ROLES}
+    named = forms.entry(signed["timestamp"], "snapshot.json")
     digest = hashlib.sha256(files["snapshot"].text.encode("ascii")).hexdigest()
-    expect(named["hashes"]["sha256"] == digest, "the %s Timestamp names another Snapshot", repository)
-    expect(named["version"] == files["snapshot"]["signed"]["version"], "the %s Timestamp names another version of the Snapshot", repository)
-    listed = files["snapshot"]["signed"]["meta"]["targets.json"]["version"]
-    expect(listed == files["targets"]["signed"]["version"], "the %s Snapshot names another version of Targets", repository)
-    return {role: files[role]["signed"]["version"] for role in ROLES}
+    words = "the %s Timestamp names another Snapshot"
+    expect(named["hashes"]["sha256"] == digest, words, repository)
+    words = "the %s Timestamp names another version of the Snapshot"
+    expect(named["version"] == signed["snapshot"]["version"], words, repository)
+    listed = forms.entry(signed["snapshot"], "targets.json")["version"]
+    words = "the %s Snapshot names another version of Targets"
+    expect(listed == signed["targets"]["version"], words, repository)
+    return {role: signed[role]["version"] for role in ROLES}
 
 
 def check_reply(trust, reply, secrets, vehicle, now):
     """The versions of the Director's files in a reply. One of an older Root, or expired, is `Old`."""
+    expect(forms.is_reply(reply), "that is no reply")
     root = trust["root"]["signed"]["version"]
     expect(reply["vehicle"] == vehicle, "the reply is for another vehicle")
-    expect(reply["root"] <= root, "the reply is of Root version %d, which isn't served", reply["root"])
-    expect(reply["root"] == root, "the reply is of Root version %d, and the latest is %d", reply["root"], root, kind=Old)
+    words = "the reply is of Root version %d, which isn't served"
+    expect(reply["root"] <= root, words, reply["root"])
+    words = "the reply is of Root version %d, and the latest is %d"
+    expect(reply["root"] == root, words, reply["root"], root, kind=Old)
     versions = check_files(trust, reply, secrets, "director", now, vehicle)
-    expect(set(versions.values()) == {reply["version"]}, "the files of the reply are of several versions")
+    words = "the files of the reply are of several versions"
+    expect({*versions.values()} == {reply["version"]}, words)
     return versions
 
 
-def check_targets(director, image, ecus):
-    """The images to install, by ECU, once both repositories agree on each and it suits its ECU."""
-    known, due = {one["file"]: one for one in image["signed"]["targets"]}, {}
+def image_repository(trust, fetch, secrets, now):
+    """The Image repository's Targets, and the versions of its files. A change of the repository
+    between two of these requests mixes files of two versions: so what can't be verified is fetched
+    once more, from the Root on."""
+    for again in (True, False):
+        try:
+            follow(trust, fetch, secrets, "image", now)
+            files = {role: fetch("image/%s.json" % role) for role in ROLES}
+            lacking = [role for role in ROLES if files[role] is None]
+            expect(not lacking, "the Image repository lacks a file")
+            return files["targets"], check_files(trust, files, secrets, "image", now)
+        except Refused:
+            if not again:
+                raise
+
+
+# ---- targets
+
+
+def second_hash(target):
+    """A target's SHA-512, where it has one of its form."""
+    given = target["hashes"].get("sha512")
+    return given if forms.is_like("[0-9a-f]{128}", given) else None
+
+
+def image_of(target):
+    """What both repositories have to say alike of an image. The hardware is a list, with an order."""
+    parts = [target[it] for it in ("file", "length", "hardware", "release")]
+    return [*parts, target["hashes"]["sha256"], second_hash(target)]
+
+
+def check_targets(director, image, ecus, replaced=()):
+    """The images to install, by ECU, once both repositories agree on each and it suits its ECU. An
+    ECU that was replaced is named by a reply from before: that is `Old`."""
+    known, due = [image_of(one) for one in image["signed"]["targets"]], {}
     for target in director["signed"]["targets"]:
         name, file = target["ecu"], target["file"]
+        expect(name in ecus or name not in replaced, "%s was replaced", name, kind=Old)
         expect(name in ecus, "%s is no ECU of this vehicle", name)
-        expect(name not in due, "%s gets two images", name)
-        expect(file in known, "the Image repository has no %s", file)
-        same = ("length", "hashes", "hardware", "release")
-        expect(all(target[it] == known[file][it] for it in same), "the repositories differ on %s", file)
-        expect(ecus[name]["hardware"] in target["hardware"], "%s isn't for %s of %s", file, ecus[name]["hardware"], name)
-        expect(target["release"] >= ecus[name]["installed"]["release"], "%s would put %s back to release %d", file, name, target["release"])
+        expect(image_of(target) in known, "the Image repository has no such %s", file)
+        hardware = ecus[name]["hardware"]
+        expect(hardware in target["hardware"], "%s isn't for %s of %s", file, hardware, name)
+        # (an image whose release the ECU doesn't know counts as release 0)
+        release = ecus[name]["installed"].get("release") or 0
+        words = "%s would put %s back to release %d"
+        expect(target["release"] >= release, words, file, name, target["release"])
         due[name] = target
     return due
 
 
 def check_image(target, content):
     """That the bytes are the image that was meant, by each hash that the target has."""
-    expect(len(content) == target["length"], "%s has another length", target["file"])
-    expect(hashlib.sha256(content).hexdigest() == target["hashes"]["sha256"], "%s has another SHA-256", target["file"])
-    if "sha512" in target["hashes"]:
-        expect(hashlib.sha512(content).hexdigest() == target["hashes"]["sha512"], "%s has another SHA-512", target["file"])
+    file, second = target["file"], second_hash(target)
+    expect(len(content) == target["length"], "%s has another length", file)
+    first = hashlib.sha256(content).hexdigest()
+    expect(first == target["hashes"]["sha256"], "%s has another SHA-256", file)
+    expect(second in (None, hashlib.sha512(content).hexdigest()), "%s has another SHA-512", file)
+
+
+# ---- all of it
+
+
+def verified(told, reply, fetch, secrets, now):
+    """What is to be installed, by ECU. What the vehicle trusts of both repositories is changed with
+    it: a Root once it is verified, the versions of files once all of them are."""
+    director, image = told["director"], told["image"]
+    follow(director, fetch, secrets, "director", now)
+    versions, due = check_reply(director, reply, secrets, told["vehicle"], now), {}
+    # (where nothing is assigned the Standard ends here: 5.4.4.2)
+    if reply["targets"]["signed"]["targets"]:
+        ecus = {ecu["ecu"]: ecu for ecu in told["ecus"]}
+        targets, of_image = image_repository(image, fetch, secrets, now)
+        due = check_targets(reply["targets"], targets, ecus, told.get("replaced", ()))
+        image["versions"] = of_image
+    director["versions"] = versions
+    return due

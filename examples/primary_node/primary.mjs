@@ -11,6 +11,7 @@ import { createHash, createHmac, createPrivateKey, createPublicKey, sign, verify
 import { existsSync, readFileSync, renameSync, writeFileSync } from 'node:fs';
 import { join } from 'node:path';
 
+class Failed extends Error {} // what ends a round without a verdict
 class Refused extends Error {}
 class Old extends Refused {} // good once: a new manifest brings new metadata
 
@@ -34,27 +35,36 @@ function canonical(value, depth = 0) {
   return `{${Object.keys(value).sort().map((name) => `${canonical(name)}:${canonical(value[name], depth + 1)}`).join(',')}}`;
 }
 
+function json(text) {
+  try { return JSON.parse(text); } catch { throw new Refused('NotJson'); }
+}
+
 // The value of a text. JSON.parse takes 1.0 for 1: so a fraction or an exponent is looked for in the text itself.
+const isWhole = (text) => !/\d[.eE]/.test(text.replace(/"(?:[^"\\]|\\.)*"/gs, ''));
 function read(text) {
-  let value;
-  try { value = JSON.parse(text); } catch { throw new Refused('NotJson'); }
-  expect(!/\d[.eE]/.test(text.replace(/"(?:[^"\\]|\\.)*"/gs, '')), 'NotCanonical');
+  const value = json(text);
+  expect(isWhole(text), 'NotCanonical');
   return value;
 }
 
 // An envelope that has its own text: a Timestamp names the SHA-256 of the Snapshot's text as it was served.
-const withText = (value, text) => Object.defineProperty(value, 'text', { value: text });
-const fileOf = (text) => withText(read(text), text);
+const isObject = (value) => value !== null && typeof value === 'object' && !Array.isArray(value);
+const withText = (value, text) => Object.defineProperty(value, 'text', { value: text, configurable: true });
+function fileOf(text) {
+  const value = json(text);
+  return withText(isObject(value) ? value : {}, text);
+}
 
 // A Director's reply, whose files have their own texts.
 function replyOf(text) {
-  const reply = read(text);
+  const reply = json(text);
+  expect(isObject(reply), 'that is no reply');
   let depth = 0, name, from;
   for (const { 0: it, index } of text.matchAll(/"(?:[^"\\]|\\.)*"|[{}[\],:]/gs)) {
     if (it === '}' || it === ']') depth -= 1;
     if (depth === 1 && it === ':') from = index + 1;
     else if (from && (depth === 0 || (depth === 1 && it === ','))) {
-      if (reply[name]?.signed) withText(reply[name], text.slice(from, index).trim());
+      if (isObject(reply[name])) withText(reply[name], text.slice(from, index).trim());
       from = undefined;
     } else if (depth === 1 && !from && it[0] === '"') name = JSON.parse(it);
     if (it === '{' || it === '[') depth += 1;
@@ -95,6 +105,7 @@ function sealed(secret, signed) {
   return `{"signatures":[${canonical({ keyid: id, method, sig: scheme.sign(secret, signed).toString('hex') })}],"signed":${signed}}`;
 }
 
+// The algorithm is that of the trusted key: a signature's `method` has to name it, and never chooses one.
 function isSignedBy(envelope, key) {
   const id = keyid(key), text = canonical(envelope.signed);
   return envelope.signatures.some((it) => it.keyid === id && it.method === method && schemes[method].verify(key, text, bytes(it.sig)));
@@ -103,10 +114,24 @@ function isSignedBy(envelope, key) {
 // The keys that a Root shows, by identifier: none under HMAC.
 const shownKeys = (root) => (method === 'ed25519' ? Object.fromEntries(Object.entries(root.signed.keys).map(([id, it]) => [id, bytes(it.public)])) : {});
 
+// Whether 32 bytes are a point of the curve: the library takes a key that is none, until it verifies by it.
+function isPoint(point) {
+  if (!isOneEncoding(point)) return false;
+  const p = 2n ** 255n - 19n, y = BigInt(`0x${Buffer.from(point).reverse().toString('hex')}`) % 2n ** 255n;
+  const power = (base, exponent) => {
+    let result = 1n;
+    for (let b = base % p, e = exponent; e > 0n; e >>= 1n, b = b * b % p) if (e & 1n) result = result * b % p;
+    return result;
+  };
+  const d = (p - 121665n) * power(121666n, p - 2n) % p;
+  const square = (y * y - 1n + p) * power(d * y % p * y + 1n, p - 2n) % p;
+  return square === 0n || power(square, (p - 1n) / 2n) === 1n;
+}
+
 // Whether a Root shows a key as it has to: of this scheme, and under its identifier.
 function hasForm(id, key) {
   if (key.method !== method || method !== 'ed25519') return key.method === method && key.public === '';
-  return /^[0-9a-f]{64}$/.test(key.public) && keyid(bytes(key.public)) === id && isOneEncoding(bytes(key.public));
+  return /^[0-9a-f]{64}$/.test(key.public) && keyid(bytes(key.public)) === id && isPoint(bytes(key.public));
 }
 
 // ---- what is sent
@@ -118,12 +143,79 @@ function manifest(vehicle, now) {
   vehicle.counter += 1;
   const reports = vehicle.ecus.map((ecu) => {
     ecu.counter += 1;
+    if (Math.max(ecu.counter, vehicle.counter) >= MOST) throw new Failed(`the counters of ${ecu.ecu} come to their end`);
     const { file, length } = ecu.installed;
     const image = { file, length, hashes: hashesOf(ecu.installed) };
-    return sealed(bytes(ecu.secret), canonical({ type: 'report', ecu: ecu.ecu, counter: ecu.counter, time: moment(now), attack: '', image }));
+    return sealed(bytes(ecu.secret), canonical({ type: 'report', ecu: ecu.ecu, counter: ecu.counter, time: moment(now), attack: ecu.attack ?? '', image }));
   });
   const payload = canonical({ type: 'manifest', vehicle: vehicle.vehicle, primary: vehicle.primary, counter: vehicle.counter, reports: reports.map(read) });
   return sealed(bytes(vehicle.ecus.find((it) => it.ecu === vehicle.primary).secret), payload);
+}
+
+// ---- forms: what docs/integrate/FORMATS.md says of the files, member by member
+
+const MOST = Number.MAX_SAFE_INTEGER, LARGEST = 4_194_304;
+const isLike = (pattern, value) => typeof value === 'string' && pattern.test(value);
+const isText = (value, least, most) => isLike(/^[ -~]*$/, value) && value.length >= least && value.length <= most;
+const isCount = (value, least = 0) => Number.isSafeInteger(value) && value >= least && !Object.is(value, -0);
+const isName = (value) => isLike(/^[A-Za-z0-9._-]{1,64}$/, value);
+const isFilename = (value) => isLike(/^[A-Za-z0-9._/-]{1,128}$/, value);
+const isSha256 = (value) => isLike(/^[0-9a-f]{64}$/, value);
+const isSha512 = (value) => isLike(/^[0-9a-f]{128}$/, value);
+const isList = (value, least, most, fits) => (
+  Array.isArray(value) && value.length >= least && value.length <= most && value.every(fits) && new Set(value).size === value.length);
+
+function isMoment(value) {
+  if (!isLike(/^\d{4}-\d\d-\d\dT\d\d:\d\d:\d\dZ$/, value)) return false;
+  const at = Date.parse(value);
+  return at >= 0 && moment(at / 1000) === value;
+}
+
+function isPlain(value) {
+  try { canonical(value); return true; } catch (wrong) { if (wrong instanceof Refused) return false; throw wrong; }
+}
+
+const isSignature = (it) => isObject(it) && isText(it.keyid, 1, 128) && isText(it.method, 1, 64) && isLike(/^([0-9A-Fa-f]{2}){1,512}$/, it.sig);
+const isEnvelope = (file) => (
+  Array.isArray(file.signatures) && file.signatures.length >= 1 && file.signatures.length <= 8 && file.signatures.every(isSignature)
+  && isObject(file.signed) && isPlain(file.signed));
+
+function isRoot({ keys, roles }) {
+  if (!isObject(keys) || !isObject(roles)) return false;
+  const isRole = (it) => (
+    isObject(it) && isList(it.keyids, 1, 4, (id) => typeof id === 'string' && Object.hasOwn(keys, id))
+    && isCount(it.threshold, 1) && it.threshold <= it.keyids.length);
+  if (!['root', ...ROLES].every((role) => isRole(roles[role]))) return false;
+  const listed = new Set(['root', ...ROLES].flatMap((role) => roles[role].keyids));
+  const isKey = ([id, it]) => isText(id, 1, 128) && isObject(it) && isText(it.method, 1, 64) && isText(it.public, 0, 1024) && listed.has(id);
+  return Object.entries(keys).every(isKey);
+}
+
+function isTargets({ targets, repository }) {
+  const isTarget = (it) => (
+    isObject(it) && isFilename(it.file) && (repository !== 'director' || isName(it.ecu)) && isList(it.hardware, 1, 16, isName)
+    && isObject(it.hashes) && isSha256(it.hashes.sha256) && isCount(it.length) && isCount(it.release));
+  if (!Array.isArray(targets) || !targets.every(isTarget)) return false;
+  return repository !== 'director' || new Set(targets.map((it) => it.ecu)).size === targets.length;
+}
+
+const named = (signed, name) => (isObject(signed.meta) && isObject(signed.meta[name]) ? signed.meta[name] : {});
+const FORMS = {
+  root: isRoot,
+  targets: isTargets,
+  snapshot: (signed) => isCount(named(signed, 'targets.json').version, 1),
+  timestamp(signed) {
+    const { hashes, version } = named(signed, 'snapshot.json');
+    return isObject(hashes) && isSha256(hashes.sha256) && isCount(version, 1);
+  },
+};
+
+function checkForm(file, role, what) {
+  const { signed } = file;
+  const fits = file.text.length <= LARGEST && isEnvelope(file) && isWhole(file.text) && signed.type === role
+    && (signed.repository === 'director' || signed.repository === 'image') && isCount(signed.version, 1) && isMoment(signed.expires)
+    && (signed.repository !== 'director' || role === 'root' || isName(signed.vehicle)) && FORMS[role](signed);
+  expect(fits, `${what} isn't of its form`);
 }
 
 // ---- what is verified
@@ -133,86 +225,94 @@ const expired = (file, now) => Date.parse(file.signed.expires) <= now * 1000;
 
 function checkSigned(file, role, root, secrets, what) {
   const { keyids, threshold } = root.signed.roles[role], keys = { ...secrets, ...shownKeys(root) };
-  const signers = new Set(keyids.filter((id) => keys[id] && isSignedBy(file, keys[id])));
+  const signers = new Set(keyids.filter((id) => Object.hasOwn(keys, id) && isSignedBy(file, keys[id])));
   expect(signers.size >= threshold, `${what} isn't signed by enough of its keys`);
 }
 
-// That a Root has the form of one: thresholds that its keys can meet, and the keys of its roles alone.
-function checkRoot(root, what) {
-  const roles = ['root', ...ROLES].map((role) => root.signed.roles[role]), listed = new Set(roles.flatMap((it) => it.keyids));
-  for (const { keyids, threshold } of roles) {
-    const count = new Set(keyids).size;
-    expect(threshold >= 1 && threshold <= count && count === keyids.length && count <= 4, `${what} has a role that its keys can't sign`);
-  }
-  const keys = Object.entries(root.signed.keys);
-  expect(keys.length === listed.size && keys.every(([id, it]) => listed.has(id) && hasForm(id, it)), `${what} has other keys than its roles`);
+// The versions that are forgotten with a new Root: those of Timestamp and Snapshot together, that of Targets alone. Whoever had a role's
+// old keys may have made them far too great.
+function forgotten(before, root) {
+  const ids = (it, role) => canonical([...it.signed.roles[role].keyids].sort()), differs = (role) => ids(before, role) !== ids(root, role);
+  return { ...(differs('timestamp') || differs('snapshot') ? { timestamp: 0, snapshot: 0 } : {}), ...(differs('targets') ? { targets: 0 } : {}) };
 }
 
-// The trusted Root and versions once each newer Root is verified in its turn.
-async function latestRoot(trust, fetched, secrets, repository, now) {
-  let { root, versions } = trust;
-  for (let file; (file = await fetched(`${repository}/${root.signed.version + 1}.root.json`)); root = file) {
-    const { type, repository: of, version } = file.signed;
-    expect(type === 'root' && of === repository && version === root.signed.version + 1, `${repository} root is another file`);
-    checkRoot(file, `${repository} root ${version}`);
-    for (const by of [root, file]) checkSigned(file, 'root', by, secrets, `${repository} root ${version}`);
-    const same = (role) => canonical([...root.signed.roles[role].keyids].sort()) === canonical([...file.signed.roles[role].keyids].sort());
-    if (!same('timestamp') || !same('snapshot')) versions = { ...versions, timestamp: 0, snapshot: 0 };
+// Fetches each newer Root, and trusts it once it is verified. The latest alone must not have expired.
+async function follow(trust, fetched, secrets, repository, now) {
+  for (let file; (file = await fetched(`${repository}/${trust.root.signed.version + 1}.root.json`));) {
+    const { root } = trust, what = `${repository} root ${root.signed.version + 1}`;
+    checkForm(file, 'root', what);
+    expect(file.signed.repository === repository && file.signed.version === root.signed.version + 1, `${what} is another file`);
+    expect(Object.entries(file.signed.keys).every(([id, it]) => hasForm(id, it)), `${what} shows a key in another form`);
+    for (const by of [root, file]) checkSigned(file, 'root', by, secrets, what);
+    Object.assign(trust, { root: file, versions: { ...trust.versions, ...forgotten(root, file) } });
   }
-  expect(!expired(root, now), `${repository} root has expired`);
-  return { root, versions };
+  expect(!expired(trust.root, now), `${repository} root has expired`);
 }
 
+// The versions of a repository's three files, once they are verified.
 function checkFiles(trust, files, secrets, repository, now, vehicle) {
   for (const role of ROLES) {
     const file = files[role], what = `${repository} ${role}`;
+    checkForm(file, role, what);
     checkSigned(file, role, trust.root, secrets, what);
-    expect(file.signed.type === role && file.signed.repository === repository && file.signed.vehicle === vehicle, `${what} is another file`);
+    expect(file.signed.repository === repository && (!vehicle || file.signed.vehicle === vehicle), `${what} is another file`);
     expect(file.signed.version >= (trust.versions[role] ?? 0), `${what} goes back`);
     expect(!expired(file, now), `${what} has expired`, repository === 'director' ? Old : Refused);
   }
-  const named = files.timestamp.signed.meta['snapshot.json'];
-  expect(named.hashes.sha256 === digest('sha256', files.snapshot.text), `the ${repository} Timestamp names another Snapshot`);
-  expect(named.version === files.snapshot.signed.version, `the ${repository} Timestamp names another version`);
-  expect(files.snapshot.signed.meta['targets.json'].version === files.targets.signed.version, `the ${repository} Snapshot names other Targets`);
-  return { root: trust.root, versions: Object.fromEntries(ROLES.map((role) => [role, files[role].signed.version])) };
+  const snapshot = named(files.timestamp.signed, 'snapshot.json'), targets = named(files.snapshot.signed, 'targets.json');
+  expect(snapshot.hashes.sha256 === digest('sha256', files.snapshot.text), `the ${repository} Timestamp names another Snapshot`);
+  expect(snapshot.version === files.snapshot.signed.version, `the ${repository} Timestamp names another version`);
+  expect(targets.version === files.targets.signed.version, `the ${repository} Snapshot names other Targets`);
+  return Object.fromEntries(ROLES.map((role) => [role, files[role].signed.version]));
 }
 
-// The targets to install, by ECU, and what is trusted from now on.
-async function verified(vehicle, trust, reply, fetched, secrets, now) {
-  let director = await latestRoot(trust.director, fetched, secrets, 'director', now);
-  const version = director.root.signed.version;
+// The targets to install, by ECU. What the vehicle trusts is changed with it: a Root once it is verified, versions once all is.
+async function verified(vehicle, reply, fetched, secrets, now) {
+  const { director, image } = vehicle;
+  await follow(director, fetched, secrets, 'director', now);
+  const version = director.root.signed.version, isReply = isName(reply.vehicle) && isCount(reply.root, 1) && isCount(reply.version, 1);
+  expect(isReply && ROLES.every((role) => reply[role]?.text), 'that is no reply');
   expect(reply.vehicle === vehicle.vehicle, 'the reply is for another vehicle');
   expect(reply.root <= version, "the reply's Root isn't served");
-  expect(reply.root === version, "the reply is of an older Root", Old);
-  director = checkFiles(director, reply, secrets, 'director', now, vehicle.vehicle);
-  expect(ROLES.every((role) => director.versions[role] === reply.version), 'the files are of several versions');
+  expect(reply.root === version, 'the reply is of an older Root', Old);
+  const versions = checkFiles(director, reply, secrets, 'director', now, vehicle.vehicle);
+  expect(ROLES.every((role) => versions[role] === reply.version), 'the files are of several versions');
+  let due = Object.create(null);
   // (where nothing is assigned the Standard ends here: 5.4.4.2)
-  if (!reply.targets.signed.targets.length) return { due: {}, trust: { director } };
-  const { targets, image } = await imageRepository(trust.image, fetched, secrets, now);
-  return { due: checkTargets(reply.targets, targets, vehicle.ecus), trust: { director, image } };
+  if (reply.targets.signed.targets.length) {
+    const { targets, versions: ofImage } = await imageRepository(image, fetched, secrets, now);
+    due = checkTargets(reply.targets, targets, vehicle.ecus, vehicle.replaced ?? []);
+    image.versions = ofImage;
+  }
+  director.versions = versions;
+  return due;
 }
 
 // Files that a change of the repository mixed are fetched once more, from the Root on.
 async function imageRepository(trust, fetched, secrets, now, again = true) {
   try {
-    const root = await latestRoot(trust, fetched, secrets, 'image', now), files = {};
+    await follow(trust, fetched, secrets, 'image', now);
+    const files = {};
     for (const role of ROLES) expect(files[role] = await fetched(`image/${role}.json`), `the Image repository has no ${role}.json`);
-    return { targets: files.targets, image: checkFiles(root, files, secrets, 'image', now) };
+    return { targets: files.targets, versions: checkFiles(trust, files, secrets, 'image', now) };
   } catch (wrong) {
     if (!again || !(wrong instanceof Refused)) throw wrong;
     return imageRepository(trust, fetched, secrets, now, false);
   }
 }
 
-function checkTargets(director, image, ecus) {
-  const due = {}, parts = (it) => canonical([it.file, it.length, it.hashes, it.hardware, it.release]);
+// A SHA-512 that isn't of its form counts as none.
+const secondOf = ({ hashes }) => (isSha512(hashes.sha512) ? hashes.sha512 : null);
+
+function checkTargets(director, image, ecus, replaced) {
+  const due = Object.create(null), parts = (it) => canonical([it.file, it.length, it.hashes.sha256, secondOf(it), it.hardware, it.release]);
   for (const target of director.signed.targets) {
     const ecu = ecus.find((it) => it.ecu === target.ecu);
-    expect(ecu && !due[ecu.ecu], `${target.ecu} is no ECU of this vehicle, or gets two images`);
-    expect(image.signed.targets.some((it) => parts(it) === parts(target)), `the repositories differ on ${target.file}`);
+    expect(ecu || !replaced.includes(target.ecu), `${target.ecu} was replaced`, Old);
+    expect(ecu, `${target.ecu} is no ECU of this vehicle`);
+    expect(image.signed.targets.some((it) => parts(it) === parts(target)), `the Image repository has no such ${target.file}`);
     expect(target.hardware.includes(ecu.hardware), `${target.file} isn't for ${ecu.ecu}`);
-    expect(target.release >= ecu.installed.release, `${target.file} would put ${ecu.ecu} back`);
+    expect(target.release >= (ecu.installed.release ?? 0), `${target.file} would put ${ecu.ecu} back`);
     due[ecu.ecu] = target;
   }
   return due;
@@ -220,64 +320,93 @@ function checkTargets(director, image, ecus) {
 
 function checkImage(target, content) {
   expect(content.length === target.length, `${target.file} has another length`);
-  for (const [kind, hash] of Object.entries(hashesOf(target.hashes))) expect(digest(kind, content) === hash, `${target.file} has another ${kind}`);
+  expect(digest('sha256', content) === target.hashes.sha256, `${target.file} has another SHA-256`);
+  expect(!secondOf(target) || digest('sha512', content) === secondOf(target), `${target.file} has another SHA-512`);
 }
 
 // ---- rounds
 
 const WAITS = [1, 3, 9, 0], PATIENCE = 100_000;
 
+// What a Primary does after an answer: `read` it; send the same `again`, since the answer is no verdict on it; raise the manifest's
+// `counter`, or that of an ECU's `report`; or nothing until somebody has made good what the answer names.
+function follows(status, text) {
+  if (status === 200) return ['read', null];
+  let told = {};
+  try { told = JSON.parse(text) ?? {}; } catch { /* somebody else's answer */ }
+  const { error } = told, words = String(told.text ?? '').split(' ');
+  if (status >= 500 || !Number.isInteger(error) || error < 1 || !told.text) return ['again', null];
+  if (error === 13 && /^\d+$/.test(words[1] ?? '')) return ['counter', Number(words[1])];
+  return error === 18 ? ['report', words[1] ?? ''] : ['mend', error];
+}
+
 async function asked(url, body) {
   for (const wait of WAITS) {
     try {
       const came = await fetch(url, { method: body ? 'POST' : 'GET', body, signal: AbortSignal.timeout(PATIENCE) });
-      const text = await came.text(), error = text.startsWith('{"error"') ? JSON.parse(text) : {};
-      if (came.status === 200 || (error.text && came.status < 500)) return { status: came.status, text, error };
-    } catch { /* no answer */ }
+      const pieces = [];
+      let length = 0;
+      for await (const piece of came.body ?? []) {
+        pieces.push(piece);
+        expect((length += piece.length) <= LARGEST, `${url} has no end`);
+      }
+      const text = Buffer.concat(pieces).toString('latin1'), [what, value] = follows(came.status, text);
+      if (what !== 'again') return { status: came.status, text, what, value };
+    } catch (wrong) { if (wrong instanceof Refused) throw wrong; /* else there was no answer */ }
     if (wait) await new Promise((done) => setTimeout(done, wait * 1000 * (1 + Math.random() / 2)));
   }
-  throw new Refused(`no answer from ${url}`);
+  throw new Failed(`no answer from ${url}`);
 }
 
 const fetcher = (url) => async (name) => {
-  const { status, text, error } = await asked(`${url}/${name}`);
-  expect(status === 200 || error.error === 29, `${name}: ${text}`);
-  return status === 200 ? fileOf(text) : null;
+  const { status, text, what, value } = await asked(`${url}/${name}`);
+  if (what === 'mend' && value === 29) return null;
+  if (what !== 'read' || !text.trim().startsWith('{')) throw new Failed(`${name}: ${status} ${text.slice(0, 200)}`);
+  return fileOf(text);
 };
 
+// What is to be installed by the reply to this round's manifest. A manifest is kept until it was answered; then its bytes aren't sent again,
+// since they would only bring the same reply. One new manifest follows at once behind a reply that is old, and one in the next round behind
+// a reply that is refused.
 async function answered(vehicle, url, save) {
   const secrets = Object.fromEntries((vehicle.role_secrets ?? []).map((it) => [keyid(bytes(it)), bytes(it)]));
-  for (let turn = 0; turn < 3; turn += 1) {
+  let isSecond = false;
+  for (let turn = 0; turn < 2 + 2 * vehicle.ecus.length; turn += 1) {
     const now = Math.floor(Date.now() / 1000);
     vehicle.pending ??= manifest(vehicle, now);
     save();
-    const { status, text, error } = await asked(`${url}/director/manifest`, vehicle.pending);
+    const { status, text, what, value } = await asked(`${url}/director/manifest`, vehicle.pending);
+    if (what === 'read' && !text.trim().startsWith('{')) throw new Failed(`an answer that is no reply: ${text.slice(0, 200)}`);
     try {
-      if (status === 200) return await verified(vehicle, vehicle, replyOf(text), fetcher(url), secrets, now);
+      if (what === 'read') return await verified(vehicle, replyOf(text), fetcher(url), secrets, now);
     } catch (wrong) {
+      if (wrong instanceof Refused) vehicle.pending = null;
       if (!(wrong instanceof Old)) throw wrong;
+      expect(!isSecond, `the service's replies stay old, or the clock is wrong: ${wrong.message}`);
       console.log(`again with a new manifest: ${wrong.message}`);
+      isSecond = true;
     }
     vehicle.pending = null;
-    const value = error.text?.split(' ')[1];
-    if (error.error === 13) vehicle.counter = Number(value);
-    else if (error.error === 18) vehicle.ecus.filter((it) => it.ecu === value).forEach((it) => { it.counter = Math.max(it.counter, now); });
-    else expect(status === 200, `${status} ${text}`);
+    if (what === 'counter') vehicle.counter = Math.max(vehicle.counter, value);
+    // (no one says what an ECU's last counter was: twice what was refused comes above any other in a few tries)
+    else if (what === 'report') vehicle.ecus.filter((it) => it.ecu === value).forEach((it) => { it.counter = Math.max(2 * it.counter, now); });
+    else if (what === 'mend') throw new Failed(`${status} ${text}`);
   }
-  throw new Refused("the service's replies stay old");
+  throw new Failed('the service goes on refusing the counters');
 }
 
 // A filename is not a path: `/` and a first `.` are written as %2F and %2E.
 const pathOf = (images, file) => join(images, encodeURIComponent(file).replace(/^\./, '%2E'));
 
+// Installs all that is due, once each image is there and is what was meant: one may need another.
 function install(vehicle, due, images) {
-  for (const ecu of vehicle.ecus.filter((it) => due[it.ecu])) {
-    const target = due[ecu.ecu], path = images && pathOf(images, target.file);
-    if (path && existsSync(path)) {
-      checkImage(target, readFileSync(path));
-      ecu.installed = { file: target.file, length: target.length, ...hashesOf(target.hashes), release: target.release };
-      console.log(`${ecu.ecu} installed ${target.file}`);
-    } else console.log(`${ecu.ecu} is to install ${target.file}, which isn't here yet`);
+  const ecus = vehicle.ecus.filter((it) => due[it.ecu]), has = (it) => images && existsSync(pathOf(images, due[it.ecu].file));
+  for (const { ecu } of ecus.filter((it) => !has(it))) console.log(`${ecu} is to install ${due[ecu].file}, which isn't here yet`);
+  for (const { ecu } of ecus.filter(has)) checkImage(due[ecu], readFileSync(pathOf(images, due[ecu].file)));
+  for (const it of ecus.every(has) ? ecus : []) {
+    const target = due[it.ecu];
+    it.installed = { file: target.file, length: target.length, ...hashesOf(target.hashes), release: target.release };
+    console.log(`${it.ecu} installed ${target.file}`);
   }
 }
 
@@ -286,15 +415,21 @@ function write(path, vehicle) {
   renameSync(`${path}.new`, path);
 }
 
+// A round. What is wrong with the metadata or an image is told in the Primary's own report, until a reply is accepted again.
 async function round(url, path, images) {
-  const vehicle = read(readFileSync(path, 'ascii')), save = () => write(path, vehicle);
+  const vehicle = read(readFileSync(path, 'ascii')), save = () => write(path, vehicle), own = vehicle.ecus.find((it) => it.ecu === vehicle.primary);
   method = vehicle.method ?? method;
-  const { due, trust } = await answered(vehicle, url, save);
-  Object.assign(vehicle, trust, { pending: null });
-  save();
-  install(vehicle, due, images);
-  save();
-  console.log(`verified: version ${trust.director.versions.targets}, targets ${Object.keys(due).length}`);
+  try {
+    const due = await answered(vehicle, url, save);
+    Object.assign(vehicle, { pending: null });
+    own.attack = '';
+    save();
+    install(vehicle, due, images);
+    console.log(`verified: version ${vehicle.director.versions.targets}, targets ${Object.keys(due).length}`);
+  } catch (wrong) {
+    if (wrong instanceof Refused) own.attack = wrong.message.replace(/[^ -~]/g, '').slice(0, 256);
+    throw wrong;
+  } finally { save(); }
 }
 
 async function trust(url, path) {
@@ -322,6 +457,7 @@ async function vectors(folder) {
     console.log(`${name}: ${JSON.stringify(had)}, not ${JSON.stringify(wanted)}`);
   };
   for (const it of load('canonical_texts').cases) compare(it.name, got(() => canonical(read(it.text))), it.canonical ?? null);
+  for (const it of load('answers').cases) compare(it.name, follows(it.status, it.body), [it.then, it.value ?? null]);
   for (const it of load('key_identifiers').cases) compare(it.name, keyid(bytes(it.public)), it.keyid);
   for (method of Object.keys(schemes)) {
     signatures(load(`${method}/signatures`), compare);
@@ -348,17 +484,22 @@ async function chains(vector, compare, got) {
   for (const it of vector.cases) {
     const texts = { ...vector[`files of ${it.base}`], ...it.replace };
     const fetched = async (name) => (texts[name] ? fileOf(texts[name]) : null);
-    const known = (repository) => ({ root: read(texts[`${repository}/1.root.json`]), versions: it.trusted?.[repository] ?? {} });
+    const known = (repository) => ({ root: read(texts[`${repository}/1.root.json`]), versions: { ...it.trusted?.[repository] } });
     const ecus = vector.vehicle.ecus.map((ecu) => (
       { ...ecu, hardware: it.hardware?.[ecu.ecu] ?? ecu.hardware, installed: { ...ecu.installed, ...it.installed?.[ecu.ecu] } }));
-    const vehicle = { ...vector.vehicle, ecus }, trusted = { director: known('director'), image: known('image') };
+    for (const ecu of ecus) ecu.ecu = it.replaced?.[ecu.ecu] ?? ecu.ecu;
+    const vehicle = { ...vector.vehicle, ecus, replaced: Object.keys(it.replaced ?? {}), director: known('director'), image: known('image') };
     let verdict;
     try {
-      const { due } = await verified(vehicle, trusted, replyOf(texts.reply), fetched, secrets, it.now ?? vector.now);
+      const due = await verified(vehicle, replyOf(texts.reply), fetched, secrets, it.now ?? vector.now);
       verdict = ['accepted', Object.fromEntries(Object.entries(due).map(([ecu, target]) => [ecu, target.file]))];
     } catch (wrong) {
       if (!(wrong instanceof Refused)) throw wrong;
       verdict = [wrong instanceof Old ? 'old' : 'refused'];
+    }
+    for (const [repository, state] of Object.entries(it.state ?? {})) {
+      const { root, versions } = vehicle[repository];
+      compare(`${it.attack}: ${it.name}: what is trusted`, { root: root.signed.version, timestamp: 0, snapshot: 0, targets: 0, ...versions }, state);
     }
     compare(`${it.attack}: ${it.name}`, verdict, it.verdict === 'accepted' ? ['accepted', it.installs ?? vector.installs] : [it.verdict]);
   }

@@ -2,27 +2,34 @@
 # Gives the scripts that operators dropped, and refreshes the Image repository, in one stop of each desk. To be run by root.
 #
 #     apply.sh [--refresh]
+#     apply.sh --mend
 #
-# Scripts are taken from SPOOL, whole files named NAME.script, and checked. One that the checker refuses never stops a service. Where
-# none is left, and no refresh is asked for, nothing is done. Else each desk, one after the other, is copied where scripts are given,
-# stopped, given its lines, and started again, whatever happens. What was answered is in SPOOL/answers, and in the journal with who
-# gave it; what wasn't is in SPOOL/held. The status is 0 where all was answered. Settings are read from /etc/uptane/settings.
+# Scripts are taken from SPOOL, whole files named NAME.script, and checked. One that the checker refuses stops no service; where none is
+# left, and no refresh is asked for, nothing more is done. Scripts that only show and fetch are given to a copy, and stop nothing. Else
+# each desk, one after the other, is copied where scripts are given, stopped, given its lines, and started again, whatever happens; where
+# keys were rotated it is copied once more. What was answered is in SPOOL/answers, and in the journal with who gave it; what wasn't is in
+# SPOOL/held. The status is 0 where all was accepted and answered. `--mend` puts right what a run left that was killed: it starts the desk
+# that was stopped, and puts scripts into SPOOL/held. Each run begins so. Settings are read from /etc/uptane/settings.
 set -eu
 umask 077
 : "${SETTINGS:=/etc/uptane/settings}"
 # shellcheck source=/dev/null
 if [ -r "$SETTINGS" ]; then . "$SETTINGS"; fi
-: "${PROGRAM:=/usr/bin/uptane_desk}" "${TOOLS:=/usr/lib/uptane_desk/tools/operate}" "${OWNER:=uptane}" "${PORT:=8080}"
+: "${PROGRAM:=/usr/bin/uptane_desk}" "${TOOLS:=/usr/lib/uptane_desk/tools}" "${OWNER:=uptane}" "${PORT:=8080}"
 : "${FOLDER:=/var/lib/uptane}" "${SPOOL:=/var/spool/uptane}" "${JOURNAL:=/var/log/uptane/journal}" "${COPIES:=/var/backups/uptane}"
 # several desks: their number, and the folder of their division; how long a start may take, in seconds
 : "${DESKS:=}" "${DIVISION:=/var/lib/uptane-division}" "${PATIENCE:=600}" "${RUN:=/run}" "${AFTER_APPLY:=/etc/uptane/after-apply}"
+: "${AFTER:=/etc/uptane/after-backup}"
 
-refresh=
-if [ "${1:-}" = --refresh ]; then refresh=yes; shift; fi
-[ $# = 0 ] || { echo "usage: apply.sh [--refresh]" >&2; exit 2; }
+refresh='' mend=''
+case ${1:-} in
+--refresh) refresh=yes; shift;;
+--mend) mend=yes; shift;;
+esac
+[ $# = 0 ] || { echo "usage: apply.sh [--refresh | --mend]" >&2; exit 2; }
 
 say() { echo "apply.sh: $*" >&2; }
-tool() { name=$1; shift; python3 "$TOOLS/$name.py" "$@"; }
+tool() { python3 "$TOOLS/run" "$@"; }
 # a desk is its number, or nothing where there is one alone
 file_of() { echo "$FOLDER/desk$1.db"; }
 unit_of() { if [ "$1" ]; then echo "uptane-desk@$1.service"; else echo uptane-desk.service; fi; }
@@ -30,11 +37,9 @@ script_of() { if [ "$1" ]; then echo "$DIVISION/desk$1.script"; else echo "$work
 answers_of() { if [ "$1" ]; then echo "$DIVISION/desk$1.answers"; else echo "$work/answers"; fi; }
 each() { for desk in $(if [ "$DESKS" ]; then seq "$DESKS"; else echo alone; fi); do "$@" "${desk#alone}"; done; }
 
+asked() { curl -fsS -m 60 --retry "$2" --retry-connrefused --retry-delay 1 --retry-max-time "$2" "http://127.0.0.1:$((PORT + ${1:-0}))$3"; }
 # a service that was just started doesn't listen yet
-fetched() {
-    curl -fsS -m 60 --retry "$PATIENCE" --retry-connrefused --retry-delay 1 --retry-max-time "$PATIENCE" \
-        "http://127.0.0.1:$((PORT + ${1:-0}))/image/timestamp.json"
-}
+fetched() { asked "$1" "$PATIENCE" /image/timestamp.json; }
 
 highest=0
 # the last member of the file's signed part is its version, as canonical text has them in order
@@ -44,24 +49,46 @@ above() {
     if [ "$version" -gt "$highest" ]; then highest=$version; fi
 }
 
+# ---- what a run left that was killed
+
 exec 9> "$RUN/uptane-apply.lock"
-flock 9
+# (what was killed may still end; a run that goes on needs no mending)
+if [ "$mend" ]; then flock -w 10 9 || exit 0; else flock 9; fi
+if [ -s "$RUN/uptane-stopped" ]; then
+    say "a run was killed: $(cat "$RUN/uptane-stopped") is started again"
+    systemctl start "$(cat "$RUN/uptane-stopped")"
+    rm -f "$RUN/uptane-stopped"
+fi
+find "$SPOOL" -maxdepth 1 -type d -name 'taken.*' -uid "$(id -u)" | while read -r left; do
+    if [ -e "$left/list.json" ]; then tool spool keep "$SPOOL" "$left" "$JOURNAL" || say "a run was killed: see $SPOOL/held and $JOURNAL"; fi
+    rm -rf "$left"
+done
+if [ "$mend" ]; then exit 0; fi
+
+# ---- scripts are taken
+
 if [ "$DESKS" ] && [ -e "$DIVISION/pending.json" ]; then say "$DIVISION: the last script isn't joined yet"; exit 1; fi
 if [ "$refresh" ]; then each above; fi
+# who can check a signature of Ed25519 can't make one: ECUs' keys are public then
+public=''
+if asked "${DESKS:+1}" 0 /director/root.json 2> /dev/null | grep -q '"method":"ed25519"'; then public=--public; fi
 
-work=$(mktemp -d "$RUN/uptane-apply.XXXXXX") stopped='' failed='' given=''
-kept() { given=''; tool spool keep "$SPOOL" "$work" "$JOURNAL" || failed=yes; }
+work=$(mktemp -d "$SPOOL/taken.XXXXXX") stopped='' failed='' given='' number=0 reading='' own=''
+kept() { given=''; tool spool keep "$SPOOL" "$work" "$JOURNAL" $public || failed=yes; }
+started() { systemctl start "$stopped" && { stopped=''; rm -f "$RUN/uptane-stopped"; }; }
 ended() {
-    if [ "$stopped" ]; then systemctl start "$stopped"; fi
+    if [ "$stopped" ]; then started; fi
     if [ "$given" ]; then kept; fi
-    rm -rf "$work"
+    rm -rf "$work" ${own:+"$own"}
 }
 trap ended EXIT
 trap 'exit 1' HUP INT TERM
 
 given=yes
-number=$(tool spool take "$SPOOL" "$work")
-if [ "$number" = 0 ] && [ ! "$refresh" ]; then given=''; exit 0; fi
+tool spool take "$SPOOL" "$work" "$JOURNAL" > "$work/number" || failed=yes
+number=$(cat "$work/number")
+if [ "${number:-0}" = 0 ] && [ ! "$refresh" ]; then given=''; [ ! "$failed" ]; exit; fi
+if [ ! "$refresh" ] && tool spool reads "$work"; then reading=yes; fi
 
 whole() {
     tool spool whole "$work" ${refresh:+--refresh "$highest"} > "$work/script"
@@ -77,28 +104,45 @@ if ! whole; then
     given=yes
 fi
 
+# ---- and given
+
 copied() {
-    process=$(systemctl show -p MainPID --value "$(unit_of "$1")")
-    copy=$COPIES/desk$1-$(date -u +%Y%m%dT%H%M%SZ)-before.db
+    copy=$COPIES/desk$1-$(date -u +%Y%m%dT%H%M%SZ)-$2.db
     while [ -e "$copy" ]; do
         sleep 1
-        copy=$COPIES/desk$1-$(date -u +%Y%m%dT%H%M%SZ)-before.db
+        copy=$COPIES/desk$1-$(date -u +%Y%m%dT%H%M%SZ)-$2.db
     done
-    tool copy_served "$process" "$(file_of "$1")" "$copy"
+    tool copy_served "$(systemctl show -p MainPID --value "$(unit_of "$1")")" "$(file_of "$1")" "$copy"
 }
 
-# given as the owner of the file: what another user makes can't be opened by the service
+# as the owner of the file: what another user makes can't be opened by the service
+run() { runuser -u "$OWNER" -- "$PROGRAM" run "$2" < "$(script_of "$1")" > "$(answers_of "$1")" || failed=yes; }
+
+read_copy() {
+    own=$(mktemp -d "$FOLDER/reading.XXXXXX")
+    if tool copy_served "$(systemctl show -p MainPID --value "$(unit_of "$1")")" "$(file_of "$1")" "$own/desk.db"; then
+        chown -Rh "$OWNER" "$own"
+        run "$1" "$own/desk.db"
+    else
+        failed=yes
+    fi
+    rm -rf "$own" && own=''
+}
+
 give() {
     : > "$(answers_of "$1")"
     [ -s "$(script_of "$1")" ] || return 0
-    if [ "$number" != 0 ] && ! copied "$1"; then say "desk $1: no copy, so nothing is given"; failed=yes; return 0; fi
+    if [ "$reading" ]; then read_copy "$1"; return 0; fi
+    if [ "$number" != 0 ] && ! copied "$1" before; then say "desk $1: no copy, so nothing is given"; failed=yes; return 0; fi
     begun=$(date +%s) stopped=$(unit_of "$1")
+    echo "$stopped" > "$RUN/uptane-stopped"
     systemctl stop "$stopped" || { failed=yes; return 0; }
-    runuser -u "$OWNER" -- "$PROGRAM" run "$(file_of "$1")" < "$(script_of "$1")" > "$(answers_of "$1")" || failed=yes
-    systemctl start "$stopped" && stopped='' || failed=yes
+    tool raised "$(file_of "$1")" "$COPIES" && run "$1" "$(file_of "$1")" || failed=yes
+    started || failed=yes
     fetched "$1" > "$work/timestamp" || failed=yes
     echo "desk${1:+ $1}: $(wc -l < "$(answers_of "$1")") lines answered, off the line for $(($(date +%s) - begun)) seconds"
 }
+install -d -m 700 "$COPIES"
 each give
 
 if [ "$DESKS" ]; then
@@ -107,4 +151,10 @@ if [ "$DESKS" ]; then
     if [ -x "$AFTER_APPLY" ]; then "$AFTER_APPLY" "$DIVISION/vehicles.map" || failed=yes; fi
 fi
 kept
+# the new keys are in no other copy
+rotated() { if copied "$1" rotated; then made="$made $copy"; else failed=yes; fi; }
+made=''
+if grep -Eqs '"do" *: *"(found|rotate)"' "$work"/*.script; then each rotated; fi
+# shellcheck disable=SC2086
+if [ "$made" ] && [ -x "$AFTER" ]; then "$AFTER" $made || failed=yes; fi
 [ ! "$failed" ]

@@ -5,17 +5,22 @@
 #     backup.sh
 #
 # A service stands still while its file is copied: some milliseconds where COPIES is on the same filesystem and that can clone (XFS,
-# Btrfs). The newest KEEP copies of each desk stay, and as many of those that apply.sh made. Then AFTER is run with the names of the new copies, where it is there: to bring
-# them to another machine, say. Settings are read from /etc/uptane/settings. The status is 1 where anything failed.
+# Btrfs). The newest KEEP copies of each desk stay, and as many of those that apply.sh made before and behind what it gave; those before a
+# raise of the schema are never removed. Then AFTER is run with the names of the new copies, where it is there: to bring them to another
+# machine, say. Settings are read from /etc/uptane/settings. The status is 1 where anything failed.
 set -eu
 umask 077
 : "${SETTINGS:=/etc/uptane/settings}"
 # shellcheck source=/dev/null
 if [ -r "$SETTINGS" ]; then . "$SETTINGS"; fi
-: "${TOOLS:=/usr/lib/uptane_desk/tools/operate}" "${FOLDER:=/var/lib/uptane}" "${COPIES:=/var/backups/uptane}" "${KEEP:=48}" "${DESKS:=}"
-: "${METRICS:=}" "${PAGE:=}" "${AFTER:=/etc/uptane/after-backup}"
+: "${TOOLS:=/usr/lib/uptane_desk/tools}" "${FOLDER:=/var/lib/uptane}" "${COPIES:=/var/backups/uptane}" "${KEEP:=48}" "${DESKS:=}"
+: "${METRICS:=}" "${PAGE:=}" "${AFTER:=/etc/uptane/after-backup}" "${RUN:=/run}"
 
-tool() { name=$1; shift; python3 "$TOOLS/$name.py" "$@"; }
+# apply.sh stops and starts what is copied here
+exec 9> "$RUN/uptane-apply.lock"
+flock 9
+
+tool() { python3 "$TOOLS/run" "$@"; }
 unit_of() { if [ "$1" ]; then echo "uptane-desk@$1.service"; else echo uptane-desk.service; fi; }
 failed='' made='' named=''
 
@@ -33,11 +38,13 @@ backup() {
 }
 
 each() { for desk in $(if [ "$DESKS" ]; then seq "$DESKS"; else echo alone; fi); do "$@" "${desk#alone}"; done; }
+for path in "$METRICS" "$PAGE"; do if [ "$path" ]; then install -d -m 755 "$(dirname "$path")"; fi; done
+install -d -m 700 "$COPIES"
 each backup
 # shellcheck disable=SC2086
 tool check_file $made || failed=yes
 # copies that are amiss take no older one's place
-dropped() { older "desk$1-*Z.db" "$KEEP"; older "desk$1-*Z-before.db" "$KEEP"; }
+dropped() { older "desk$1-*Z.db" "$KEEP"; older "desk$1-*Z-before.db" "$KEEP"; older "desk$1-*Z-rotated.db" "$KEEP"; }
 if [ ! "$failed" ]; then each dropped; fi
 # shellcheck disable=SC2086
 if [ "$METRICS" ] && [ ! "$failed" ]; then tool metrics --to "$METRICS" $named || failed=yes; fi

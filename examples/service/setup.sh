@@ -9,5 +9,11 @@ install -d -o uptane -g uptane -m 700 /var/lib/uptane
 install -d -m 1730 -g uptane-operators /var/spool/uptane
 install -d -m 750 -g uptane-operators /var/spool/uptane/answers
 install -d -m 700 /var/backups/uptane /var/log/uptane
+# and the folders that settings name
+: "${SETTINGS:=/etc/uptane/settings}" "${COPIES:=}" "${METRICS:=}" "${PAGE:=}" "${WATCHED:=}" "${DIVISION:=}"
+# shellcheck source=/dev/null
+if [ -r "$SETTINGS" ]; then . "$SETTINGS"; fi
+for folder in "$COPIES" "$DIVISION"; do if [ "$folder" ]; then install -d -m 700 "$folder"; fi; done
+for path in "$METRICS" "$PAGE" "$WATCHED"; do if [ "$path" ]; then install -d -m 755 "$(dirname "$path")"; fi; done
 if [ -d /run/systemd/system ]; then systemctl daemon-reload; fi
-systemctl enable uptane-desk.service uptane-desk-refresh.timer uptane-desk-backup.timer
+systemctl enable uptane-desk.service uptane-desk-refresh.timer uptane-desk-backup.timer uptane-desk-watch.timer uptane-desk-now.path

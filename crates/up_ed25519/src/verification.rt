@@ -12,7 +12,7 @@ use up_field::cached::sum;
 use up_field::decode::decode;
 use up_field::joint::joint;
 use up_field::order::{is_below_order, negated, reduced};
-use up_field::points::{Extended, base, neutral};
+use up_field::points::{Extended, neutral};
 use up_field::same::are_same_points;
 
 /// Whether the signature of a message is valid under a public key (RFC 8032, section 5.1.7).
@@ -87,7 +87,7 @@ fn equation(s: &[u8], k: &[u8; 32], a: Extended, r: Extended) -> bool
         → result ≡ is_same_point (multiple (number s.now) base_point) (add n (multiple (number k.now) m)) }
 {
     let n = negated(s);
-    let t = joint(k, a, &n, base());
+    let t = joint(k, a, &n);
     let left = sum(r, t);
     are_same_points(left, neutral())
 }

@@ -1,9 +1,13 @@
+pub mod Balances
 pub mod ByteLists
-pub mod CombPoints
+pub mod Chains
+pub mod CombSteps
+pub mod Digits
 pub mod Doubling
-pub mod Horner
+pub mod OddSteps
 pub mod Pairs
 pub mod Powers
+pub mod Scattered
 pub mod Steps
 pub mod Sums
 pub mod Tests

@@ -2,7 +2,11 @@ pub mod Affine
 pub mod Cached
 pub mod Comb
 pub mod Decoded
+pub mod Digits
 pub mod Limbs
 pub mod Points
 pub mod Powers
+pub mod Sides
+pub mod Sparse
 pub mod Tables
+pub mod Wide

@@ -6,10 +6,10 @@ ghost use Rattle.up_field.specs.Points.{AreTight, IsTight, number, Writes};
 ghost use Rattle.up_curve.specs.Curve.{d};
 ghost use Rattle.up_curve.specs.Curve.{Point, add as add_of};
 
-use crate::affine::{Affine, summed};
 use crate::limbs::{Field, add, sub, weak};
 use crate::points::Extended;
 use crate::products::mul;
+use crate::sides::{cached_sides, whole};
 
 /// A point made ready for sums: its coordinates' sum and difference, twice z, and twice d times t.
 #[derive(Clone, Copy)]
@@ -56,13 +56,7 @@ pub(crate) fn sum_cached(a: Extended, b: Cached) -> Extended
     ensures limits { AreTight result }
     ensures writes { (m n : Point) → Writes a m → Stores b n → Writes result (add_of m n) }
 {
-    let z = mul(a.z, b.z);
-    let q = Affine {
-        plus: b.plus,
-        minus: b.minus,
-        t: b.t,
-    };
-    summed(a, q, z)
+    whole(cached_sides(a, b))
 }
 
 /// The sum of two points.

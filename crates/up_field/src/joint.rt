@@ -1,66 +1,101 @@
-//! Sums of multiples of two points that are no secret.
-ghost use Rattle.std.specs.Prelude.{◌≡◌, ℕ, ◌+◌, ◌*◌, ◌<◌, length};
-ghost use Rattle.up_field.specs.Points.{AreTight, Writes};
-ghost use Rattle.up_curve.specs.Curve.{Point};
+//! Sums of a multiple of a point and one of the base point, neither of them secret.
+ghost use Rattle.std.specs.Prelude.{◌≡◌, ℕ, ◌+◌, ◌*◌, ◌%◌, ◌<◌, false, true, length};
+ghost use Rattle.up_field.specs.Points.{AreSides, AreTight, Writes};
+ghost use Rattle.up_curve.specs.Curve.{Point, base as base_point};
 ghost use Rattle.up_curve.specs.LittleEndian.{number};
 ghost use Rattle.up_curve.specs.Points.{IsPoint};
+ghost use Rattle.up_field.specs.Sides.{AreFlat, Lies, Yields};
+ghost use Rattle.up_field.specs.Sparse.{IsDigit};
 ghost use Rattle.up_field.specs.Tables.{pair, AllReady, IsTable};
 
+use crate::bytes::from_bytes;
 use crate::cached::{Cached, ready, sum_cached};
-use crate::points::{Extended, neutral, twice};
+use crate::odd_table::odd_table;
+use crate::points::{Extended, neutral};
+use crate::sides::{
+    Projective, Sides, affine_sides, cached_sides, doubled, extended, flat, twice, whole, without_t,
+};
+use crate::sparse::scatter;
+use crate::words::in_words;
 
-/// The sum of two multiples.
-pub fn joint(s: &[u8; 32], a: Extended, t: &[u8; 32], b: Extended) -> Extended
-    requires point { AreTight a }
-    requires other { AreTight b }
+/// A multiple of a point and one of the base point. How long it takes depends on both numbers and on the point.
+pub fn joint(k: &[u8; 32], a: Extended, s: &[u8; 32]) -> Extended
+    requires { AreTight a }
     ensures limits { AreTight result }
-    ensures writes { (m n : Point) → Writes a m → Writes b n → Writes result (pair (number s.now) (number t.now) m n) }
+    ensures writes { (m : Point) → Writes a m → Writes result (pair (number k.now) (number s.now) m base_point) }
 {
-    let first = table_of(a);
-    let second = table_of(b);
-    let mut r = neutral();
-    for i in 0..32usize {
-        let x = s[31 - i] as usize;
-        let y = t[31 - i] as usize;
-        r = next_digits(r, &first, x / 16, &second, y / 16);
-        r = next_digits(r, &first, x % 16, &second, y % 16);
+    let multiples = odd_multiples(a);
+    let x = scatter(in_words(from_bytes(k)), false);
+    let y = scatter(in_words(from_bytes(s)), true);
+    let mut r = without_t(neutral());
+    for i in 0..256usize {
+        r = next(r, &multiples, x[255 - i], y[255 - i]);
     }
-    r
+    extended(r)
 }
 
-/// The first 16 multiples of a point.
-fn table_of(q: Extended) -> [Cached; 16]
+/// The first eight odd multiples of a point.
+fn odd_multiples(q: Extended) -> [Cached; 8]
     requires { AreTight q }
     ensures limits { AllReady result }
     ensures writes { (m : Point) → Writes q m → IsTable result m }
 {
-    let one = ready(q);
-    let mut r = neutral();
-    let mut t = [ready(r); 16];
-    for i in 1..16usize {
-        r = sum_cached(r, one);
+    let two = ready(twice(q));
+    let mut r = q;
+    let mut t = [ready(q); 8];
+    for i in 1..8usize {
+        r = sum_cached(r, two);
         t[i] = ready(r);
     }
     t
 }
 
-/// 16 times a sum of multiples, and a digit more of each.
-fn next_digits(r: Extended, s: &[Cached; 16], i: usize, t: &[Cached; 16], j: usize) -> Extended
-    requires so_far { AreTight r }
-    requires first { AllReady s.now }
-    requires second { AllReady t.now }
-    requires digit { i < 16 }
-    requires other { j < 16 }
-    ensures limits { AreTight result }
-    ensures writes { (m n : Point) (c e : ℕ) → IsPoint m → IsPoint n → IsTable s.now m → IsTable t.now n
-        → Writes r (pair c e m n) → Writes result (pair (16 * c + i) (16 * e + j) m n) }
+/// Twice a sum of multiples, and a digit more of each.
+fn next(r: Projective, t: &[Cached; 8], d: u8, e: u8) -> Projective
+    requires so_far { AreFlat r }
+    requires table { AllReady t.now }
+    requires digit { IsDigit false d }
+    requires other { IsDigit true e }
+    ensures limits { AreFlat result }
+    ensures lies { (m : Point) (x y : ℕ) → IsPoint m → IsTable t.now m → Lies r (pair x y m base_point)
+        → Lies result (pair (2 * x + d) (2 * y + e) m base_point) }
 {
-    let x = twice(r);
-    let y = twice(x);
-    let z = twice(y);
-    let w = twice(z);
-    let p = s[i];
-    let u = sum_cached(w, p);
-    let q = t[j];
-    sum_cached(u, q)
+    let s = doubled(r);
+    let u = with_point(s, t, d);
+    let v = with_base(u, e);
+    flat(v)
+}
+
+/// A digit's multiple of the point more.
+#[inline(always)]
+fn with_point(s: Sides, t: &[Cached; 8], d: u8) -> Sides
+    requires so_far { AreSides s.e s.f s.g s.h }
+    requires table { AllReady t.now }
+    requires digit { IsDigit false d }
+    ensures limits { AreSides result.e result.f result.g result.h }
+    ensures yields { (m : Point) (x y : ℕ) → IsPoint m → IsTable t.now m → Yields s (pair x y m base_point)
+        → Yields result (pair (x + d) y m base_point) }
+{
+    if d == 0 {
+        return s;
+    }
+    let e = t[d as usize / 2];
+    cached_sides(whole(s), e)
+}
+
+/// A digit's multiple of the base point more.
+#[inline(always)]
+fn with_base(s: Sides, d: u8) -> Sides
+    requires so_far { AreSides s.e s.f s.g s.h }
+    requires digit { IsDigit true d }
+    ensures limits { AreSides result.e result.f result.g result.h }
+    ensures yields { (m : Point) (x y : ℕ) → IsPoint m → Yields s (pair x y m base_point)
+        → Yields result (pair x (y + d) m base_point) }
+{
+    if d == 0 {
+        return s;
+    }
+    let t = odd_table();
+    let e = t[d as usize / 2];
+    affine_sides(whole(s), e)
 }

@@ -126,3 +126,22 @@ pub(crate) fn merged(bit: u64, a: Field, r: Field) -> Field
         l4: r.l4 + kept(bit, a.l4),
     }
 }
+
+/// One of two numbers, without a branch.
+#[inline(always)]
+pub(crate) fn chosen(bit: u64, a: Field, b: Field) -> Field
+    requires bit { bit < 2 }
+    requires first { IsTight a }
+    requires second { IsTight b }
+    ensures one { bit ≡ 1 → result ≡ a }
+    ensures zero { bit ≡ 0 → result ≡ b }
+    ensures limit { IsTight result }
+{
+    Field {
+        l0: kept(bit, a.l0) + kept(1 - bit, b.l0),
+        l1: kept(bit, a.l1) + kept(1 - bit, b.l1),
+        l2: kept(bit, a.l2) + kept(1 - bit, b.l2),
+        l3: kept(bit, a.l3) + kept(1 - bit, b.l3),
+        l4: kept(bit, a.l4) + kept(1 - bit, b.l4),
+    }
+}

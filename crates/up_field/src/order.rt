@@ -6,7 +6,7 @@ ghost use Rattle.up_curve.specs.LittleEndian.{number, bytes};
 
 use crate::bytes::{from_bytes, to_bytes};
 use crate::limbs::Field;
-use crate::scalar;
+use crate::scalar::{as_bytes, joined, product, reduce};
 
 /// Whether the number that 32 bytes write is below the order.
 pub fn is_below_order(bytes: &[u8]) -> bool
@@ -64,20 +64,25 @@ fn rest(n: Field) -> Field
     }
 }
 
-/// The number that bytes write, modulo the order.
-pub fn reduced(bytes: &[u8]) -> [u8; 32]
+/// The number that 64 bytes write, modulo the order.
+pub fn reduced(bytes: &[u8; 64]) -> [u8; 32]
     ensures { number result ≡ number bytes.now % order }
 {
-    scalar::as_bytes(scalar::reduce(bytes))
+    let first = &bytes[..32];
+    let second = &bytes[32..];
+    let low = from_bytes(first);
+    let high = from_bytes(second);
+    let digits = joined(low, high);
+    as_bytes(reduce(&digits))
 }
 
 /// r + k a modulo the order: the second half of a signature (RFC 8032, section 5.1.6).
 pub fn multiply_add(r: &[u8; 32], k: &[u8; 32], a: &[u8; 32]) -> [u8; 32]
     ensures { result ≡ bytes 32 ((number r.now + number k.now * number a.now) % order) }
 {
-    let s = scalar::reduce(a);
-    let c = scalar::product(k, s);
-    let n = scalar::reduce(r);
-    let m = scalar::sum(n, c);
-    scalar::as_bytes(m)
+    let n = from_bytes(r);
+    let c = from_bytes(k);
+    let s = from_bytes(a);
+    let digits = product(n, c, s);
+    as_bytes(reduce(&digits))
 }

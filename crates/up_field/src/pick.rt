@@ -1,39 +1,29 @@
 //! An entry of a table at a secret place, without a branch.
-ghost use Rattle.std.specs.Prelude.{◌≡◌, ◌<◌, slice_index_or};
+ghost use Rattle.std.specs.Prelude.{◌≡◌, ◌+◌, ◌*◌, ◌<◌, slice_index_or};
 ghost use Rattle.up_field.specs.Affine.{AreAffine};
 ghost use Rattle.up_field.specs.Comb.{AllAffine, IsClear};
 
 use crate::affine::Affine;
 use crate::limbs::{merged, zero};
 
-/// An entry of a table, by reading all of them.
-pub(crate) fn pick(table: &[Affine; 16], k: u64) -> Affine
+/// An entry of a row of a table, by reading all of the row. One bit of `w` stands, and comes to its end at the entry.
+#[inline(always)]
+pub(crate) fn pick(table: &[Affine; 272], row: usize, k: u64) -> Affine
     requires limits { AllAffine table.now }
+    requires row { row < 17 }
     requires digit { k < 16 }
     ensures limits { AreAffine result }
-    ensures value { (q : Affine) → result ≡ slice_index_or table.now k q }
+    ensures value { (q : Affine) → result ≡ slice_index_or table.now (16 * row + k) q }
 {
     let mut r = clear();
+    let mut w = 1u64 << (k as u32);
     for i in 0..16usize {
-        let bit = are_equal(i as u64, k);
-        let e = table[i];
+        let bit = w % 2;
+        w = w / 2;
+        let e = table[16 * row + i];
         r = merged_entries(bit, e, r);
     }
     r
-}
-
-/// 1 where two digits are the same, and else 0, without a branch.
-#[inline(always)]
-fn are_equal(i: u64, k: u64) -> u64
-    requires first { i < 16 }
-    requires second { k < 16 }
-    ensures bit { result < 2 }
-    ensures same { i ≡ k → result ≡ 1 }
-    ensures other { result ≡ 1 → i ≡ k }
-{
-    let above = (i + 15 - k) / 16;
-    let below = (k + 15 - i) / 16;
-    1 - (above + below)
 }
 
 /// An entry or another whose limbs are 0 so far, without a branch.

@@ -1,8 +1,9 @@
 //! Numbers modulo the order of the base point, in limbs.
-ghost use Rattle.std.specs.Prelude.{◌≡◌, ◌+◌, ◌*◌, ◌%◌, ◌<◌, ◌≤◌, ◌^◌, length};
+ghost use Rattle.std.specs.Prelude.{◌≡◌, ◌+◌, ◌*◌, ◌%◌, ◌<◌, ◌^◌};
 ghost use Rattle.up_curve.specs.Curve.{order};
 ghost use Rattle.up_field.specs.Limbs.{limbs, AreBelow};
-ghost use Rattle.up_curve.specs.LittleEndian.{number, bytes};
+ghost use Rattle.up_field.specs.Digits.{AreDigits, written};
+ghost use Rattle.up_curve.specs.LittleEndian.{bytes};
 
 use crate::bytes::to_bytes;
 use crate::limbs::Field;
@@ -17,78 +18,91 @@ pub(crate) struct Scalar {
     pub l4: u64,
 }
 
-/// The number that bytes write, modulo the order.
-pub(crate) fn reduce(bytes: &[u8]) -> Scalar
-    ensures value { limbs result.l0 result.l1 result.l2 result.l3 result.l4 ≡ number bytes.now % order }
+/// The number that digits of 51 bits write, modulo the order. A digit may be larger than that.
+pub(crate) fn reduce(digits: &[u128; 10]) -> Scalar
+    requires { AreDigits digits.now }
+    ensures value { limbs result.l0 result.l1 result.l2 result.l3 result.l4 ≡ written digits.now % order }
     ensures limit { AreBelow (2 ^ 51) result.l0 result.l1 result.l2 result.l3 result.l4 }
 {
-    let n = bytes.len();
-    let mut r = small(0);
-    for i in 0..n {
-        r = step(r, bytes[n - 1 - i] as u64, small(1));
+    let mut r = none();
+    for i in 0..10usize {
+        r = step(r, digits[9 - i]);
     }
     r
 }
 
-/// The product of the number that 32 bytes write with another, modulo the order.
-pub(crate) fn product(k: &[u8], a: Scalar) -> Scalar
-    requires length { length k.now ≡ 32 }
-    requires limit { AreBelow (2 ^ 51) a.l0 a.l1 a.l2 a.l3 a.l4 }
-    ensures value { limbs result.l0 result.l1 result.l2 result.l3 result.l4
-        ≡ (number k.now * limbs a.l0 a.l1 a.l2 a.l3 a.l4) % order }
-    ensures limit { AreBelow (2 ^ 51) result.l0 result.l1 result.l2 result.l3 result.l4 }
-{
-    let mut r = small(0);
-    for i in 0..32usize {
-        r = step(r, k[31 - i] as u64, a);
-    }
-    r
-}
-
-/// The sum of two numbers, modulo the order.
-pub(crate) fn sum(a: Scalar, b: Scalar) -> Scalar
-    requires first { AreBelow (2 ^ 51) a.l0 a.l1 a.l2 a.l3 a.l4 }
-    requires second { AreBelow (2 ^ 51) b.l0 b.l1 b.l2 b.l3 b.l4 }
-    requires below { limbs a.l0 a.l1 a.l2 a.l3 a.l4 + limbs b.l0 b.l1 b.l2 b.l3 b.l4 < 2 * order }
-    ensures value { limbs result.l0 result.l1 result.l2 result.l3 result.l4
-        ≡ (limbs a.l0 a.l1 a.l2 a.l3 a.l4 + limbs b.l0 b.l1 b.l2 b.l3 b.l4) % order }
-    ensures limit { AreBelow (2 ^ 51) result.l0 result.l1 result.l2 result.l3 result.l4 }
-{
-    reduced(exact(a, b))
-}
-
-/// The exact sum of two numbers.
+/// The digits of a number of 512 bits, by its halves.
 #[inline(always)]
-fn exact(a: Scalar, b: Scalar) -> Scalar
-    requires first { AreBelow (2 ^ 51) a.l0 a.l1 a.l2 a.l3 a.l4 }
-    requires second { AreBelow (2 ^ 51) b.l0 b.l1 b.l2 b.l3 b.l4 }
-    requires below { limbs a.l0 a.l1 a.l2 a.l3 a.l4 + limbs b.l0 b.l1 b.l2 b.l3 b.l4 < 2 * order }
-    ensures value { limbs result.l0 result.l1 result.l2 result.l3 result.l4
-        ≡ limbs a.l0 a.l1 a.l2 a.l3 a.l4 + limbs b.l0 b.l1 b.l2 b.l3 b.l4 }
-    ensures limit { AreBelow (2 ^ 51) result.l0 result.l1 result.l2 result.l3 result.l4 }
+pub(crate) fn joined(low: Field, high: Field) -> [u128; 10]
+    requires first { AreBelow (2 ^ 52) low.l0 low.l1 low.l2 low.l3 low.l4 }
+    requires second { AreBelow (2 ^ 52) high.l0 high.l1 high.l2 high.l3 high.l4 }
+    ensures value { written result ≡ limbs low.l0 low.l1 low.l2 low.l3 low.l4
+        + 2 ^ 256 * limbs high.l0 high.l1 high.l2 high.l3 high.l4 }
+    ensures limit { AreDigits result }
 {
-    let t0 = a.l0 + b.l0;
-    let t1 = a.l1 + b.l1 + (t0 >> 51);
-    let t2 = a.l2 + b.l2 + (t1 >> 51);
-    let t3 = a.l3 + b.l3 + (t2 >> 51);
-    Scalar {
-        l0: t0 % (1 << 51),
-        l1: t1 % (1 << 51),
-        l2: t2 % (1 << 51),
-        l3: t3 % (1 << 51),
-        l4: a.l4 + b.l4 + (t3 >> 51),
-    }
+    [
+        low.l0 as u128,
+        low.l1 as u128,
+        low.l2 as u128,
+        low.l3 as u128,
+        low.l4 as u128,
+        (high.l0 * 2) as u128,
+        (high.l1 * 2) as u128,
+        (high.l2 * 2) as u128,
+        (high.l3 * 2) as u128,
+        (high.l4 * 2) as u128,
+    ]
 }
 
-/// A small number.
+/// The digits of a sum of a number and a product.
+pub(crate) fn product(r: Field, k: Field, a: Field) -> [u128; 10]
+    requires first { AreBelow (2 ^ 52) r.l0 r.l1 r.l2 r.l3 r.l4 }
+    requires second { AreBelow (2 ^ 52) k.l0 k.l1 k.l2 k.l3 k.l4 }
+    requires third { AreBelow (2 ^ 52) a.l0 a.l1 a.l2 a.l3 a.l4 }
+    ensures value { written result ≡ limbs r.l0 r.l1 r.l2 r.l3 r.l4
+        + limbs k.l0 k.l1 k.l2 k.l3 k.l4 * limbs a.l0 a.l1 a.l2 a.l3 a.l4 }
+    ensures limit { AreDigits result }
+{
+    let d0 = r.l0 as u128 + times(k.l0, a.l0);
+    let d1 = r.l1 as u128 + times(k.l0, a.l1) + times(k.l1, a.l0);
+    let d2 = r.l2 as u128 + times(k.l0, a.l2) + times(k.l1, a.l1) + times(k.l2, a.l0);
+    let d3 = r.l3 as u128
+        + times(k.l0, a.l3)
+        + times(k.l1, a.l2)
+        + times(k.l2, a.l1)
+        + times(k.l3, a.l0);
+    let d4 = r.l4 as u128
+        + times(k.l0, a.l4)
+        + times(k.l1, a.l3)
+        + times(k.l2, a.l2)
+        + times(k.l3, a.l1)
+        + times(k.l4, a.l0);
+    let d5 = times(k.l1, a.l4) + times(k.l2, a.l3) + times(k.l3, a.l2) + times(k.l4, a.l1);
+    let d6 = times(k.l2, a.l4) + times(k.l3, a.l3) + times(k.l4, a.l2);
+    let d7 = times(k.l3, a.l4) + times(k.l4, a.l3);
+    let d8 = times(k.l4, a.l4);
+    [d0, d1, d2, d3, d4, d5, d6, d7, d8, 0]
+}
+
+/// The product of two limbs.
 #[inline(always)]
-fn small(n: u64) -> Scalar
-    requires { n < 2 ^ 51 }
-    ensures value { limbs result.l0 result.l1 result.l2 result.l3 result.l4 ≡ n }
+fn times(a: u64, b: u64) -> u128
+    requires first { a < 2 ^ 52 }
+    requires second { b < 2 ^ 52 }
+    ensures value { result ≡ a * b }
+    ensures limit { result < 2 ^ 104 }
+{
+    a as u128 * b as u128
+}
+
+/// The number 0.
+#[inline(always)]
+fn none() -> Scalar
+    ensures value { limbs result.l0 result.l1 result.l2 result.l3 result.l4 ≡ 0 }
     ensures limit { AreBelow (2 ^ 51) result.l0 result.l1 result.l2 result.l3 result.l4 }
 {
     Scalar {
-        l0: n,
+        l0: 0,
         l1: 0,
         l2: 0,
         l3: 0,
@@ -110,70 +124,43 @@ pub(crate) fn as_bytes(a: Scalar) -> [u8; 32]
     })
 }
 
-/// 256 times a number, and a byte times another, modulo the order.
-fn step(acc: Scalar, byte: u64, a: Scalar) -> Scalar
+/// 2^51 times a number, and a digit, modulo the order.
+fn step(acc: Scalar, digit: u128) -> Scalar
     requires acc { AreBelow (2 ^ 51) acc.l0 acc.l1 acc.l2 acc.l3 acc.l4 }
-    requires other { AreBelow (2 ^ 51) a.l0 a.l1 a.l2 a.l3 a.l4 }
-    requires byte { byte < 256 }
+    requires below { limbs acc.l0 acc.l1 acc.l2 acc.l3 acc.l4 < order }
+    requires digit { digit < 2 ^ 110 }
     ensures value { limbs result.l0 result.l1 result.l2 result.l3 result.l4 % order
-        ≡ (256 * limbs acc.l0 acc.l1 acc.l2 acc.l3 acc.l4 + byte * limbs a.l0 a.l1 a.l2 a.l3 a.l4) % order }
+        ≡ (2 ^ 51 * limbs acc.l0 acc.l1 acc.l2 acc.l3 acc.l4 + digit) % order }
     ensures below { limbs result.l0 result.l1 result.l2 result.l3 result.l4 < order }
     ensures limit { AreBelow (2 ^ 51) result.l0 result.l1 result.l2 result.l3 result.l4 }
 {
-    reduced(folded(scaled(acc, byte, a)))
-}
-
-fn scaled(acc: Scalar, byte: u64, a: Scalar) -> Scalar
-    requires acc { AreBelow (2 ^ 51) acc.l0 acc.l1 acc.l2 acc.l3 acc.l4 }
-    requires other { AreBelow (2 ^ 51) a.l0 a.l1 a.l2 a.l3 a.l4 }
-    requires byte { byte < 256 }
-    ensures value { limbs result.l0 result.l1 result.l2 result.l3 result.l4
-        ≡ 256 * limbs acc.l0 acc.l1 acc.l2 acc.l3 acc.l4 + byte * limbs a.l0 a.l1 a.l2 a.l3 a.l4 }
-    ensures limit { AreBelow (2 ^ 60) result.l0 result.l1 result.l2 result.l3 result.l4 }
-{
-    Scalar {
-        l0: acc.l0 * 256 + by_byte(byte, a.l0),
-        l1: acc.l1 * 256 + by_byte(byte, a.l1),
-        l2: acc.l2 * 256 + by_byte(byte, a.l2),
-        l3: acc.l3 * 256 + by_byte(byte, a.l3),
-        l4: acc.l4 * 256 + by_byte(byte, a.l4),
-    }
-}
-
-fn by_byte(byte: u64, a: u64) -> u64
-    requires byte { byte < 256 }
-    requires limb { a < 2 ^ 51 }
-    ensures value { result ≡ byte * a }
-    ensures limit { result ≤ 255 * (2 ^ 51) }
-{
-    byte * a
+    reduced(folded(acc, digit))
 }
 
 /// The number modulo the order, or that and the order.
-fn folded(t: Scalar) -> Scalar
-    requires { AreBelow (2 ^ 60) t.l0 t.l1 t.l2 t.l3 t.l4 }
+#[inline(always)]
+fn folded(acc: Scalar, digit: u128) -> Scalar
+    requires acc { AreBelow (2 ^ 51) acc.l0 acc.l1 acc.l2 acc.l3 acc.l4 }
+    requires below { limbs acc.l0 acc.l1 acc.l2 acc.l3 acc.l4 < order }
+    requires digit { digit < 2 ^ 110 }
     ensures value { limbs result.l0 result.l1 result.l2 result.l3 result.l4 % order
-        ≡ limbs t.l0 t.l1 t.l2 t.l3 t.l4 % order }
+        ≡ (2 ^ 51 * limbs acc.l0 acc.l1 acc.l2 acc.l3 acc.l4 + digit) % order }
     ensures below { limbs result.l0 result.l1 result.l2 result.l3 result.l4 < 2 * order }
     ensures limit { AreBelow (2 ^ 51) result.l0 result.l1 result.l2 result.l3 result.l4 }
 {
-    let t1 = t.l1 + (t.l0 >> 51);
-    let t2 = t.l2 + (t1 >> 51);
-    let t3 = t.l3 + (t2 >> 51);
-    let t4 = t.l4 + (t3 >> 51);
-    let q = t4 >> 48;
-    let n0 = t.l0 % (1 << 51) + (671914833335277 + (1 << 63)) - q * 671914833335277;
-    let n1 = t1 % (1 << 51) + (1077929209154306 + (1 << 63) - (1 << 12)) - q * 1077929209154306
+    let q = ((acc.l3 >> 48) + acc.l4 * 8) as u128;
+    let n0 = digit + (671914833335277 + (1 << 104)) - q * 671914833335277;
+    let n1 = acc.l0 as u128 + (1077929209154306 + (1 << 104) - (1 << 53)) - q * 1077929209154306
         + (n0 >> 51);
-    let n2 = t2 % (1 << 51) + (5471207 + (1 << 63) - (1 << 12)) - q * 5471207 + (n1 >> 51);
-    let n3 = t3 % (1 << 51) + ((1 << 51) - (1 << 12)) + (n2 >> 51);
-    let n4 = t4 % (1 << 48) + (281474976710656 - 1) + (n3 >> 51);
+    let n2 = acc.l1 as u128 + (5471207 + (1 << 104) - (1 << 53)) - q * 5471207 + (n1 >> 51);
+    let n3 = acc.l2 as u128 + (1 << 53) + (n2 >> 51);
+    let n4 = (acc.l3 % (1 << 48)) as u128 + (281474976710656 - 8) + (n3 >> 51);
     Scalar {
-        l0: n0 % (1 << 51),
-        l1: n1 % (1 << 51),
-        l2: n2 % (1 << 51),
-        l3: n3 % (1 << 51),
-        l4: n4,
+        l0: (n0 % (1 << 51)) as u64,
+        l1: (n1 % (1 << 51)) as u64,
+        l2: (n2 % (1 << 51)) as u64,
+        l3: (n3 % (1 << 51)) as u64,
+        l4: n4 as u64,
     }
 }
 
@@ -202,7 +189,7 @@ fn reduced(n: Scalar) -> Scalar
 }
 
 /// One of two limbs, without a branch.
-fn choice(bit: u64, a: u64, b: u64) -> u64
+pub(crate) fn choice(bit: u64, a: u64, b: u64) -> u64
     requires bit { bit < 2 }
     requires first { a < 2 ^ 51 }
     requires second { b < 2 ^ 51 }

@@ -1,5 +1,5 @@
 //! Numbers of 256 bits in four words.
-ghost use Rattle.std.specs.Prelude.{◌≡◌, ◌+◌, ◌*◌, ◌/◌, ◌%◌, ◌^◌, ◌<◌};
+ghost use Rattle.std.specs.Prelude.{◌≡◌, ◌+◌, ◌*◌, ◌^◌, ◌<◌};
 ghost use Rattle.up_field.specs.Limbs.{limbs, AreBelow};
 
 use crate::limbs::Field;
@@ -27,14 +27,4 @@ pub(crate) fn in_words(n: Field) -> Words
         c: n.l2 / (1 << 26) + n.l3 % (1 << 39) * (1 << 25),
         d: n.l3 / (1 << 39) + n.l4 * (1 << 12),
     }
-}
-
-/// The bits of four words at one place.
-#[inline(always)]
-pub(crate) fn digit(w: Words, j: u32) -> u64
-    requires { j < 64 }
-    ensures value { result ≡ w.a / 2 ^ j % 2 + 2 * (w.b / 2 ^ j % 2) + 4 * (w.c / 2 ^ j % 2) + 8 * (w.d / 2 ^ j % 2) }
-    ensures limit { result < 16 }
-{
-    (w.a >> j) % 2 + (w.b >> j) % 2 * 2 + (w.c >> j) % 2 * 4 + (w.d >> j) % 2 * 8
 }

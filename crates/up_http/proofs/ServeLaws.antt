@@ -10,7 +10,8 @@ use Rattle.up_http.specs.Feeding.{Waits}
 use Rattle.up_lines.specs.Runs.{At, BreaksOff, HasRead, LastRead, Run, listed, written}
 use Rattle.up_lines.specs.declared.fault.ScriptCause.TheVariants as why
 use Rattle.up_http.specs.Serving.{Gives, plain, is_call, calls, cause_of, IsBegun, AreFirst, WantsMore, Tells, Stopped, FinishedRequests, RanRequests, RunsRequests, AnswersFirst, most_bytes, piece_bytes}
-use Rattle.up_http.specs.Steps.{Sofar, Takes, Stops, Unanswered, Completes, told, fault_at}
+use Rattle.up_http.specs.Talks.{silent}
+use Rattle.up_http.specs.Steps.{IsQuiet, Sofar, Takes, Stops, Unanswered, Completes, told, fault_at}
 use Rattle.up_http.specs.declared.asked.Next.{Next}
 use Rattle.up_http.specs.declared.fault.Fault.{Fault}
 use Rattle.up_http.specs.declared.fault.ServeFault.{ServeFault}
@@ -44,8 +45,8 @@ module _ {S : Type 0} (gives : Gives S) where
   as_many old new (x ∷ xs) (t ∷ ts) p = ap suc (as_many p.0 new xs ts p.2)
 
   -- before any byte
-  pub fresh : (first : At S) (at : Progress) → at.feeder ≡ record { rest = []; given = 0; ended = false } → at.called ≡ 0 → at.answered ≡ 0 → Sofar gives first [] at first
-  fresh first at feeder called answered = record {
+  pub fresh : (first : At S) (at : Progress) → at.talk ≡ silent → at.called ≡ 0 → at.answered ≡ 0 → Sofar gives first [] at first
+  fresh first at talk called answered = let feeder = ap (λ t. t.fed) talk in record {
     done = [];
     texts = [];
     firsts = λ more. (ap (λ f. f.ended) feeder, ap (λ f. f.rest ++ more) feeder);
@@ -58,70 +59,73 @@ module _ {S : Type 0} (gives : Gives S) where
     answered_is = answered;
     called_is = called;
     wrote = Appends-nil first.held;
+    quiet = (ap (λ t. t.asking) talk, ap (λ t. t.unsent) talk);
   }
 
   -- a piece that gives nothing
-  pub takes_none : (old new : Progress) (piece : List ℕ) (now : At S) → old.feeder.ended ≡ false
-      → new.feeder ≡ record { rest = old.feeder.rest ++ piece; given = old.feeder.given; ended = false } → Waits new.feeder.rest → new.called ≡ old.called → new.answered ≡ old.answered
+  pub takes_none : (old new : Progress) (piece : List ℕ) (now : At S) → old.talk.fed.ended ≡ false
+      → new.talk.fed ≡ record { rest = old.talk.fed.rest ++ piece; given = old.talk.fed.given; ended = false } → Waits new.talk.fed.rest → new.talk.asking ≡ false → new.talk.unsent ≡ old.talk.unsent → new.called ≡ old.called → new.answered ≡ old.answered
       → Takes gives piece old now new now
-  takes_none old new piece now goes_on fed waits called answered = λ first came so.
-      let rest : new.feeder.rest ≡ old.feeder.rest ++ piece = ap (λ f. f.rest) fed in
-      let given : new.feeder.given ≡ old.feeder.given = ap (λ f. f.given) fed in
-      let ended : new.feeder.ended ≡ old.feeder.ended = ap (λ f. f.ended) fed ∙ sym goes_on in
+  takes_none old new piece now goes_on fed waits asks same called answered = λ first came so.
+      let rest : new.talk.fed.rest ≡ old.talk.fed.rest ++ piece = ap (λ f. f.rest) fed in
+      let given : new.talk.fed.given ≡ old.talk.fed.given = ap (λ f. f.given) fed in
+      let ended : new.talk.fed.ended ≡ old.talk.fed.ended = ap (λ f. f.ended) fed ∙ sym goes_on in
       record {
         done = so.done;
         texts = so.texts;
         firsts = λ more.
-            let behind : old.feeder.rest ++ (piece ++ more) ≡ new.feeder.rest ++ more = sym (append_assoc old.feeder.rest piece more) ∙ ap (λ l. l ++ more) (sym rest) in
-            subst (λ e. Firsts 0 ((came ++ piece) ++ more) so.done e (new.feeder.rest ++ more)) (sym ended)
-            (subst (λ l. Firsts 0 l so.done old.feeder.ended (new.feeder.rest ++ more)) (sym (append_assoc came piece more))
-            (subst (λ l. Firsts 0 (came ++ (piece ++ more)) so.done old.feeder.ended l) behind (so.firsts (piece ++ more))));
+            let behind : old.talk.fed.rest ++ (piece ++ more) ≡ new.talk.fed.rest ++ more = sym (append_assoc old.talk.fed.rest piece more) ∙ ap (λ l. l ++ more) (sym rest) in
+            subst (λ e. Firsts 0 ((came ++ piece) ++ more) so.done e (new.talk.fed.rest ++ more)) (sym ended)
+            (subst (λ l. Firsts 0 l so.done old.talk.fed.ended (new.talk.fed.rest ++ more)) (sym (append_assoc came piece more))
+            (subst (λ l. Firsts 0 (came ++ (piece ++ more)) so.done old.talk.fed.ended l) behind (so.firsts (piece ++ more))));
         given_is = given ∙ so.given_is;
         few = so.few;
         below = λ _. omega (arith, given, so.below goes_on);
         waits = λ _. waits;
-        bytes = omega (arith, so.bytes, ap length rest, length-append old.feeder.rest piece, length-append came piece, ap (λ g. g * most_request) given);
+        bytes = omega (arith, so.bytes, ap length rest, length-append old.talk.fed.rest piece, length-append came piece, ap (λ g. g * most_request) given);
         run = so.run;
         answered_is = answered ∙ so.answered_is;
         called_is = called ∙ so.called_is;
         wrote = so.wrote;
+        quiet = (asks, same ∙ so.quiet.1);
       }
 
   -- a request that is whole, and its answer
-  pub takes_next : (old new : Progress) (bytes : List ℕ) (next : Next) (text : List ℕ) (before after : At S) → old.feeder.ended ≡ false
-      → new.feeder ≡ record { rest = []; given = old.feeder.given + 1; ended = next.last } → old.feeder.given < most_requests
-      → length (old.feeder.rest ++ bytes) ≤ most_request → 0 < length (old.feeder.rest ++ bytes)
-      → ((more : List ℕ) → First old.feeder.given ((old.feeder.rest ++ bytes) ++ more) next more)
+  pub takes_next : (old new : Progress) (bytes : List ℕ) (next : Next) (text : List ℕ) (before after : At S) → old.talk.fed.ended ≡ false
+      → new.talk.fed ≡ record { rest = []; given = old.talk.fed.given + 1; ended = next.last } → old.talk.fed.given < most_requests
+      → length (old.talk.fed.rest ++ bytes) ≤ most_request → 0 < length (old.talk.fed.rest ++ bytes)
+      → ((more : List ℕ) → First old.talk.fed.given ((old.talk.fed.rest ++ bytes) ++ more) next more)
       → gives before.state next text after.state → Appends before.held after.held text
-      → new.called ≡ old.called + calls (next ∷ []) → new.answered ≡ old.answered + 1
+      → IsQuiet new.talk → new.called ≡ old.called + calls (next ∷ []) → new.answered ≡ old.answered + 1
       → Takes gives bytes old before new after
-  takes_next old new bytes next text before after goes_on fed below small some firsts gave wrote called answered = λ first came so.
-      let rest : new.feeder.rest ≡ [] = ap (λ f. f.rest) fed in
-      let given : new.feeder.given ≡ old.feeder.given + 1 = ap (λ f. f.given) fed in
-      let ended : new.feeder.ended ≡ next.last = ap (λ f. f.ended) fed in
+  takes_next old new bytes next text before after goes_on fed below small some firsts gave wrote quiet called answered = λ first came so.
+      let rest : new.talk.fed.rest ≡ [] = ap (λ f. f.rest) fed in
+      let given : new.talk.fed.given ≡ old.talk.fed.given + 1 = ap (λ f. f.given) fed in
+      let ended : new.talk.fed.ended ≡ next.last = ap (λ f. f.ended) fed in
       record {
         done = so.done ++ next ∷ [];
         texts = so.texts ++ text ∷ [];
         firsts = λ more.
-            let bytes' = old.feeder.rest ++ bytes in
-            let behind : old.feeder.rest ++ (bytes ++ more) ≡ bytes' ++ more = sym (append_assoc old.feeder.rest bytes more) in
+            let bytes' = old.talk.fed.rest ++ bytes in
+            let behind : old.talk.fed.rest ++ (bytes ++ more) ≡ bytes' ++ more = sym (append_assoc old.talk.fed.rest bytes more) in
             let here : Firsts 0 ((came ++ bytes) ++ more) so.done false (bytes' ++ more) =
             subst (λ e. Firsts 0 ((came ++ bytes) ++ more) so.done e (bytes' ++ more)) goes_on
-            (subst (λ l. Firsts 0 l so.done old.feeder.ended (bytes' ++ more)) (sym (append_assoc came bytes more))
-            (subst (λ l. Firsts 0 (came ++ (bytes ++ more)) so.done old.feeder.ended l) behind (so.firsts (bytes ++ more)))) in
+            (subst (λ l. Firsts 0 l so.done old.talk.fed.ended (bytes' ++ more)) (sym (append_assoc came bytes more))
+            (subst (λ l. Firsts 0 (came ++ (bytes ++ more)) so.done old.talk.fed.ended l) behind (so.firsts (bytes ++ more)))) in
             let pushed : Firsts 0 ((came ++ bytes) ++ more) (so.done ++ next ∷ []) next.last more =
             firsts_push 0 ((came ++ bytes) ++ more) so.done (bytes' ++ more) next more here (omega (arith, length-append bytes' more)) (subst (λ n. First n (bytes' ++ more) next more) (omega (arith, so.given_is)) (firsts more)) in
-            subst (λ e. Firsts 0 ((came ++ bytes) ++ more) (so.done ++ next ∷ []) e (new.feeder.rest ++ more)) (sym ended)
+            subst (λ e. Firsts 0 ((came ++ bytes) ++ more) (so.done ++ next ∷ []) e (new.talk.fed.rest ++ more)) (sym ended)
             (subst (λ l. Firsts 0 ((came ++ bytes) ++ more) (so.done ++ next ∷ []) next.last (l ++ more)) (sym rest) pushed);
         given_is = omega (arith, given, so.given_is, length-append so.done (next ∷ []));
         few = omega (arith, below, so.given_is, length-append so.done (next ∷ []));
-        below = λ on. omega (arith, given, first_below old.feeder.given ((old.feeder.rest ++ bytes) ++ []) next [] (firsts []) (sym ended ∙ on));
+        below = λ on. omega (arith, given, first_below old.talk.fed.given ((old.talk.fed.rest ++ bytes) ++ []) next [] (firsts []) (sym ended ∙ on));
         waits = λ _. subst Waits (sym rest) waits_none;
-        bytes = omega (arith, so.bytes, ap length rest, small, length-append old.feeder.rest bytes, length-append came bytes, given);
+        bytes = omega (arith, so.bytes, ap length rest, small, length-append old.talk.fed.rest bytes, length-append came bytes, given);
         run = run-push first.state before.state after.state so.done so.texts next text so.run gave;
         answered_is = omega (arith, answered, so.answered_is, length-append so.texts (text ∷ []));
         called_is = omega (arith, called, so.called_is, calls-push so.done next);
         wrote = subst (Appends first.held after.held) (sym (written-push so.texts text)) (Appends-trans _ _ _ _ _ so.wrote wrote);
+        quiet = quiet;
       }
 
   -- a run stops behind the requests that were answered, at one that was handed on, or at none
@@ -154,25 +158,25 @@ module _ {S : Type 0} (gives : Gives S) where
   broke_off Read next before after broke = absurd broke
 
   -- a request that isn't answered whole
-  pub stops_next : (cause : Fault) (old new : Progress) (bytes others : List ℕ) (next : Next) (before after : At S) → old.feeder.ended ≡ false
-      → 0 < length (old.feeder.rest ++ bytes)
-      → ((more : List ℕ) → First old.feeder.given ((old.feeder.rest ++ bytes) ++ more) next more)
+  pub stops_next : (cause : Fault) (old new : Progress) (bytes others : List ℕ) (next : Next) (before after : At S) → old.talk.fed.ended ≡ false
+      → 0 < length (old.talk.fed.rest ++ bytes)
+      → ((more : List ℕ) → First old.talk.fed.given ((old.talk.fed.rest ++ bytes) ++ more) next more)
       → Unanswered gives cause next before after
       → new.called ≡ old.called + calls (next ∷ []) → new.answered ≡ old.answered
       → (first : At S) (came : List ℕ) → Sofar gives first came old before
       → Stopped gives (came ++ (bytes ++ others)) false (fault_at cause new) first after
   stops_next cause old new bytes others next before after goes_on some firsts broke called answered = λ first came so.
-      let bytes' = old.feeder.rest ++ bytes in
-      let behind : old.feeder.rest ++ (bytes ++ others) ≡ bytes' ++ others = sym (append_assoc old.feeder.rest bytes others) in
+      let bytes' = old.talk.fed.rest ++ bytes in
+      let behind : old.talk.fed.rest ++ (bytes ++ others) ≡ bytes' ++ others = sym (append_assoc old.talk.fed.rest bytes others) in
       let begun : IsBegun (length so.done) (bytes' ++ others) false next = record {
         some = omega (arith, some, length-append bytes' others);
         after = others;
         first = λ more _. subst (λ n. First n ((bytes' ++ others) ++ more) next (others ++ more)) so.given_is
-            (subst (λ l. First old.feeder.given l next (others ++ more)) (sym (append_assoc bytes' others more)) (firsts (others ++ more)));
+            (subst (λ l. First old.talk.fed.given l next (others ++ more)) (sym (append_assoc bytes' others more)) (firsts (others ++ more)));
       } in
       let before_it : Firsts 0 (came ++ (bytes ++ others)) so.done false (bytes' ++ others) =
       subst (λ e. Firsts 0 (came ++ (bytes ++ others)) so.done e (bytes' ++ others)) goes_on
-      (subst (λ l. Firsts 0 (came ++ (bytes ++ others)) so.done old.feeder.ended l) behind (so.firsts (bytes ++ others))) in
+      (subst (λ l. Firsts 0 (came ++ (bytes ++ others)) so.done old.talk.fed.ended l) behind (so.firsts (bytes ++ others))) in
       stopped came old (came ++ (bytes ++ others)) false (Some next) (fault_at cause new) first before after so (bytes' ++ others, before_it, begun)
       (tells_unanswered cause next before after (came ++ (bytes ++ others)) false so.done (bytes' ++ others) before_it begun.some broke) called answered (broke_off cause next before after broke)
 
@@ -181,37 +185,37 @@ module _ {S : Type 0} (gives : Gives S) where
   breaks_none fault now other = ([], (other, refl, refl), Appends-nil now.held)
 
   -- memory was refused before a request was whole
-  pub stops_memory : (old new : Progress) (piece : List ℕ) (now : At S) → old.feeder.ended ≡ false → 0 < length piece
+  pub stops_memory : (old new : Progress) (piece : List ℕ) (now : At S) → old.talk.fed.ended ≡ false → 0 < length piece
       → new.called ≡ old.called → new.answered ≡ old.answered → Stops gives Memory false piece old now new now
   stops_memory old new piece now goes_on some called answered = λ first came so.
-      let firsts : Firsts 0 (came ++ piece) so.done false (old.feeder.rest ++ piece) =
-      subst (λ e. Firsts 0 (came ++ piece) so.done e (old.feeder.rest ++ piece)) goes_on (so.firsts piece) in
-      stopped came old (came ++ piece) false None (fault_at Memory new) first now now so (old.feeder.rest ++ piece, firsts)
-      (some_left (came ++ piece) so.done (old.feeder.rest ++ piece) firsts (omega (arith, some, length-append old.feeder.rest piece)), refl) (omega (arith, called)) answered (breaks_none Memory now (λ e. absurd (cc)))
+      let firsts : Firsts 0 (came ++ piece) so.done false (old.talk.fed.rest ++ piece) =
+      subst (λ e. Firsts 0 (came ++ piece) so.done e (old.talk.fed.rest ++ piece)) goes_on (so.firsts piece) in
+      stopped came old (came ++ piece) false None (fault_at Memory new) first now now so (old.talk.fed.rest ++ piece, firsts)
+      (some_left (came ++ piece) so.done (old.talk.fed.rest ++ piece) firsts (omega (arith, some, length-append old.talk.fed.rest piece)), refl) (omega (arith, called)) answered (breaks_none Memory now (λ e. absurd (cc)))
 
   -- the requests before the input's end
-  at_end : (first : At S) (came : List ℕ) (at : Progress) (now : At S) (so : Sofar gives first came at now) → at.feeder.ended ≡ false
-      → Firsts 0 came so.done false at.feeder.rest
+  at_end : (first : At S) (came : List ℕ) (at : Progress) (now : At S) (so : Sofar gives first came at now) → at.talk.fed.ended ≡ false
+      → Firsts 0 came so.done false at.talk.fed.rest
   at_end first came at now so goes_on =
-      subst (λ e. Firsts 0 came so.done e at.feeder.rest) goes_on
-      (subst (λ l. Firsts 0 came so.done at.feeder.ended l) (append-nil at.feeder.rest)
-      (subst (λ l. Firsts 0 l so.done at.feeder.ended (at.feeder.rest ++ [])) (append-nil came) (so.firsts [])))
+      subst (λ e. Firsts 0 came so.done e at.talk.fed.rest) goes_on
+      (subst (λ l. Firsts 0 came so.done at.talk.fed.ended l) (append-nil at.talk.fed.rest)
+      (subst (λ l. Firsts 0 l so.done at.talk.fed.ended (at.talk.fed.rest ++ [])) (append-nil came) (so.firsts [])))
 
   -- the input's end, with nothing left
-  pub completes_none : (old : Progress) (answered' : ℕ) (now : At S) → old.feeder.ended ≡ false → old.feeder.rest ≡ [] → answered' ≡ old.answered
+  pub completes_none : (old : Progress) (answered' : ℕ) (now : At S) → old.talk.fed.ended ≡ false → old.talk.fed.rest ≡ [] → answered' ≡ old.answered
       → (first : At S) (came : List ℕ) → Sofar gives first came old now → FinishedRequests gives came answered' first now
   completes_none old answered' now goes_on none answered first came so = record {
     items = so.done;
     answers = so.texts;
-    all = record { ended = false; rest = old.feeder.rest; firsts = at_end first came old now so goes_on; all = λ _. none };
+    all = record { ended = false; rest = old.talk.fed.rest; firsts = at_end first came old now so goes_on; all = λ _. none };
     run = so.run;
     answered_is = answered ∙ so.answered_is;
     wrote = so.wrote;
   }
 
   -- the input's end, with a request that is cut short
-  pub completes_next : (old : Progress) (answered' : ℕ) (next : Next) (text : List ℕ) (before after : At S) → old.feeder.ended ≡ false
-      → 0 < length old.feeder.rest → First old.feeder.given old.feeder.rest next [] → next.last ≡ true
+  pub completes_next : (old : Progress) (answered' : ℕ) (next : Next) (text : List ℕ) (before after : At S) → old.talk.fed.ended ≡ false
+      → 0 < length old.talk.fed.rest → First old.talk.fed.given old.talk.fed.rest next [] → next.last ≡ true
       → gives before.state next text after.state → Appends before.held after.held text → answered' ≡ old.answered + 1
       → (first : At S) (came : List ℕ) → Sofar gives first came old before → FinishedRequests gives came answered' first after
   completes_next old answered' next text before after goes_on some asks last gave wrote answered first came so = record {
@@ -220,7 +224,7 @@ module _ {S : Type 0} (gives : Gives S) where
     all = record {
       ended = next.last;
       rest = [];
-      firsts = firsts_push 0 came so.done old.feeder.rest next [] (at_end first came old before so goes_on) some (subst (λ n. First n old.feeder.rest next []) (omega (arith, so.given_is)) asks);
+      firsts = firsts_push 0 came so.done old.talk.fed.rest next [] (at_end first came old before so goes_on) some (subst (λ n. First n old.talk.fed.rest next []) (omega (arith, so.given_is)) asks);
       all = λ _. refl;
     };
     run = run-push first.state before.state after.state so.done so.texts next text so.run gave;
@@ -229,44 +233,44 @@ module _ {S : Type 0} (gives : Gives S) where
   }
 
   -- the input's end, with a request that is cut short and isn't answered whole
-  pub stops_end : (cause : Fault) (old new : Progress) (next : Next) (before after : At S) → old.feeder.ended ≡ false
-      → 0 < length old.feeder.rest → First old.feeder.given old.feeder.rest next []
+  pub stops_end : (cause : Fault) (old new : Progress) (next : Next) (before after : At S) → old.talk.fed.ended ≡ false
+      → 0 < length old.talk.fed.rest → First old.talk.fed.given old.talk.fed.rest next []
       → Unanswered gives cause next before after
       → new.called ≡ old.called + calls (next ∷ []) → new.answered ≡ old.answered
       → Stops gives cause true [] old before new after
   stops_end cause old new next before after goes_on some asks broke called answered = λ first came so.
-      let begun : IsBegun (length so.done) old.feeder.rest true next = record {
+      let begun : IsBegun (length so.done) old.talk.fed.rest true next = record {
         some = some;
         after = [];
-        first = λ more end. subst (λ l. First (length so.done) (old.feeder.rest ++ l) next l) (sym (end refl))
-            (subst (λ l. First (length so.done) l next []) (sym (append-nil old.feeder.rest)) (subst (λ n. First n old.feeder.rest next []) so.given_is asks));
+        first = λ more end. subst (λ l. First (length so.done) (old.talk.fed.rest ++ l) next l) (sym (end refl))
+            (subst (λ l. First (length so.done) l next []) (sym (append-nil old.talk.fed.rest)) (subst (λ n. First n old.talk.fed.rest next []) so.given_is asks));
       } in
-      let before_it : Firsts 0 (came ++ []) so.done false old.feeder.rest =
-      subst (λ l. Firsts 0 l so.done false old.feeder.rest) (sym (append-nil came)) (at_end first came old before so goes_on) in
-      stopped came old (came ++ []) true (Some next) (fault_at cause new) first before after so (old.feeder.rest, before_it, begun)
-      (tells_unanswered cause next before after (came ++ []) true so.done old.feeder.rest before_it some broke) called answered (broke_off cause next before after broke)
+      let before_it : Firsts 0 (came ++ []) so.done false old.talk.fed.rest =
+      subst (λ l. Firsts 0 l so.done false old.talk.fed.rest) (sym (append-nil came)) (at_end first came old before so goes_on) in
+      stopped came old (came ++ []) true (Some next) (fault_at cause new) first before after so (old.talk.fed.rest, before_it, begun)
+      (tells_unanswered cause next before after (came ++ []) true so.done old.talk.fed.rest before_it some broke) called answered (broke_off cause next before after broke)
 
   -- ---- a run over a reader
 
   -- the reader failed
-  ran_read : (at : Progress) (now : At S) → at.feeder.ended ≡ false
+  ran_read : (at : Progress) (now : At S) → at.talk.fed.ended ≡ false
       → (first : At S) (came : List ℕ) → Sofar gives first came at now → Stopped gives came false (fault_at Read at) first now
   ran_read at now goes_on first came so =
       let firsts = at_end first came at now so goes_on in
-      stopped came at came false None (fault_at Read at) first now now so (at.feeder.rest, firsts) (refl, (at.feeder.rest, firsts, so.waits goes_on))
+      stopped came at came false None (fault_at Read at) first now now so (at.talk.fed.rest, firsts) (refl, (at.talk.fed.rest, firsts, so.waits goes_on))
       (omega arith) refl (breaks_none Read now (λ e. absurd (cc)))
 
   -- the stream ended with a request, and so many bytes more had come
-  finished_over : (at : Progress) (now : At S) (others : List ℕ) → at.feeder.ended ≡ true
+  finished_over : (at : Progress) (now : At S) (others : List ℕ) → at.talk.fed.ended ≡ true
       → (first : At S) (came : List ℕ) → Sofar gives first came at now → (more : List ℕ) → FinishedRequests gives ((came ++ others) ++ more) at.answered first now
   finished_over at now others ended first came so more = record {
     items = so.done;
     answers = so.texts;
     all = record {
       ended = true;
-      rest = at.feeder.rest ++ (others ++ more);
-      firsts = subst (λ l. Firsts 0 l so.done true (at.feeder.rest ++ (others ++ more))) (sym (append_assoc came others more))
-          (subst (λ e. Firsts 0 (came ++ (others ++ more)) so.done e (at.feeder.rest ++ (others ++ more))) ended (so.firsts (others ++ more)));
+      rest = at.talk.fed.rest ++ (others ++ more);
+      firsts = subst (λ l. Firsts 0 l so.done true (at.talk.fed.rest ++ (others ++ more))) (sym (append_assoc came others more))
+          (subst (λ e. Firsts 0 (came ++ (others ++ more)) so.done e (at.talk.fed.rest ++ (others ++ more))) ended (so.firsts (others ++ more)));
       all = λ h. absurd (cc);
     };
     run = so.run;
@@ -275,7 +279,7 @@ module _ {S : Type 0} (gives : Gives S) where
   }
 
   -- a read while the stream goes on and each whole request has its answer
-  pub last_read : (first : At S) (came piece all : List ℕ) (ended : Bool) (at : Progress) (now : At S) (answered : ℕ) → Sofar gives first came at now → at.feeder.ended ≡ false → at.answered ≤ answered
+  pub last_read : (first : At S) (came piece all : List ℕ) (ended : Bool) (at : Progress) (now : At S) (answered : ℕ) → Sofar gives first came at now → at.talk.fed.ended ≡ false → at.answered ≤ answered
       → all ≡ came ++ piece → length piece ≤ piece_bytes → (ended ≡ true → piece ≡ []) → LastRead piece_bytes (WantsMore answered) all ended
   last_read first came piece all ended at now answered so goes_on few is small none = record {
     before = came;
@@ -285,14 +289,14 @@ module _ {S : Type 0} (gives : Gives S) where
     none_at_end = none;
     wanted = (
       so.done,
-      (at.feeder.rest, at_end first came at now so goes_on, so.waits goes_on),
+      (at.talk.fed.rest, at_end first came at now so goes_on, so.waits goes_on),
       omega (arith, few, so.answered_is, as_many first.state now.state so.done so.texts so.run),
     );
   }
 
   -- while the stream goes on there is room for more bytes
-  pub room_left : (first : At S) (came : List ℕ) (at : Progress) (now : At S) → Sofar gives first came at now → at.feeder.ended ≡ false → length came < most_bytes
-  room_left first came at now so goes_on = omega (arith, so.bytes, so.below goes_on, waits_short at.feeder.rest (so.waits goes_on))
+  pub room_left : (first : At S) (came : List ℕ) (at : Progress) (now : At S) → Sofar gives first came at now → at.talk.fed.ended ≡ false → length came < most_bytes
+  room_left first came at now so goes_on = omega (arith, so.bytes, so.below goes_on, waits_short at.talk.fed.rest (so.waits goes_on))
 
   -- a run that stopped among the bytes
   pub ran_stop : (cause : Fault) (first now : At S) (had has : Option (List ℕ)) (came : List ℕ) (at : Progress) → Consumes had has came → length came ≤ most_bytes
@@ -302,7 +306,7 @@ module _ {S : Type 0} (gives : Gives S) where
 
   -- a run that a request ended
   pub ran_over : (first now : At S) (had has : Option (List ℕ)) (came others : List ℕ) (at : Progress) → Consumes had has (came ++ others) → length (came ++ others) ≤ most_bytes
-      → at.feeder.ended ≡ true → Sofar gives first came at now → LastRead piece_bytes (WantsMore at.answered) (came ++ others) false → RanRequests gives had has first now (Ok (record { requests = at.answered }))
+      → at.talk.fed.ended ≡ true → Sofar gives first came at now → LastRead piece_bytes (WantsMore at.answered) (came ++ others) false → RanRequests gives had has first now (Ok (record { requests = at.answered }))
   ran_over first now had has came others at read bounded ended so last = record {
     came = came ++ others;
     ended = false;
@@ -320,7 +324,7 @@ module _ {S : Type 0} (gives : Gives S) where
   pub ran_end : (r : Result (Unit {0}) Fault) (first now : At S) (had has : Option (List ℕ)) (came : List ℕ) (old : Progress) (before : At S) (new : Progress)
       → Consumes had has came → length came ≤ most_bytes → IsAtEnd has → Sofar gives first came old before
       → OnOk r (Completes gives old before new now) → IfErr r (λ cause. Stops gives cause true [] old before new now)
-      → old.feeder.ended ≡ false → old.answered ≤ new.answered → RanRequests gives had has first now (told r new)
+      → old.talk.fed.ended ≡ false → old.answered ≤ new.answered → RanRequests gives had has first now (told r new)
   ran_end (Ok _) first now had has came old before new read bounded end so ok err goes_on grows =
       read_to_end _ had has came read bounded end (
         λ more none. subst (λ l. FinishedRequests gives l new.answered first now) (sym (ap (λ l. came ++ l) (none refl) ∙ append-nil came)) (ok first came so),
@@ -333,7 +337,7 @@ module _ {S : Type 0} (gives : Gives S) where
       )
 
   -- the reader failed
-  pub ran_failed : (first now : At S) (had has : Option (List ℕ)) (came : List ℕ) (at : Progress) → Consumes had has came → length came ≤ most_bytes → at.feeder.ended ≡ false
+  pub ran_failed : (first now : At S) (had has : Option (List ℕ)) (came : List ℕ) (at : Progress) → Consumes had has came → length came ≤ most_bytes → at.talk.fed.ended ≡ false
       → Sofar gives first came at now → RanRequests gives had has first now (told (Err Read) at)
   ran_failed first now had has came at read bounded goes_on so =
       ran_stop Read first now had has came at read bounded (ran_read at now goes_on first came so)

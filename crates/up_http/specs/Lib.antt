@@ -1,5 +1,6 @@
 pub mod Requests
 pub mod Feeding
 pub mod Parts
+pub mod Talks
 pub mod Serving
 pub mod Steps

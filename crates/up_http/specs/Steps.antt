@@ -4,6 +4,7 @@ use Rattle.std.specs.Io.KnownBytes.{Appends}
 use Rattle.up_lines.specs.Runs.{At, Run, BlamesWriter, BreaksOff, written}
 use Rattle.up_http.specs.Requests.{Firsts, most_requests, most_request}
 use Rattle.up_http.specs.Feeding.{Waits}
+use Rattle.up_http.specs.Talks.{Talk, silent}
 use Rattle.up_http.specs.Serving.{Gives, plain, calls, cause_of, Stopped, FinishedRequests}
 use Rattle.up_http.specs.declared.asked.Next.{Next}
 use Rattle.up_http.specs.declared.progress.Progress.{Progress}
@@ -13,20 +14,25 @@ use Rattle.up_lines.specs.declared.fault.ScriptCause.TheVariants as why
 use Rattle.up_http.specs.declared.fault.ServeFault.{ServeFault}
 use Rattle.up_http.specs.declared.served.Served.{Served}
 
+-- no request waits for its answer, and each answer is written
+abbrev pub IsQuiet : Talk → Type 0
+IsQuiet talk = (talk.asking ≡ false) × (talk.unsent ≡ [])
+
 -- of the bytes that were taken the whole requests were answered
 pub record Sofar {S : Type 0} (gives : Gives S) (first : At S) (came : List ℕ) (at : Progress) (now : At S) : Type 0 where
   pub done : List Next
   pub texts : List (List ℕ)
-  pub firsts : (more : List ℕ) → Firsts 0 (came ++ more) done at.feeder.ended (at.feeder.rest ++ more)
-  pub given_is : at.feeder.given ≡ length done
+  pub firsts : (more : List ℕ) → Firsts 0 (came ++ more) done at.talk.fed.ended (at.talk.fed.rest ++ more)
+  pub given_is : at.talk.fed.given ≡ length done
   pub few : length done ≤ most_requests
-  pub below : at.feeder.ended ≡ false → at.feeder.given < most_requests
-  pub waits : at.feeder.ended ≡ false → Waits at.feeder.rest
-  pub bytes : length came ≤ at.feeder.given * most_request + length at.feeder.rest
+  pub below : at.talk.fed.ended ≡ false → at.talk.fed.given < most_requests
+  pub waits : at.talk.fed.ended ≡ false → Waits at.talk.fed.rest
+  pub bytes : length came ≤ at.talk.fed.given * most_request + length at.talk.fed.rest
   pub run : Run gives first.state done texts now.state
   pub answered_is : at.answered ≡ length texts
   pub called_is : at.called ≡ calls done
   pub wrote : Appends first.held now.held (written plain texts)
+  pub quiet : IsQuiet at.talk
 
 -- the result of a run, told with what was called and answered
 abbrev pub fault_at : Fault → Progress → ServeFault
@@ -53,7 +59,7 @@ Unanswered gives Read next old new = ⊥
 
 -- a step takes bytes, all of the piece or those up to the end of a request
 abbrev pub Moves : ℕ → List ℕ → Progress → Progress → Type 0
-Moves n piece old new = (n ≤ length piece) × (((n ≡ length piece) × (new.feeder.given ≡ old.feeder.given)) ⊎ ((new.feeder.given ≡ old.feeder.given + 1) × (old.feeder.given < most_requests)))
+Moves n piece old new = (n ≤ length piece) × (((n ≡ length piece) × (new.talk.fed.given ≡ old.talk.fed.given)) ⊎ ((new.talk.fed.given ≡ old.talk.fed.given + 1) × (old.talk.fed.given < most_requests)))
 
 -- what is left at the input's end is answered
 abbrev pub Completes : {S : Type 0} → Gives S → Progress → At S → Progress → At S → Type 0
@@ -62,7 +68,7 @@ Completes {S} gives old before new after = (first : At S) (came : List ℕ) → 
 
 -- nothing is counted yet
 pub record IsFresh (at : Progress) : Type 0 where
-  pub feeder : at.feeder ≡ record { rest = []; given = 0; ended = false }
+  pub talk : at.talk ≡ silent
   pub over : at.over ≡ false
   pub none_called : at.called ≡ 0
   pub none_answered : at.answered ≡ 0
@@ -82,7 +88,8 @@ pub record TakesStep {S A : Type 0} (Done : A → Progress → At S → Progress
 -- A request is answered and counted, or not whole. Of the writer it is given what says that it failed, and that it may be written.
 pub record AnswersNext {S : Type 0} (gives : Gives S) (next : Next) (old : Progress) (before : At S) (new : Progress) (after : At S) (failed can_write : Type 0) (result : Result (Unit {0}) Fault) : Type 0 where
   -- it counts as handed on if it is a command, and as answered if its answer is written whole
-  pub feeder : new.feeder ≡ old.feeder
+  pub fed : new.talk.fed ≡ old.talk.fed
+  pub quiet : OnOk result (IsQuiet new.talk)
   pub called : new.called ≡ old.called + calls (next ∷ [])
   pub answered : new.answered ≡ (if is_ok result then old.answered + 1 else old.answered)
   pub ok : OnOk result ((text : List ℕ) × gives before.state next text after.state × Appends before.held after.held text)

@@ -97,6 +97,13 @@ impl Feeder {
         feed_parts(&mut self.parts, piece)
     }
 
+    /// Whether the stream has ended.
+    pub fn has_ended(&self) -> bool
+        ensures { result ≡ self.now.ended }
+    {
+        self.parts.ended
+    }
+
     /// Ends the stream: a rest that isn't empty is one bad request more.
     pub fn end(&mut self) -> Option<Next>
         ensures { Ends self.old result self.new }

@@ -2,6 +2,7 @@
 #![tactic(auto)]
 
 pub mod asked;
+pub mod conversation;
 pub mod fault;
 pub mod feeder;
 mod head_bytes;

@@ -4,11 +4,13 @@ ghost use Rattle.std.specs.Io.KnownBytes.{Appends};
 ghost use Rattle.up_http.specs.Requests.{asks_running, most_requests};
 ghost use Rattle.up_lines.specs.Runs.{BlamesWriter, EndsRun};
 ghost use Rattle.up_http.specs.Serving.{RanRequests, RunsRequests, calls, cause_of};
-ghost use Rattle.up_http.specs.Steps.{AnswersNext, Completes, IsFresh, Moves, Stops, Takes, TakesStep, Unanswered, told};
+ghost use Rattle.up_http.specs.Steps.{AnswersNext, Completes, IsFresh, IsQuiet, Moves, Stops, Takes, TakesStep, Unanswered, told};
+ghost use Rattle.up_http.specs.Talks.{wants_of};
+ghost use Rattle.up_http.specs.declared.conversation.Wants.TheVariants.{Answer};
 
 use crate::asked::{Next, Step, What};
+use crate::conversation::Conversation;
 use crate::fault::{Fault, ServeFault};
-use crate::feeder::Feeder;
 use crate::progress::Progress;
 use crate::respond::Respond;
 use crate::served::Served;
@@ -23,16 +25,20 @@ const MOST_BYTES: u64 = 27_852_800;
 /// How many bytes are read at once.
 const PIECE_BYTES: usize = 8_192;
 
-/// Answers a request.
+/// Answers the request that a conversation gave, and writes the answer.
 fn answer_next<S, A: Respond<S>, W: Sink>(
     alloc: Global,
     responder: &A,
     state: &mut S,
     writer: &mut W,
+    talk: &mut Conversation,
     next: &Next,
 ) -> Result<(), Fault>
     requires asks { IsTrue (asks_running next.now.what) }
     requires can_write { W.can_write writer.old }
+    requires waits { wants_of talk.old ≡ Answer }
+    ensures fed { talk.new.fed ≡ talk.old.fed }
+    ensures quiet { OnOk result (IsQuiet talk.new) }
     ensures ok { OnOk result ((text : List ℕ) × A.gives responder.now state.old next.now text state.new
         × Appends (W.contents writer.old) (W.contents writer.new) text) }
     ensures err { IfErr result
@@ -44,8 +50,13 @@ fn answer_next<S, A: Respond<S>, W: Sink>(
         (λ cause. BlamesWriter (cause_of cause) (W.has_failed writer.new) (W.can_write writer.new)) }
 {
     let text = responder.respond(alloc, state, next)?;
-    match write_whole(writer, text.as_slice()) {
-        Ok(()) => Ok(()),
+    talk.answer(text);
+    match write_whole(writer, talk.unsent()) {
+        Ok(()) => {
+            let bytes = talk.unsent().len();
+            talk.wrote(bytes);
+            Ok(())
+        }
         Err(_) => Err(Fault::Write),
     }
 }
@@ -62,7 +73,7 @@ fn count_call(called: u32, next: &Next) -> u32
     }
 }
 
-/// Answers a request that the feeder gave, and counts it.
+/// Answers a request that the conversation gave, and counts it.
 fn answer_counted<S, A: Respond<S>, W: Sink>(
     alloc: Global,
     responder: &A,
@@ -72,8 +83,9 @@ fn answer_counted<S, A: Respond<S>, W: Sink>(
     next: Next,
 ) -> Result<(), Fault>
     requires asks { IsTrue (asks_running next.what) }
-    requires calls_left { progress.old.called < progress.old.feeder.given }
-    requires answers_left { progress.old.answered < progress.old.feeder.given }
+    requires calls_left { progress.old.called < progress.old.talk.fed.given }
+    requires answers_left { progress.old.answered < progress.old.talk.fed.given }
+    requires waits { wants_of progress.old.talk ≡ Answer }
     requires can_write { W.can_write writer.old }
     ensures { AnswersNext (A.gives responder.now) next
         progress.old (record { state = state.old; held = W.contents writer.old })
@@ -81,7 +93,7 @@ fn answer_counted<S, A: Respond<S>, W: Sink>(
         (W.has_failed writer.new) (W.can_write writer.new) result }
 {
     progress.called = count_call(progress.called, &next);
-    let told = answer_next(alloc, responder, state, writer, &next);
+    let told = answer_next(alloc, responder, state, writer, &mut progress.talk, &next);
     // Dropped in one place: a proof goes through the request's drop at each way out.
     drop(next);
     told?;
@@ -99,6 +111,7 @@ fn serve_piece<S, A: Respond<S>, W: Sink>(
     piece: &[u8],
 ) -> Result<usize, Fault>
     requires goes_on { progress.old.over ≡ false }
+    requires quiet { IsQuiet progress.old.talk }
     requires some { 0 < length piece.now }
     requires can_write { W.can_write writer.old }
     ensures { TakesStep
@@ -109,7 +122,7 @@ fn serve_piece<S, A: Respond<S>, W: Sink>(
         progress.new (record { state = state.new; held = W.contents writer.new })
         (W.has_failed writer.new) (W.can_write writer.new) result }
 {
-    let Step { taken, next } = match progress.feeder.feed(piece) {
+    let Step { taken, next } = match progress.talk.hear(piece) {
         Ok(step) => step,
         Err(_) => return Err(Fault::Memory),
     };
@@ -134,13 +147,14 @@ fn finish<S, A: Respond<S>, W: Sink>(
     progress: &mut Progress,
 ) -> Result<(), Fault>
     requires goes_on { progress.old.over ≡ false }
+    requires quiet { IsQuiet progress.old.talk }
     requires can_write { W.can_write writer.old }
     ensures { TakesStep (λ _. Completes (A.gives responder.now)) (λ cause. Stops (A.gives responder.now) cause true [])
         progress.old (record { state = state.old; held = W.contents writer.old })
         progress.new (record { state = state.new; held = W.contents writer.new })
         (W.has_failed writer.new) (W.can_write writer.new) result }
 {
-    match progress.feeder.end() {
+    match progress.talk.end() {
         None => {
             progress.over = true;
             Ok(())
@@ -231,7 +245,7 @@ pub fn serve<S, A: Respond<S>, R: Source, W: Sink>(
         (W.has_failed writer.new) (W.can_write writer.new) result }
 {
     let mut progress = Progress {
-        feeder: Feeder::new(alloc),
+        talk: Conversation::new(alloc),
         over: false,
         called: 0,
         answered: 0,

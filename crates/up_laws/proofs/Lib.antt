@@ -1,7 +1,7 @@
-mod Plans
-mod OwnPlans
-mod StayingTyped
-mod Digests
-mod SmallFiles
-mod ReadAgain
-mod Delivered
+pub mod Plans
+pub mod OwnPlans
+pub mod StayingTyped
+pub mod Digests
+pub mod SmallFiles
+pub mod ReadAgain
+pub mod Delivered

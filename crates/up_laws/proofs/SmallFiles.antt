@@ -51,7 +51,7 @@ joined-length f p n small (x ∷ y ∷ xs) h =
     let more : (n + 1) * suc (suc (length xs)) ≡ (n + 1) * suc (length xs) + (n + 1) = mul-suc (n + 1) (suc (length xs)) in
     omega (arith, sum, here, rest, more)
 
-list-length : {X : Type 0} (f : X → Data) (p : X → Bool) (n : ℕ) → ((x : X) → p x ≡ true → length (text (f x)) ≤ n) → (xs : List X) → list_all p xs ≡ true
+pub list-length : {X : Type 0} (f : X → Data) (p : X → Bool) (n : ℕ) → ((x : X) → p x ≡ true → length (text (f x)) ≤ n) → (xs : List X) → list_all p xs ≡ true
     → length (text (list_with (map f xs))) ≤ (n + 1) * length xs + 2
 list-length f p n small xs h =
     let joined = joined-length f p n small xs h in
@@ -88,17 +88,17 @@ hash_size xs h = grind (arith, nat_tests)
 small_count : (n : ℕ) → nat_le n max_count ≡ true → n ≤ max_count
 small_count n h = leb-true _ _ h
 
-moment_count : (n : ℕ) → nat_le n last_moment ≡ true → n ≤ last_moment
+pub moment_count : (n : ℕ) → nat_le n last_moment ≡ true → n ≤ last_moment
 moment_count n h = leb-true _ _ h
 
-abbrev IsSmall : Repository → Target → Bool
+abbrev pub IsSmall : Repository → Target → Bool
 IsSmall repository t = target_fits repository t && target_is_typed t
 
 sum-ten : (a b c d e f g h i j : List ℕ) → length (a ++ (b ++ (c ++ (d ++ (e ++ (f ++ (g ++ (h ++ (i ++ j)))))))))
     ≡ length a + (length b + (length c + (length d + (length e + (length f + (length g + (length h + (length i + length j))))))))
 sum-ten a b c d e f g h i j = simp length-append
 
-target-length : (repository : Repository) (t : Target) → IsSmall repository t ≡ true → length (text (target_value t)) ≤ 2950
+pub target-length : (repository : Repository) (t : Target) → IsSmall repository t ≡ true → length (text (target_value t)) ≤ 2950
 target-length repository t h =
     let both = and_parts (target_fits repository t) _ h in
     let fits = (and_parts (name_fits repository t.ecu) _ both.0).1 in
@@ -126,14 +126,14 @@ target-length repository t h =
 
 -- ---- the payload
 
-all-small : (repository : Repository) (ts : List Target) → list_all (target_fits repository) ts ≡ true → list_all target_is_typed ts ≡ true → list_all (IsSmall repository) ts ≡ true
+pub all-small : (repository : Repository) (ts : List Target) → list_all (target_fits repository) ts ≡ true → list_all target_is_typed ts ≡ true → list_all (IsSmall repository) ts ≡ true
 all-small repository [] fits typed = refl
 all-small repository (t ∷ ts) fits typed =
     let f = and_parts (target_fits repository t) _ fits in
     let y = and_parts (target_is_typed t) _ typed in
     rw (f.0, y.0, all-small repository ts f.1 y.1)
 
-repository-length : (r : Repository) → length (quoted (repository_text r)) ≤ 10
+pub repository-length : (r : Repository) → length (quoted (repository_text r)) ≤ 10
 repository-length Director = lit≤ tt
 repository-length Image = lit≤ tt
 
@@ -144,7 +144,7 @@ vehicle-length (Some name) h =
     let sum = length-append (codes ",\"vehicle\":") (quoted name) in
     omega (arith, q, sum)
 
-end-length : (vehicle : Option Name) (version : ℕ) → is_named vehicle ≡ true → version ≤ max_count → length (end_text vehicle version) ≤ 169
+pub end-length : (vehicle : Option Name) (version : ℕ) → is_named vehicle ≡ true → version ≤ max_count → length (end_text vehicle version) ≤ 169
 end-length vehicle version named small =
     let v = vehicle-length vehicle named in
     let n = count-length version small in

@@ -9,11 +9,11 @@ pub mod interpret;
 pub mod limits;
 mod lines;
 mod part;
-mod progress;
+pub mod progress;
 
 ghost use Rattle.up_lines.specs.Lines.{WholeLinesFirst};
 
-pub use lines::run;
+pub use lines::{run, take_piece};
 
 /// The lines that are whole are answered first and as they are, whatever bytes follow.
 pub fn whole_lines_first()

@@ -16,8 +16,9 @@ use up_pieces::read_piece;
 use up_pieces::sink::Sink;
 use up_pieces::source::Source;
 
-/// Takes the bytes of a piece.
-fn take_piece<S, I: Interpret<S>, W: Sink>(
+/// Takes the bytes of a piece: answers each line that is whole then, in order, and writes each answer and a newline. Nothing is taken
+/// after an error.
+pub fn take_piece<S, I: Interpret<S>, W: Sink>(
     alloc: Global,
     interpreter: &I,
     state: &mut S,
@@ -122,11 +123,7 @@ pub fn run<S, I: Interpret<S>, R: Source, W: Sink>(
         (R.has_failed reader.new) (R.can_read reader.new ⊎ R.has_ended reader.new)
         (W.has_failed writer.new) (W.can_write writer.new) result }
 {
-    let mut progress = Progress {
-        line: Vec::new(alloc),
-        counted: 0,
-        answered: 0,
-    };
+    let mut progress = Progress::new(alloc);
     match read_lines(alloc, interpreter, state, reader, writer, &mut progress) {
         Ok(()) => Ok(progress.answered),
         Err(cause) => Err(ScriptFault {

@@ -1,39 +1,57 @@
-use Rattle.std.proofs.Common.{◌≡◌, ℕ, ◌+◌, ◌*◌, ◌/◌, ◌-◌, ◌%◌, ◌<◌, sym, ◌∙◌, ap, ap₂, subst, arith, List, length, drop, get_or}
+use Rattle.std.proofs.Common.{◌≡◌, ℕ, ◌+◌, ◌*◌, ◌-◌, ◌<◌, sym, ◌∙◌, ap, ap₂, subst, arith, List, length, drop, get_or}
+use Rattle.std.proofs.lemmas.List.{drop_all}
+use Rattle.up_curve.specs.Curve.{Point, base}
+use Rattle.up_curve.proofs.Curve.{base_point}
 use Rattle.up_field.specs.Points.{Writes}
+use Rattle.up_field.specs.Sides.{Lies}
 use Rattle.up_field.specs.Tables.{pair}
 use Rattle.up_field.proofs.Pairs.{pair-none}
-use Rattle.up_field.proofs.ByteLists.{number, number-drop, number-nil}
-use Rattle.std.proofs.lemmas.List.{drop_all}
+use Rattle.up_field.proofs.Scattered.{scattered, scattered-drop, scattered-nil}
 use Rattle.up_field.proofs.joint.joint.Goals as goal
+
+-- nothing of a list from its end on
+none : (ds : List ℕ) → length ds ≡ 256 → scattered (drop (256 - 0) ds) ≡ 0
+none ds l = ap scattered (drop_all (256 - 0) ds (omega (arith, l))) ∙ scattered-nil
+
+-- a digit more
+more : (ds : List ℕ) (i : ℕ) → i < 256 → length ds ≡ 256 → 2 * scattered (drop (256 - i) ds) + get_or ds (255 - i) 0 ≡ scattered (drop (256 - (i + 1)) ds)
+more ds i h l =
+    let k = scattered-drop ds (255 - i) (omega (arith, h, l)) in
+    let x : scattered (drop (255 - i + 1) ds) ≡ scattered (drop (256 - i) ds) = ap (λ z. scattered (drop z ds)) (omega (arith, h)) in
+    let y : scattered (drop (256 - (i + 1)) ds) ≡ scattered (drop (255 - i) ds) = ap (λ z. scattered (drop z ds)) (omega (arith, h)) in
+    omega (arith, k, x, y)
 
 pub loop-i-init : goal.loop-i-init
 loop-i-init c = record {
-  limits = c.neutral-r.ensures.limits;
-  writes = λ m n h k.
-      let x : number (drop 32 c.args.s.now) ≡ 0 = ap number (drop_all 32 c.args.s.now (omega arith)) ∙ number-nil in
-      let y : number (drop 32 c.args.t.now) ≡ 0 = ap number (drop_all 32 c.args.t.now (omega arith)) ∙ number-nil in
-      subst (Writes c.neutral-r.result) (pair-none m n h.point k.point ∙ ap₂ (λ c e. pair c e m n) (sym x) (sym y)) c.neutral-r.ensures.writes;
+  limits = c.without_t-r.ensures.limits;
+  lies = λ m h.
+      subst (Lies c.without_t-r.result)
+      (pair-none m base h.point base_point ∙ ap₂ (λ x y. pair x y m base) (sym (none c.scatter-x.result (omega arith))) (sym (none c.scatter-y.result (omega arith))))
+      (c.without_t-r.ensures.lies _ c.neutral.ensures.writes);
 }
 
--- a byte's two digits
-horner : (s : List ℕ) (i : ℕ) → i < 32 → length s ≡ 32
-    → 16 * (16 * number (drop (32 - i) s) + get_or s (31 - i) 0 / 16) + get_or s (31 - i) 0 % 16 ≡ number (drop (32 - (i + 1)) s)
-horner s i h l =
-    let k = number-drop s (31 - i) (omega arith) in
-    let x : number (drop (31 - i + 1) s) ≡ number (drop (32 - i) s) = ap (λ z. number (drop z s)) (omega arith) in
-    let y : number (drop (32 - (i + 1)) s) ≡ number (drop (31 - i) s) = ap (λ z. number (drop z s)) (omega arith) in
-    omega (arith, k, x, y)
+pub next-r-requires : goal.next-r-requires
+next-r-requires c = record {
+  so_far = c.loop-i.invariant.limits;
+  table = c.odd_multiples-multiples.ensures.limits;
+  digit = c.scatter-x.ensures.digits.each (255 - c.loop-i.i);
+  other = c.scatter-y.ensures.digits.each (255 - c.loop-i.i);
+}
 
 pub loop-i-preserved : goal.loop-i-preserved
 loop-i-preserved c = record {
-  limits = c.next_digits-r-in-loop-i.ensures.limits;
-  writes = λ m n h k.
-      let one = c.next_digits-r.ensures.writes m n _ _ h.point k.point (c.table_of-first.ensures.writes m h) (c.table_of-second.ensures.writes n k) (c.loop-i.invariant.writes m n h k) in
-      let two = c.next_digits-r-in-loop-i.ensures.writes m n _ _ h.point k.point (c.table_of-first.ensures.writes m h) (c.table_of-second.ensures.writes n k) one in
-      subst (Writes c.next_digits-r-in-loop-i.result) (ap₂ (λ c e. pair c e m n) (horner c.args.s.now c.loop-i.i (omega arith) (omega arith)) (horner c.args.t.now c.loop-i.i (omega arith) (omega arith))) two;
+  limits = c.next-r.ensures.limits;
+  lies = λ m h.
+      subst (Lies c.next-r.result)
+      (ap₂ (λ x y. pair x y m base) (more c.scatter-x.result c.loop-i.i (omega arith) (omega arith)) (more c.scatter-y.result c.loop-i.i (omega arith) (omega arith)))
+      (c.next-r.ensures.lies m _ _ h.point (c.odd_multiples-multiples.ensures.writes m h) (c.loop-i.invariant.lies m h));
 }
 
 pub returns-clause-writes : goal.returns-clause-writes
-returns-clause-writes c = λ m n h k.
-    let e : c.loop-i.i ≡ 32 = omega arith in
-    subst (λ z. Writes c.loop-i.r (pair (number (drop (32 - z) c.args.s.now)) (number (drop (32 - z) c.args.t.now)) m n)) e (c.loop-i.invariant.writes m n h k)
+returns-clause-writes c = λ m h.
+    let e : 256 - c.loop-i.i ≡ 0 = omega arith in
+    subst (Writes c.extended.result)
+    (ap₂ (λ x y. pair x y m base)
+    (ap (λ z. scattered (drop z c.scatter-x.result)) e ∙ c.scatter-x.ensures.value ∙ c.in_words.ensures.value ∙ c.from_bytes.ensures.value)
+    (ap (λ z. scattered (drop z c.scatter-y.result)) e ∙ c.scatter-y.ensures.value ∙ c.in_words-2.ensures.value ∙ c.from_bytes-2.ensures.value))
+    (c.extended.ensures.writes _ (c.loop-i.invariant.lies m h))

@@ -1,4 +1,4 @@
-use Rattle.std.proofs.Common.{◌≡◌, ◌<◌, ◌≤◌, get_or}
+use Rattle.std.proofs.Common.{◌≡◌, ◌+◌, ◌*◌, ◌-◌, ◌^◌, ◌<◌, ◌≤◌, get_or}
 use Rattle.up_field.specs.declared.affine.Affine.{Affine}
 use Rattle.up_field.specs.Affine.{AreAffine}
 use Rattle.up_field.specs.Comb.{IsClear}
@@ -8,5 +8,7 @@ abbrev pub invariant-loop-i : goal.invariant-loop-i
 invariant-loop-i l = record {
   limits : AreAffine l.r;
   clear : l.i ≤ l.k → IsClear l.r;
-  value : l.k < l.i → (q : Affine) → l.r ≡ get_or l.table l.k q;
+  ahead : l.i ≤ l.k → l.w ≡ 2 ^ (l.k - l.i);
+  past : l.k < l.i → l.w ≡ 0;
+  value : l.k < l.i → (q : Affine) → l.r ≡ get_or l.table (16 * l.row + l.k) q;
 }

@@ -1,10 +1,9 @@
-use Rattle.std.proofs.Common.{◌≡◌, ℕ, ◌+◌, ◌-◌, ◌%◌, List, drop, length, get_or, sym, ◌∙◌, ap, arith}
+use Rattle.std.proofs.Common.{◌≡◌, ℕ, ◌+◌, ◌-◌, ◌%◌, List, drop, get_or, sym, ◌∙◌, ap, arith}
 use Rattle.std.proofs.lemmas.List.{drop_all}
 use Rattle.up_field.specs.Limbs.{limbs}
-use Rattle.up_field.proofs.ByteLists.{number, number-drop, number-nil}
+use Rattle.up_field.proofs.Digits.{written, written-drop, written-nil, horner}
 use Rattle.up_curve.specs.Curve.{order}
 use Rattle.up_field.specs.declared.scalar.Scalar.{Scalar}
-use Rattle.up_field.proofs.Horner.{horner_one}
 use Rattle.up_field.proofs.scalar.reduce.Goals as goal
 
 abbrev value : Scalar → ℕ
@@ -12,25 +11,32 @@ value s = limbs s.l0 s.l1 s.l2 s.l3 s.l4
 
 pub loop-i-init : goal.loop-i-init
 loop-i-init c =
-    let e : number (drop (length c.args.bytes.now - 0) c.args.bytes.now) ≡ 0 = ap number (drop_all (length c.args.bytes.now - 0) c.args.bytes.now (omega arith)) ∙ number-nil in
-    record { value = c.small-r.ensures.value ∙ sym (ap (λ z. z % order) e); limit = c.small-r.ensures.limit }
+    let e : written (drop 10 c.args.digits.now) ≡ 0 = ap written (drop_all 10 c.args.digits.now (omega arith)) ∙ written-nil in
+    record { value = c.none-r.ensures.value ∙ sym (ap (λ z. z % order) e); below = omega (arith, c.none-r.ensures.value); limit = c.none-r.ensures.limit }
+
+pub step-r-requires : goal.step-r-requires
+step-r-requires c = record {
+  acc = c.loop-i.invariant.limit;
+  below = c.loop-i.invariant.below;
+  digit = c.requires.each (9 - c.loop-i.i);
+}
 
 pub loop-i-preserved : goal.loop-i-preserved
 loop-i-preserved c =
-    let bs : List ℕ = c.args.bytes.now in
-    let n : ℕ = length bs in
-    let k = number-drop bs (n - 1 - c.loop-i.i) (omega arith) in
-    let x : number (drop (n - 1 - c.loop-i.i + 1) bs) ≡ number (drop (n - c.loop-i.i) bs) = ap (λ z. number (drop z bs)) (omega arith) in
-    let y : number (drop (n - (c.loop-i.i + 1)) bs) ≡ number (drop (n - 1 - c.loop-i.i) bs) = ap (λ z. number (drop z bs)) (omega arith) in
+    let ds : List ℕ = c.args.digits.now in
+    let k = written-drop ds (9 - c.loop-i.i) (omega arith) in
+    let x : written (drop (9 - c.loop-i.i + 1) ds) ≡ written (drop (10 - c.loop-i.i) ds) = ap (λ z. written (drop z ds)) (omega arith) in
+    let y : written (drop (10 - (c.loop-i.i + 1)) ds) ≡ written (drop (9 - c.loop-i.i) ds) = ap (λ z. written (drop z ds)) (omega arith) in
     record {
       value =
-          horner_one (value c.step-r.result) (value c.loop-i.r) (get_or bs (n - 1 - c.loop-i.i) 0) (value c.small.result) (number (drop (n - c.loop-i.i) bs)) (number (drop (n - (c.loop-i.i + 1)) bs))
-          c.small.ensures.value c.step-r.ensures.below c.step-r.ensures.value c.loop-i.invariant.value (omega (arith, k, x, y));
+          horner (value c.step-r.result) (value c.loop-i.r) (get_or ds (9 - c.loop-i.i) 0) (written (drop (10 - c.loop-i.i) ds)) (written (drop (10 - (c.loop-i.i + 1)) ds))
+          c.step-r.ensures.below c.step-r.ensures.value c.loop-i.invariant.value (omega (arith, k, x, y));
+      below = c.step-r.ensures.below;
       limit = c.step-r.ensures.limit;
     }
 
 pub returns : goal.returns
 returns c =
-    let bs : List ℕ = c.args.bytes.now in
-    let e : length bs - c.loop-i.i ≡ 0 = omega arith in
-    record { value = c.loop-i.invariant.value ∙ ap (λ z. number (drop z bs) % order) e; limit = c.loop-i.invariant.limit }
+    let ds : List ℕ = c.args.digits.now in
+    let e : 10 - c.loop-i.i ≡ 0 = omega arith in
+    record { value = c.loop-i.invariant.value ∙ ap (λ z. written (drop z ds) % order) e; limit = c.loop-i.invariant.limit }

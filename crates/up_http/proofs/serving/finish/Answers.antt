@@ -6,8 +6,8 @@ use Rattle.up_http.proofs.serving.finish.Goals as goal
 
 pub returns-in-None : goal.returns-in-None
 returns-in-None g c =
-    let goes_on : c.args.progress.now.feeder.ended ≡ false = sym c.args.progress.now.ends ∙ c.requires.goes_on in
-    let ends : Ends c.args.progress.now.feeder None c.end.new.self = subst (λ o. Ends c.args.progress.now.feeder o c.end.new.self) c.in-None.is c.end.ensures in
+    let goes_on : c.args.progress.now.talk.fed.ended ≡ false = sym c.args.progress.now.ends ∙ c.requires.goes_on in
+    let ends : Ends c.args.progress.now.talk.fed None c.end.new.self.fed = subst (λ o. Ends c.args.progress.now.talk.fed o c.end.new.self.fed) c.in-None.is c.end.ensures.ended.ends in
     record {
       ok = completes_none (g.A.Respond.gives c.args.responder.now) c.args.progress.now _ _ goes_on (ends.0 goes_on) refl;
       err = tt;
@@ -18,7 +18,7 @@ returns-in-None g c =
 
 pub returns-in-Ok : goal.returns-in-Ok
 returns-in-Ok g c =
-    let ends : Ends c.args.progress.now.feeder (Some c.in-Some.next) c.end.new.self = subst (λ o. Ends c.args.progress.now.feeder o c.end.new.self) c.in-Some.is c.end.ensures in
+    let ends : Ends c.args.progress.now.talk.fed (Some c.in-Some.next) c.end.new.self.fed = subst (λ o. Ends c.args.progress.now.talk.fed o c.end.new.self.fed) c.in-Some.is c.end.ensures.ended.ends in
     let (text, gave, wrote) = c.in-Ok.ensures.ok in
     record {
       ok = completes_next (g.A.Respond.gives c.args.responder.now) c.args.progress.now _ c.in-Some.next text _ _ ends.0 ends.2 ends.3 ends.5 gave wrote c.in-Ok.ensures.answered;
@@ -30,7 +30,7 @@ returns-in-Ok g c =
 
 pub returns-in-Err : goal.returns-in-Err
 returns-in-Err g c =
-    let ends : Ends c.args.progress.now.feeder (Some c.in-Some.next) c.end.new.self = subst (λ o. Ends c.args.progress.now.feeder o c.end.new.self) c.in-Some.is c.end.ensures in
+    let ends : Ends c.args.progress.now.talk.fed (Some c.in-Some.next) c.end.new.self.fed = subst (λ o. Ends c.args.progress.now.talk.fed o c.end.new.self.fed) c.in-Some.is c.end.ensures.ended.ends in
     record {
       ok = tt;
       err = stops_end (g.A.Respond.gives c.args.responder.now) c.in-Err.cause c.args.progress.now c.answer_counted.new.progress c.in-Some.next _ _ ends.0 ends.2 ends.3 c.in-Err.ensures.err c.in-Err.ensures.called c.in-Err.ensures.answered;
@@ -41,5 +41,5 @@ returns-in-Err g c =
 
 pub answer_counted-requires-clause-asks : goal.answer_counted-requires-clause-asks
 answer_counted-requires-clause-asks g c =
-    let ends : Ends c.args.progress.now.feeder (Some c.in-Some.next) c.end.new.self = subst (λ o. Ends c.args.progress.now.feeder o c.end.new.self) c.in-Some.is c.end.ensures in
-    first_runs c.args.progress.now.feeder.given c.args.progress.now.feeder.rest c.in-Some.next [] ends.3
+    let ends : Ends c.args.progress.now.talk.fed (Some c.in-Some.next) c.end.new.self.fed = subst (λ o. Ends c.args.progress.now.talk.fed o c.end.new.self.fed) c.in-Some.is c.end.ensures.ended.ends in
+    first_runs c.args.progress.now.talk.fed.given c.args.progress.now.talk.fed.rest c.in-Some.next [] ends.3

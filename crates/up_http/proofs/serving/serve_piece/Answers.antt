@@ -8,14 +8,14 @@ use Rattle.up_http.proofs.serving.serve_piece.Goals as goal
 
 pub returns-in-Ok-answer_counted : goal.returns-in-Ok-answer_counted
 returns-in-Ok-answer_counted g c =
-    let goes_on : c.args.progress.now.feeder.ended ≡ false = sym c.args.progress.now.ends ∙ c.requires.goes_on in
-    let gives : Gives c.args.progress.now.feeder c.args.piece.now c.in-Ok.step.taken (Some c.in-Some.next) c.feed.new.self = subst (λ o. Gives c.args.progress.now.feeder c.args.piece.now c.in-Ok.step.taken o c.feed.new.self) c.in-Some.is (c.in-Ok.ensures.ok.going_on goes_on) in
+    let goes_on : c.args.progress.now.talk.fed.ended ≡ false = sym c.args.progress.now.ends ∙ c.requires.goes_on in
+    let gives : Gives c.args.progress.now.talk.fed c.args.piece.now c.in-Ok.step.taken (Some c.in-Some.next) c.hear.new.self.fed = subst (λ o. Gives c.args.progress.now.talk.fed c.args.piece.now c.in-Ok.step.taken o c.hear.new.self.fed) c.in-Some.is (c.in-Ok.ensures.heard.feeds.going_on goes_on) in
     let (text, gave, wrote) = c.in-Ok-answer_counted.ensures.ok in
-    let fed : c.answer_counted.new.progress.feeder ≡ record { rest = []; given = c.args.progress.now.feeder.given + 1; ended = c.in-Some.next.last } = c.in-Ok-answer_counted.ensures.feeder ∙ gives.1 in
+    let fed : c.answer_counted.new.progress.talk.fed ≡ record { rest = []; given = c.args.progress.now.talk.fed.given + 1; ended = c.in-Some.next.last } = c.in-Ok-answer_counted.ensures.fed ∙ gives.1 in
     record {
       ok = (
         (gives.0, inr (ap (λ f. f.given) fed, gives.2)),
-        takes_next (g.A.Respond.gives c.args.responder.now) c.args.progress.now _ _ c.in-Some.next text _ _ goes_on fed gives.2 gives.4 gives.3 gives.5 gave wrote c.in-Ok-answer_counted.ensures.called c.in-Ok-answer_counted.ensures.answered,
+        takes_next (g.A.Respond.gives c.args.responder.now) c.args.progress.now _ _ c.in-Some.next text _ _ goes_on fed gives.2 gives.4 gives.3 gives.5 gave wrote c.in-Ok-answer_counted.ensures.quiet c.in-Ok-answer_counted.ensures.called c.in-Ok-answer_counted.ensures.answered,
       );
       err = tt;
       grows = omega (arith, c.in-Ok-answer_counted.ensures.answered);
@@ -25,8 +25,8 @@ returns-in-Ok-answer_counted g c =
 
 pub returns-in-Err-answer_counted : goal.returns-in-Err-answer_counted
 returns-in-Err-answer_counted g c =
-    let goes_on : c.args.progress.now.feeder.ended ≡ false = sym c.args.progress.now.ends ∙ c.requires.goes_on in
-    let gives : Gives c.args.progress.now.feeder c.args.piece.now c.in-Ok.step.taken (Some c.in-Some.next) c.feed.new.self = subst (λ o. Gives c.args.progress.now.feeder c.args.piece.now c.in-Ok.step.taken o c.feed.new.self) c.in-Some.is (c.in-Ok.ensures.ok.going_on goes_on) in
+    let goes_on : c.args.progress.now.talk.fed.ended ≡ false = sym c.args.progress.now.ends ∙ c.requires.goes_on in
+    let gives : Gives c.args.progress.now.talk.fed c.args.piece.now c.in-Ok.step.taken (Some c.in-Some.next) c.hear.new.self.fed = subst (λ o. Gives c.args.progress.now.talk.fed c.args.piece.now c.in-Ok.step.taken o c.hear.new.self.fed) c.in-Some.is (c.in-Ok.ensures.heard.feeds.going_on goes_on) in
     record {
       ok = tt;
       err = λ first came so.
@@ -40,9 +40,9 @@ returns-in-Err-answer_counted g c =
 
 pub answer_counted-requires-clause-asks : goal.answer_counted-requires-clause-asks
 answer_counted-requires-clause-asks g c =
-    let goes_on : c.args.progress.now.feeder.ended ≡ false = sym c.args.progress.now.ends ∙ c.requires.goes_on in
-    let gives : Gives c.args.progress.now.feeder c.args.piece.now c.in-Ok.step.taken (Some c.in-Some.next) c.feed.new.self = subst (λ o. Gives c.args.progress.now.feeder c.args.piece.now c.in-Ok.step.taken o c.feed.new.self) c.in-Some.is (c.in-Ok.ensures.ok.going_on goes_on) in
-    first_runs c.args.progress.now.feeder.given _ c.in-Some.next [] (gives.5 [])
+    let goes_on : c.args.progress.now.talk.fed.ended ≡ false = sym c.args.progress.now.ends ∙ c.requires.goes_on in
+    let gives : Gives c.args.progress.now.talk.fed c.args.piece.now c.in-Ok.step.taken (Some c.in-Some.next) c.hear.new.self.fed = subst (λ o. Gives c.args.progress.now.talk.fed c.args.piece.now c.in-Ok.step.taken o c.hear.new.self.fed) c.in-Some.is (c.in-Ok.ensures.heard.feeds.going_on goes_on) in
+    first_runs c.args.progress.now.talk.fed.given _ c.in-Some.next [] (gives.5 [])
 
 pub returns-in-Err : goal.returns-in-Err
 returns-in-Err g c = record {

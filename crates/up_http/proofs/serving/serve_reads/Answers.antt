@@ -14,7 +14,7 @@ pub loop-progress-init : goal.loop-progress-init
 loop-progress-init g c =
     let first : At g.row.S.Denot = record { state = c.args.state.now; held = g.W.Sink.contents c.args.writer.now } in
     let so : Sofar (g.A.Respond.gives c.args.responder.now) first [] c.args.progress.now first =
-    fresh (g.A.Respond.gives c.args.responder.now) first c.args.progress.now c.requires.fresh.feeder c.requires.fresh.none_called c.requires.fresh.none_answered in (
+    fresh (g.A.Respond.gives c.args.responder.now) first c.args.progress.now c.requires.fresh.talk c.requires.fresh.none_called c.requires.fresh.none_answered in (
       [],
       Consumes-nil _,
       so,
@@ -24,7 +24,7 @@ loop-progress-init g c =
       omega arith,
       c.requires.can_read,
       c.requires.can_write,
-      last_read (g.A.Respond.gives c.args.responder.now) first [] [] [] false c.args.progress.now first c.args.progress.now.answered so (ap (λ f. f.ended) c.requires.fresh.feeder) (omega arith) refl (omega arith) (λ h. absurd (cc)),
+      last_read (g.A.Respond.gives c.args.responder.now) first [] [] [] false c.args.progress.now first c.args.progress.now.answered so (ap (λ t. t.fed.ended) c.requires.fresh.talk) (omega arith) refl (omega arith) (λ h. absurd (cc)),
     )
 
 -- the length of what is left of a piece
@@ -33,7 +33,7 @@ left xs at filled h k = length-take-le (filled - at) (drop at xs) (omega (arith,
 
 pub loop-progress-smaller-in-Ok : goal.loop-progress-smaller-in-Ok
 loop-progress-smaller-in-Ok g c = let (came, read, so, budget, inside, within, room, can_read, can_write, last) = c.loop-progress.invariant in
-    nearer c.loop-progress.most c.loop-progress.at c.loop-progress.filled c.in-Ok.taken c.loop-progress.progress.feeder.given c.serve_piece.new.progress.feeder.given _ c.if-at-filled.true
+    nearer c.loop-progress.most c.loop-progress.at c.loop-progress.filled c.in-Ok.taken c.loop-progress.progress.talk.fed.given c.serve_piece.new.progress.talk.fed.given _ c.if-at-filled.true
     (left c.loop-progress.buffer c.loop-progress.at c.loop-progress.filled inside within) c.in-Ok.ensures.ok.0.0 c.in-Ok.ensures.ok.0.1
 
 pub loop-progress-preserved-in-Ok : goal.loop-progress-preserved-in-Ok
@@ -67,7 +67,7 @@ pub loop-progress-preserved : goal.loop-progress-preserved
 loop-progress-preserved g c = let (came, read, so, budget, inside, within, room, can_read, can_write, last) = c.loop-progress.invariant in
     let n = c.in-Ok-read_piece.n in
     let none : c.loop-progress.filled - c.loop-progress.at ≡ 0 = omega (arith, c.if-at-filled.false) in
-    let goes_on : c.loop-progress.progress.feeder.ended ≡ false = sym c.loop-progress.progress.ends ∙ c.loop-progress-test.true in
+    let goes_on : c.loop-progress.progress.talk.fed.ended ≡ false = sym c.loop-progress.progress.ends ∙ c.loop-progress-test.true in
     let fits : n ≤ length c.read_piece.new.buffer = c.in-Ok-read_piece.ensures.count.0 in
     let few : n ≤ c.loop-progress.most = c.in-Ok-read_piece.ensures.count.1 in
     let long : length (take n c.read_piece.new.buffer) ≡ n = length-take-le n c.read_piece.new.buffer fits in
@@ -95,7 +95,7 @@ consumed_none had mid has came piece buffer k n none none' p q =
 pub returns-in-Ok-eq0-clause-ran : goal.returns-in-Ok-eq0-clause-ran
 returns-in-Ok-eq0-clause-ran g c = let (came, read, so, budget, inside, within, room, can_read, can_write, last) = c.loop-progress.invariant in
     let none : c.loop-progress.filled - c.loop-progress.at ≡ 0 = omega (arith, c.if-at-filled.false) in
-    let goes_on : c.loop-progress.progress.feeder.ended ≡ false = sym c.loop-progress.progress.ends ∙ c.loop-progress-test.true in
+    let goes_on : c.loop-progress.progress.talk.fed.ended ≡ false = sym c.loop-progress.progress.ends ∙ c.loop-progress-test.true in
     let below = room_left (g.A.Respond.gives c.args.responder.now) _ came c.loop-progress.progress _ so goes_on in
     ran_end (g.A.Respond.gives c.args.responder.now) c.finish.result _ _ (g.R.Source.remaining c.args.reader.now) (g.R.Source.remaining c.read_piece.new.reader) came c.loop-progress.progress _ c.finish.new.progress
     (consumed_none _ (g.R.Source.remaining c.loop-progress.reader) _ came (drop c.loop-progress.at c.loop-progress.buffer) c.read_piece.new.buffer (c.loop-progress.filled - c.loop-progress.at) c.in-Ok-eq0.field-0 none c.in-Ok-eq0.field-0-test read c.in-Ok-eq0.ensures.bytes)
@@ -111,7 +111,7 @@ returns-in-Err-clause-ran g c = let (came, read, so, budget, inside, within, roo
 pub returns-in-Err-read_piece-clause-ran : goal.returns-in-Err-read_piece-clause-ran
 returns-in-Err-read_piece-clause-ran g c = let (came, read, so, budget, inside, within, room, can_read, can_write, last) = c.loop-progress.invariant in
     let none : c.loop-progress.filled - c.loop-progress.at ≡ 0 = omega (arith, c.if-at-filled.false) in
-    let goes_on : c.loop-progress.progress.feeder.ended ≡ false = sym c.loop-progress.progress.ends ∙ c.loop-progress-test.true in
+    let goes_on : c.loop-progress.progress.talk.fed.ended ≡ false = sym c.loop-progress.progress.ends ∙ c.loop-progress-test.true in
     ran_failed (g.A.Respond.gives c.args.responder.now) _ _ _ _ came c.loop-progress.progress
     (Consumes-kept _ (g.R.Source.remaining c.loop-progress.reader) _ came
     (consumed_none _ _ _ came (drop c.loop-progress.at c.loop-progress.buffer) [] (c.loop-progress.filled - c.loop-progress.at) 0 none refl read (Consumes-nil _)) c.in-Err-read_piece.ensures.err)
@@ -120,14 +120,14 @@ returns-in-Err-read_piece-clause-ran g c = let (came, read, so, budget, inside, 
 pub returns-clause-ran : goal.returns-clause-ran
 returns-clause-ran g c = let (came, read, so, budget, inside, within, room, can_read, can_write, last) = c.loop-progress.invariant in
     let piece = take (c.loop-progress.filled - c.loop-progress.at) (drop c.loop-progress.at c.loop-progress.buffer) in
-    let ended : c.loop-progress.progress.feeder.ended ≡ true = sym c.loop-progress.progress.ends ∙ c.loop-progress-test.false in
+    let ended : c.loop-progress.progress.talk.fed.ended ≡ true = sym c.loop-progress.progress.ends ∙ c.loop-progress-test.false in
     ran_over (g.A.Respond.gives c.args.responder.now) _ _ _ _ came piece c.loop-progress.progress read
     (omega (arith, budget, left c.loop-progress.buffer c.loop-progress.at c.loop-progress.filled inside within, length-append came piece)) ended so last
 
 pub returns-in-Ok-eq0-clause-ends : goal.returns-in-Ok-eq0-clause-ends
 returns-in-Ok-eq0-clause-ends g c = let (came, read, so, budget, inside, within, room, can_read, can_write, last) = c.loop-progress.invariant in
     let none : c.loop-progress.filled - c.loop-progress.at ≡ 0 = omega (arith, c.if-at-filled.false) in
-    let goes_on : c.loop-progress.progress.feeder.ended ≡ false = sym c.loop-progress.progress.ends ∙ c.loop-progress-test.true in
+    let goes_on : c.loop-progress.progress.talk.fed.ended ≡ false = sym c.loop-progress.progress.ends ∙ c.loop-progress-test.true in
     let below = room_left (g.A.Respond.gives c.args.responder.now) _ came c.loop-progress.progress _ so goes_on in
     let ended : g.R.Source.has_ended c.read_piece.new.reader = c.in-Ok-eq0.ensures.ended c.in-Ok-eq0.field-0-test (omega (arith, below, budget, none)) (omega (arith, room)) in
     record {

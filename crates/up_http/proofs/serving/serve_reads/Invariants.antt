@@ -15,4 +15,4 @@ invariant-loop-progress g l = (came : List ℕ) × Consumes (g.R.Source.remainin
 
 -- each turn takes bytes, gives a request, or reads
 abbrev pub decreases-loop-progress : goal.decreases-loop-progress
-decreases-loop-progress g l = 2 * l.most + (l.filled - l.at) + (100 - l.progress.feeder.given)
+decreases-loop-progress g l = 2 * l.most + (l.filled - l.at) + (100 - l.progress.talk.fed.given)

@@ -1,0 +1,27 @@
+use Rattle.std.proofs.Common.{◌≡◌, ℕ, ◌+◌, ◌*◌, ◌/◌, ◌%◌, ◌<◌, refl, sym, ap, subst, arith}
+use Rattle.up_curve.specs.Curve.{Point, base, multiple}
+use Rattle.up_curve.proofs.Curve.{base_point}
+use Rattle.up_field.specs.Cached.{Stores}
+use Rattle.up_field.specs.Sides.{Yields}
+use Rattle.up_field.specs.Sparse.{IsDigit}
+use Rattle.up_field.specs.Tables.{pair, IsTable}
+use Rattle.up_field.specs.declared.cached.Cached.{Cached}
+use Rattle.std.proofs.Common.{false, List, get_or}
+use Rattle.up_field.proofs.Pairs.{pair-first}
+use Rattle.up_field.proofs.joint.with_point.Goals as goal
+
+-- an odd digit, by its half
+half : (d : ℕ) → (d % 2 ≡ 0 → d ≡ 0) → 0 < d → 2 * (d / 2) + 1 ≡ d
+half d h k = grind (arith, h, k)
+
+pub returns-then-d-eq0-clause-yields : goal.returns-then-d-eq0-clause-yields
+returns-then-d-eq0-clause-yields c = λ m x y h k l. subst (λ z. Yields c.args.s (pair z y m base)) (omega arith) l
+
+entry_of : (t : List Cached) (m : Point) (d : ℕ) → IsTable t m → IsDigit false d → 0 < d → (q : Cached) → Stores (get_or t (d / 2) q) (multiple d m)
+entry_of t m d h k l q = subst (λ z. Stores (get_or t (d / 2) q) (multiple z m)) (half d k.odd l) (h.each (d / 2) (omega (arith, k.narrow refl)) q)
+
+pub returns-clause-yields : goal.returns-clause-yields
+returns-clause-yields c = λ m x y h k l.
+    let d : ℕ = c.args.d in
+    subst (Yields c.cached_sides.result) (pair-first m base h base_point x y d)
+    (c.cached_sides.ensures.yields _ (multiple d m) (c.whole.ensures.writes _ l) (entry_of c.args.t.now m d k c.requires.digit (omega arith) _))

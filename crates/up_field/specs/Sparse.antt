@@ -1,0 +1,16 @@
+-- Numbers in digits of one bit that may be larger.
+use Rattle.std.specs.Prelude.{◌≡◌, ℕ, ◌+◌, ◌*◌, ◌%◌, ◌<◌, Bool, false, List, [], ◌∷◌, slice_index_or}
+
+-- the number that digits write, the least first
+unfoldable pub scattered : List ℕ → ℕ
+scattered [] = 0
+scattered (d ∷ ds) = d + 2 * scattered ds
+
+-- 0 or odd, and below 16 where it isn't wide
+pub record IsDigit (wide : Bool) (d : ℕ) : Type 0 where
+  pub low : d < 128
+  pub narrow : wide ≡ false → d < 16
+  pub odd : d % 2 ≡ 0 → d ≡ 0
+
+pub record AreDigits (wide : Bool) (ds : List ℕ) : Type 0 where
+  pub each : (k : ℕ) → IsDigit wide (slice_index_or ds k 0)

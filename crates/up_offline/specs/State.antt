@@ -1,0 +1,103 @@
+-- The state: what was published is kept as it was published. No part of it depends on the scheme.
+use Rattle.std.specs.Prelude.{ℕ, ◌==◌, ◌++◌, List, [], Bool, Option, None, is_some, option_map, option_to_list, length, map, find, bytes_eq, codes}
+use Rattle.std.specs.List.{enumerate_from}
+use Rattle.std.specs.FinMap as table
+use Rattle.up_canon.specs.Names.{Name, Table}
+use Rattle.up_roles.specs.declared.repository.Repository.{Repository}
+use Rattle.up_roles.specs.declared.repository.Repository.TheVariants.{Director, Image}
+use Rattle.up_plan.specs.declared.assigned.Plan.{Plan}
+use Rattle.up_plan.specs.Campaigns.{CampaignData}
+use Rattle.up_plan.specs.Images.{ImageData}
+use Rattle.up_metadata.specs.declared.keys.RoleSecrets.{RoleSecrets}
+use Rattle.up_metadata.specs.declared.keys.RepoKeys.{RepoKeys}
+use Rattle.up_metadata.specs.declared.role_files.RoleTexts.{RoleTexts}
+use Rattle.up_brought.specs.Brought.{offline}
+use Rattle.up_machine.specs.declared.vehicle.NewEcu.{NewEcu}
+use Rattle.up_machine.specs.Files.{File, numbered_root_name, texts_in}
+use Rattle.up_machine.specs.State.{nth}
+
+-- ---- keys
+
+abbrev pub is_offline : RoleSecrets → Bool
+is_offline role = length role.keys == 0
+
+abbrev pub no_keys : RepoKeys
+no_keys = record { root = offline; targets = offline; snapshot = offline; timestamp = offline }
+
+-- ---- the state
+
+-- a repository: the texts of its root versions, the i-th that of version i, and the secrets of the last one's roles for which the server signs
+pub record Chain : Type 0 where
+  pub texts : List (List ℕ)
+  pub keys : RepoKeys
+
+-- an accepted manifest: as today, with the text of the reply
+pub record Entry : Type 0 where
+  pub counter : ℕ
+  pub signed : List ℕ
+  pub at : ℕ
+  pub root : ℕ
+  pub plan : Plan
+  pub reply : List ℕ
+
+pub record Vehicle : Type 0 where
+  pub primary : Name
+  pub ecus : List NewEcu
+  pub retired : List Name
+  pub entries : List Entry
+
+-- the image repository's version is that of its Snapshot and its Timestamp, which were made at the stamp; its Targets have a version of their own
+pub record State : Type 0 where
+  pub director : Chain
+  pub image : Chain
+  pub files : Option RoleTexts
+  pub images : Table ImageData
+  pub image_version : ℕ
+  pub targets_version : ℕ
+  pub stamp : ℕ
+  pub campaigns : Table CampaignData
+  pub vehicles : Table Vehicle
+
+abbrev pub no_chain : Chain
+no_chain = record { texts = []; keys = no_keys }
+
+abbrev pub empty_state : State
+empty_state = record {
+  director = no_chain;
+  image = no_chain;
+  files = None;
+  images = table.empty;
+  image_version = 0;
+  targets_version = 0;
+  stamp = 0;
+  campaigns = table.empty;
+  vehicles = table.empty;
+}
+
+-- both repositories are founded at once
+abbrev pub is_founded : State → Bool
+is_founded s = is_some s.files
+
+-- how many root versions there are
+abbrev pub root_number : Chain → ℕ
+root_number chain = length chain.texts
+
+-- the text of the last one; none before founding
+abbrev pub last_root : Chain → Option (List ℕ)
+last_root chain = nth chain.texts (root_number chain)
+
+-- ---- what is served
+
+-- `root.json` is the latest; `1.root.json`, `2.root.json` and so on
+abbrev pub root_files : Chain → List File
+root_files chain =
+    option_to_list (option_map (λ text. (codes "root.json", text)) (last_root chain))
+    ++ map (λ r. (numbered_root_name r.0, r.1)) (enumerate_from 1 chain.texts)
+
+abbrev pub files : State → Repository → List File
+files s Director = root_files s.director
+files s Image = root_files s.image ++ texts_in s.files
+
+-- the text of the file of this name
+abbrev pub file : State → Repository → Name → Option (List ℕ)
+file s repository name = option_map (λ f. f.1) (find (λ f. bytes_eq f.0 name) (files s repository))

@@ -1,0 +1,9 @@
+pub mod Verifiers
+pub mod Roots
+pub mod Files
+pub mod Verify
+pub mod Results
+pub mod Machine
+pub mod Forging
+pub mod Following
+pub mod Laws

@@ -1,0 +1,21 @@
+//! What a file is asked, and what it says of itself.
+use up_canon::ident::Ident;
+use up_canon::moment::Moment;
+use up_roles::repository::Repository;
+
+/// Whose files are checked, and when: the repository, the vehicle that its files name, and the moment in seconds.
+#[derive(Debug, Drop)]
+pub struct Asked {
+    pub repository: Repository,
+    pub vehicle: Option<Ident>,
+    pub moment: u64,
+}
+
+/// What a file says of itself.
+#[derive(Debug, Drop)]
+pub struct Says {
+    pub repository: Repository,
+    pub vehicle: Option<Ident>,
+    pub version: u64,
+    pub expires: Moment,
+}

@@ -1,0 +1,82 @@
+"""The schemes of signatures of the programs and of the tests, each with what its calls answer.
+
+The tools try the scheme that the environment names: `SCHEME=ed25519 tools/run fuzz
+.../uptane_desk_ed25519`. Where it names none, that is `hmac-sha256`.
+"""
+import functools
+import hashlib
+import hmac
+import os
+from typing import Any
+
+from uptane_tools.oracle import ed25519
+
+
+class HmacSha256:
+    """HMAC-SHA-256 (RFC 2104): the secret is its own public part."""
+
+    method = "hmac-sha256"
+
+    @staticmethod
+    def public_of(secret):
+        return secret
+
+    @staticmethod
+    def shown(public):
+        return ""
+
+    @staticmethod
+    def sign(secret, message):
+        return hmac.new(secret, message, hashlib.sha256).digest()
+
+    @classmethod
+    def verify(cls, public, message, signature):
+        return hmac.compare_digest(cls.sign(public, message), signature)
+
+
+class Ed25519:
+    """Ed25519 (RFC 8032)."""
+
+    method = "ed25519"
+    # the same is asked again and again, and takes milliseconds
+    public_of = staticmethod(functools.lru_cache(None)(ed25519.public_of))
+    sign = staticmethod(functools.lru_cache(10_000)(ed25519.sign))
+    verify = staticmethod(functools.lru_cache(10_000)(ed25519.verify))
+
+    @staticmethod
+    def shown(public):
+        return public.hex()
+
+
+class Sha256Tag:
+    """The second scheme of the crates' tests: the public part is a hash of the secret, a
+    signature one of it and the message.
+    """
+
+    method = "sha256-tag"
+
+    @staticmethod
+    def public_of(secret):
+        return hashlib.sha256(b"public " + secret).digest()
+
+    @staticmethod
+    def shown(public):
+        return "hash"
+
+    @classmethod
+    def sign(cls, secret, message):
+        return hashlib.sha256(cls.public_of(secret) + message).digest()
+
+    @staticmethod
+    def verify(public, message, signature):
+        return hashlib.sha256(public + message).digest() == signature
+
+
+ALL: tuple[Any, ...] = (HmacSha256, Ed25519, Sha256Tag)
+SCHEMES = {it.method: it for it in ALL}
+TRIED = SCHEMES[os.environ.get("SCHEME", HmacSha256.method)]
+
+
+def key_identifier(public):
+    """HMAC-SHA-256 of a fixed word under the public part, whatever the scheme."""
+    return hmac.new(public, b"uptane-key-id", hashlib.sha256).hexdigest()

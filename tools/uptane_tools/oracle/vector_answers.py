@@ -1,0 +1,49 @@
+"""Test vectors of the service's answers to a manifest, and of what a Primary does behind each."""
+import json
+
+from uptane_tools.operate.formats import MOST
+
+
+def told(error, text):
+    return json.dumps({"error": error, "text": text}, separators=(",", ":"))
+
+
+# status, body, what follows, and the value that it needs
+ANSWERS = [
+    ("a reply, whatever its verdict", 200, '{"root":1}', "read", None),
+    ("want of memory", 503, told(1, "Memory"), "again", None),
+    ("a fault of the database", 503, told(2, "Store"), "again", None),
+    ("a clock that is wrong", 503, told(3, "MomentOutOfRange"), "again", None),
+    ("a service that isn't founded yet", 503, told(8, "NotFounded"), "again", None),
+    ("a request that was changed on its way", 400, told(0, "bad request"), "again", None),
+    ("a path that was changed on its way", 404, told(0, "not found"), "again", None),
+    ("another method than was sent", 405, told(0, "method not allowed"), "again", None),
+    ("no length, though one was sent", 411, told(0, "length required"), "again", None),
+    ("a body in chunks, though none was sent", 501, told(0, "not implemented"), "again", None),
+    ("a proxy's page", 502, "<html>502 Bad Gateway</html>", "again", None),
+    ("a proxy's page of another status", 413, "<html>413</html>", "again", None),
+    ("a proxy's own JSON", 403, '{"message":"forbidden"}', "again", None),
+    ("JSON that is no object", 400, "[5]", "again", None),
+    ("JSON whose error is a text", 409, '{"error":"13","text":"Stale 7"}', "again", None),
+    ("a body that was cut", 409, '{"error":13,"te', "again", None),
+    ("a busy proxy's JSON with a number of the service", 503, told(12, "Busy"), "again", None),
+    ("a counter that was used", 409, told(13, "Stale 7"), "counter", 7),
+    ("a counter near the greatest", 409, told(13, "Stale %d" % (MOST - 1)), "counter", MOST - 1),
+    ("a report that was used", 409, told(18, "ReportReplayed left"), "report", "left"),
+    ("a body that is too large", 413, told(4, "TooLarge"), "mend", 4),
+    ("a body that is no JSON", 400, told(5, "NotJson"), "mend", 5),
+    ("a body without a canonical text", 400, told(6, "NotCanonical"), "mend", 6),
+    ("a member of another form", 400, told(7, "BadShape counter"), "mend", 7),
+    ("a vehicle that the inventory hasn't", 404, told(10, "UnknownVehicle"), "mend", 10),
+    ("another Primary than the inventory has", 403, told(11, "WrongPrimary"), "mend", 11),
+    ("another key than the inventory has", 403, told(12, "BadManifestSignature"), "mend", 12),
+    ("a report of an ECU that was replaced", 409, told(14, "UnknownEcu left"), "mend", 14),
+    ("two reports of an ECU", 409, told(15, "DuplicateEcu left"), "mend", 15),
+    ("no report of an ECU that was put in", 409, told(16, "MissingEcu left-2"), "mend", 16),
+    ("a report under another key", 403, told(17, "BadReportSignature left"), "mend", 17),
+]
+
+
+def answers():
+    for name, status, body, then, value in ANSWERS:
+        yield {"name": name, "status": status, "body": body, "then": then, "value": value}

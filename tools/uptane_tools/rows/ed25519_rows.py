@@ -1,0 +1,218 @@
+"""The rows of up_test_ed25519, by tools/run ed25519.
+
+    tools/run ed25519_rows                     compares stdin and stdout of crates/up_test_ed25519
+                                               with what this program makes
+    tools/run ed25519_rows write               writes them
+    tools/run ed25519_rows PROGRAM WORD [N]    gives the crate's program rows of N keys, 1,000 if
+                                               none are said, drawn by the word
+
+The rows that stand are the vectors of RFC 8032, section 7.1; signatures of which each byte of R,
+S, A and M is changed in turn; S + order; keys and nonces of small order; and 32 bytes that write
+no point. What is drawn are keys, messages and signatures both ways: a signature of the program
+is the reference's, byte by byte, and the program verifies those of the reference, each as it is
+and once more with a bit changed.
+
+promise: ed25519-laws, ed25519-sign, ed25519-verify
+"""
+import random
+import subprocess
+
+from uptane_tools import TOP, arguments
+from uptane_tools.oracle.ed25519 import (
+    BASE, ORDER, P, add, encode, decode, digest, multiple, number, public_of, sign, vectors, verify,
+)
+
+CRATE = TOP / "crates" / "up_test_ed25519"
+
+
+def little(count):
+    return count.to_bytes(32, "little")
+
+
+def turned(data, at, bit=1):
+    return data[:at] + bytes([data[at] ^ bit]) + data[at + 1:]
+
+
+def key_row(data):
+    fits = "true" if len(data) == 32 else "false"
+    public = public_of(data).hex() if len(data) == 32 else "none"
+    shown = data.hex() if len(data) == 32 else ""
+    return (f"{data.hex()} => ed25519: secret {fits}, public {fits}, its public key {public}, "
+            f"shown as [{shown}]")
+
+
+def signature_row(secret, message):
+    return f"{secret.hex()} x{message.hex()} => {sign(secret, message).hex()}"
+
+
+def verified_row(public, message, signature):
+    answer = "true" if verify(public, message, signature) else "false"
+    return f"{public.hex()} x{message.hex()} {signature.hex()} => {answer}"
+
+
+def changed(public, message, signature):
+    """Each byte of R, S, A and M changed in turn, by a bit that goes on."""
+    for at in range(64):
+        yield public, message, turned(signature, at, 1 << at % 8)
+    for at in range(32):
+        yield turned(public, at, 1 << at % 8), message, signature
+    for at in range(len(message)):
+        yield public, turned(message, at, 1 << at % 8), signature
+
+
+def sizes(public, message, signature):
+    yield public, message, signature[:63]
+    yield public, message, signature + b"\0"
+    yield public, message, b""
+    yield public[:31], message, signature
+    yield public + b"\0", message, signature
+    yield b"", message, signature
+    yield public, message + b"\0", signature
+    yield public, message, signature[32:] + signature[:32]
+
+
+def later(public, message, signature):
+    """S and the order, as often as 256 bits allow, and S with high bits."""
+    s = number(signature[32:])
+    for more in range(ORDER, 2**256 - s, ORDER):
+        yield public, message, signature[:32] + little(s + more)
+    for bit in (253, 254, 255):
+        yield public, message, signature[:32] + little(s | 1 << bit)
+
+
+def small_points():
+    """The eight points of small order, encoded."""
+    for y in range(2, 99):
+        point = decode(little(y))
+        if point is not None:
+            points = [encode(multiple(count, multiple(ORDER, point))) for count in range(8)]
+            if len(set(points)) == 8:
+                return points
+
+
+def small(message):
+    """Signatures with S = 0 under keys of small order, by R of small order."""
+    for public in small_points():
+        for first in small_points():
+            yield public, message, first + little(0)
+
+
+def mixed(secret, message):
+    """Signatures by keys and nonces with a part of small order, made as the equation asks, and
+    without the part.
+    """
+    scalar = number(digest(secret)[:32]) % ORDER
+    for part in small_points()[1:]:
+        key = encode(add(multiple(scalar, BASE), decode(part)))
+        first = encode(multiple(7, BASE))
+        k = number(digest(first, key, message)) % ORDER
+        s = little((7 + k * scalar) % ORDER)
+        yield key, message, first + s
+        other = encode(add(multiple(7, BASE), multiple(k, decode(part))))
+        yield key, message, other + s
+        nonce = encode(add(multiple(7, BASE), decode(part)))
+        plain = encode(multiple(scalar, BASE))
+        k = number(digest(nonce, plain, message)) % ORDER
+        yield plain, message, nonce + little((7 + k * scalar) % ORDER)
+
+
+def unwritten(message, signature):
+    """Keys and R that write no point or aren't in their least form: y from 2^255 - 19 on, x = 0
+    with its sign, no root.
+    """
+    kinds = [little(y) for y in range(P, 2**255)] + [little(y | 1 << 255) for y in range(P, 2**255)]
+    kinds += [little(1 | 1 << 255), little(P - 1 | 1 << 255)
+              ] + [little(y) for y in range(2, 30) if decode(little(y)) is None]
+    for data in kinds:
+        yield data, message, little(1) + little(0)
+        yield data, message, data + little(0)
+        yield little(1), message, data + signature[32:]
+
+
+def sections():
+    known = vectors()
+    secrets = [vector[0] for vector in known]
+    yield "key", [
+        key_row(data)
+        for data in secrets + [b"", b"\x07" * 31, b"\x07" * 33, b"\0" * 32, b"\xff" * 32]
+    ]
+    messages = [
+        b"\0" * length for length in (0, 1, 47, 48, 63, 64, 79, 80, 111, 112, 127, 128, 239, 240)
+    ]
+    yield "signature", [signature_row(vector[0], vector[2])
+                        for vector in known] + [signature_row(secrets[1], one) for one in messages]
+    triples = [(vector[1], vector[2], vector[3]) for vector in known]
+    rows = list(triples)
+    for triple in (triples[2], triples[4]):
+        rows += changed(*triple)
+    for triple in triples[:3]:
+        rows += [*sizes(*triple), *later(*triple)]
+    rows += [
+        *small(b""), *small(b"metadata"), *mixed(secrets[0], b"metadata"),
+        *unwritten(b"metadata", triples[0][2])
+    ]
+    yield "verified", [verified_row(*row) for row in rows]
+
+
+def drawn(word, count):
+    draw = random.Random(word)
+    signatures, checks, keys = [], [], []
+    for _ in range(count):
+        secret, message = draw.randbytes(32), draw.randbytes(draw.randrange(300))
+        public, signature = public_of(secret), sign(secret, message)
+        keys.append(key_row(secret))
+        signatures.append(signature_row(secret, message))
+        checks.append(verified_row(public, message, signature))
+        at = draw.randrange(96 + len(message))
+        data = turned(public + signature + message, at, 1 << draw.randrange(8))
+        checks.append(verified_row(data[:32], data[96:], data[32:96]))
+    return [("key", keys), ("signature", signatures), ("verified", checks)]
+
+
+def stdin(parts):
+    return "\n# " + "\n# ".join(f"{call}\n" + "".join(row + "\n" for row in rows)
+                                for call, rows in parts)
+
+
+def stdout(parts):
+    return "".join(f"{call}: {len(rows)}\n" for call, rows in parts)
+
+
+def compare(program, parts):
+    """What the program tells of the rows: how many of each section are answered as they want,
+    and those that aren't.
+    """
+    told = subprocess.run([program],
+                          input=stdin(parts),
+                          capture_output=True,
+                          text=True,
+                          check=False).stdout
+    asked = sum(len(rows) for _, rows in parts)
+    right = sum(
+        int(line.rpartition(": ")[2]) for line in told.splitlines()
+        if line.rpartition(": ")[0] in dict(parts))
+    if told != stdout(parts):
+        print(told[:3000], end="")
+    print("%d passed, %d failed" % (right, asked - right))
+    return 0 if told == stdout(parts) else 1
+
+
+def stand(writes):
+    """Compares the files of the crate with what is made here, or writes them."""
+    parts, wrong = list(sections()), 0
+    for name, text in (("stdin", stdin(parts)), ("stdout", stdout(parts))):
+        if writes:
+            (CRATE / name).write_text(text, encoding="ascii")
+        elif (CRATE / name).read_text(encoding="ascii") != text:
+            print("%s isn't what this program makes" % name)
+            wrong += 1
+    print("%d passed, %d failed" % (2 - wrong, wrong))
+    return 1 if wrong else 0
+
+
+def main(words: arguments.Words = None) -> int:
+    """Compares the rows that stand, writes them, or gives a program rows that are drawn."""
+    asked = arguments.given(__doc__, words, program="tell", word="", count=1000)
+    if asked.program in ("tell", "write"):
+        return stand([asked.program] if asked.program == "write" else [])
+    return compare(asked.program, drawn(asked.word, asked.count))

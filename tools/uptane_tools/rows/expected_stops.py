@@ -1,0 +1,111 @@
+"""Computes the rows of runs over files that stop, and what they want, by the rules
+(`reference.py`) and the formats alone. The rows are the standard input of the crate
+`up_test_stops`.
+
+    tools/run expected_stops           tells where the crate's standard input or output is another
+    tools/run expected_stops write     writes both
+
+A run's lines are answered once, and again after each of its beginnings, which has to be the same
+each time. Each line writes, so a log that stops does so in each of them; a database file is read
+while it is opened, and written while it is closed. A section that is wrong on purpose has to be
+told as that.
+"""
+
+from uptane_tools import TOP, arguments
+from uptane_tools.trial import each_line
+from uptane_tools.rows import expected_streams
+from uptane_tools.rows import row_texts
+
+CRATE = TOP / "crates" / "up_test_stops"
+AT, P1, ZEROS = expected_streams.AT, expected_streams.P1, 64 * "0"
+
+
+def bench(counter):
+    report = {
+        "counter": counter, "ecu": "P1", "file": "factory.bin", "key": P1.hex(), "length": 0,
+        "sha256": row_texts.NOTHING, "time": AT
+    }
+    line = {
+        "at": AT, "counter": counter, "do": "bench", "key": P1.hex(), "primary": "P1", "reports":
+        [report], "vehicle": "V1"
+    }
+    return row_texts.canonical(line)
+
+
+LINES = [expected_streams.FOUND, expected_streams.VEHICLE, bench(1), bench(2)]
+
+
+def answers(lines):
+    """What each line is answered, with the text of a reply behind its line."""
+    desk = each_line.Desk()
+    return [desk.answer(it.encode()).replace("\n", " ") for it in lines]
+
+
+def steps():
+    """Each line with what it is answered the first time and again, and each view with what it
+    shows.
+    """
+    once = answers(LINES)
+    again = answers(LINES + LINES)[len(LINES):]
+    for number in range(len(LINES) + 1):
+        told = answers(LINES[:number] + LINES)[number:]
+        assert told == again[:number] + once[number:], number
+    assert answers(3 * LINES)[2 * len(LINES):] == again
+    assert again == ["refused 9 AlreadyFounded", "already"] + once[2:]
+    found = [("do " + line, first, second) for line, first, second in zip(LINES, once, again)]
+    return found + [("version V1", "2"), ("installed P1", "factory.bin 0 " + row_texts.NOTHING)]
+
+
+def wrong(steps, row, **other):
+    """The steps with another answer to one row, and what is told of it."""
+    changed = list(steps)
+    asked, first, again = (*steps[row - 1], None)[:3]
+    changed[row - 1] = (asked, other.get("first",
+                                         first), *([other.get("again", again)] if again else []))
+    return changed, "row %d is answered %s" % (row, again if "again" in other else first)
+
+
+def computed():
+    """The standard input and output."""
+    good = steps()
+    reply = good[3][2]
+    controls = [
+        ("another answer", *wrong(good, 2, first="already")),
+        ("another answer again", *wrong(good, 2, again="done")),
+        ("another reply again",
+         *wrong(good, 4, again=reply.replace(reply.split('"sig":"')[1][:64], ZEROS))),
+        ("another version", *wrong(good, 5, first="3")),
+        ("another image", *wrong(good, 6, first="factory.bin 0 " + ZEROS)),
+    ]
+    given = section("two manifests", good)
+    told = places("two manifests", len(LINES))
+    for words, rows, says in controls:
+        words = "wrong on purpose, " + words
+        given += section(words, rows)
+        told += "".join("%s, a %s that stops: after 0 calls %s\n" % (words, file, says)
+                        for file in ("log", "database file"))
+    return given, told
+
+
+def section(words, rows):
+    return "\n# %s\n" % words + "".join(" => ".join(row) + "\n" for row in rows)
+
+
+def places(words, number):
+    """Where each file stops: while it is opened, in the lines, and while it is closed."""
+    lines = ["in row %d" % row for row in range(1, number + 1)]
+    log = "%s, a log that stops: %s\n" % (words, ", ".join(
+        ["while it is opened", *lines, "while it is closed"]))
+    return log + "%s, a database file that stops: while it is opened, while it is closed\n" % words
+
+
+def main(words: arguments.Words = None) -> int:
+    """Compares the crate's rows, or writes them."""
+    texts = dict(zip(("stdin", "stdout"), computed()))
+    if arguments.given(__doc__, words, order=["tell", "write"]).order == "write":
+        for name, text in texts.items():
+            (CRATE / name).write_text(text, encoding="ascii")
+        return 0
+    others = [it for it in texts if (CRATE / it).read_text(encoding="ascii") != texts[it]]
+    print("".join("%s: another %s\n" % (CRATE, name) for name in others), end="")
+    return len(others)

@@ -1,0 +1,399 @@
+"""Tries the configurations of `examples/service`: the program behind each proxy that is
+installed, and the units.
+
+    tools/run proxy_cases PROGRAM
+
+Hundreds of clients that send nothing, a part or a byte a second, or that read nothing, stay at
+the proxy while vehicles' requests are sent through it. Of the configurations addresses, paths
+and the user are changed, and nothing else. What isn't installed (nginx, haproxy,
+systemd-analyze; openssl, without which the proxies are tried without TLS) is left out, and told.
+Takes half a minute.
+"""
+import contextlib
+import http.client
+import os
+import re
+import resource
+import shutil
+import socket
+import ssl
+import subprocess
+import tempfile
+import threading
+import time
+from concurrent.futures import ThreadPoolExecutor
+from pathlib import Path
+
+from uptane_tools import arguments
+from uptane_tools.trial import http_cases
+from uptane_tools.trial import trials
+
+GIVEN = trials.TOP / "examples" / "service"
+MANIFEST, REPLY = ((trials.MESSAGES / name).read_bytes().strip()
+                   for name in ("manifest.json", "reply.json"))
+STRANGERS, AT_ONCE, ROUNDS, PATIENCE, SLOWEST, HUNDRED = 40, 300, 20, 60, 10, 100
+
+
+class Proxy:
+    """A proxy at a port, before a service at another one."""
+
+    def __init__(self, own, name, port, service, secret):
+        self.own, self.name, self.port, self.service, self.secret = own, name, port, service, secret
+        # (nobody need listen there)
+        self.logged = 9
+
+    def words(self):
+        text = self.changed(
+            (GIVEN / ("nginx.conf" if self.name == "nginx" else "haproxy.cfg")).read_text("ascii"))
+        path = self.own / (self.name + ".conf")
+        path.write_text(text, "ascii")
+        return ["nginx", "-p", str(self.own), "-c", str(path)] if self.name == "nginx" else [
+            "haproxy", "-db", "-f", str(path)
+        ]
+
+    def changed(self, text):
+        """The configuration with other addresses, paths and user."""
+        own, there = str(self.own), "127.0.0.1:%d" % self.port
+        text = text.replace("127.0.0.1:8080", "127.0.0.1:%d" % self.service)
+        if self.name == "haproxy":
+            text = text.replace("log /dev/log local0", "log 127.0.0.1:%d local0" % self.logged)
+            bound = there + (" ssl crt %s/both.pem" % own if self.secret else "")
+            return text.replace(":443 ssl crt /etc/uptane/both.pem", bound)
+        text = text.replace("listen 443 ssl",
+                            "listen %s%s" % (there, " ssl" if self.secret else ""))
+        text = text.replace("/etc/uptane/", own +
+                            "/") if self.secret else re.sub(r"(?m)^ *ssl_.*\n", "", text)
+        text = text.replace("/var/log/nginx/", own + "/").replace("/run/nginx.pid",
+                                                                  own + "/nginx.pid")
+        text = text.replace("user www-data;", "user root;" if os.getuid() == 0 else "")
+        kept = "".join("    %s_temp_path %s/%s;\n" % (it, own, it)
+                       for it in ("client_body", "proxy", "fastcgi", "uwsgi", "scgi"))
+        return "daemon off;\n" + text.replace("http {\n", "http {\n" + kept, 1)
+
+    @contextlib.contextmanager
+    def running(self):
+        """The proxy, once it takes connections."""
+        with open(self.own / (self.name + ".out"), "wb") as out:
+            it = subprocess.Popen(self.words(), stdout=out, stderr=out)
+        try:
+            for _ in range(100):
+                with contextlib.suppress(OSError), socket.create_connection(
+                    ("127.0.0.1", self.port), timeout=1):
+                    break
+                time.sleep(0.1)
+            yield it
+        finally:
+            it.terminate()
+            it.wait()
+
+    def connected(self):
+        plain = socket.create_connection(("127.0.0.1", self.port), timeout=PATIENCE)
+        if not self.secret:
+            return plain
+        trusting = ssl.create_default_context(cafile=str(self.own / "certificate.pem"))
+        return trusting.wrap_socket(plain, server_hostname="desk.example")
+
+    def client(self):
+        """Python's client, over a connection of this kind."""
+        client = http.client.HTTPConnection("desk.example", timeout=PATIENCE)
+        client.sock = self.connected()
+        return client
+
+
+def certified(own):
+    """Makes a certificate of the name that the configurations have; whether it could."""
+    if not shutil.which("openssl"):
+        return False
+    words = [
+        "openssl", "req", "-x509", "-newkey", "rsa:2048", "-nodes", "-days", "2", "-subj",
+        "/CN=desk.example"
+    ]
+    words += [
+        "-addext", "subjectAltName=DNS:desk.example", "-keyout",
+        str(own / "key.pem"), "-out",
+        str(own / "certificate.pem")
+    ]
+    subprocess.run(words, check=True, capture_output=True)
+    (own / "both.pem").write_bytes((own / "certificate.pem").read_bytes() +
+                                   (own / "key.pem").read_bytes())
+    return True
+
+
+def asked(proxy, method, target, body=None, times=1, **more):
+    """The answers to a request, so many times over one connection of the client's."""
+    with contextlib.closing(proxy.client()) as client:
+        told = []
+        for _ in range(times):
+            client.request(method, target, body, **more)
+            came = client.getresponse()
+            told.append((came.status, came.read()))
+        return told
+
+
+def timed(*words, **more):
+    begun = time.monotonic()
+    return asked(*words, **more), time.monotonic() - begun
+
+
+# what vehicles and others ask, and how it is answered
+def exchanges(root):
+    large = b'{"error":4,"text":"TooLarge"}'
+    return [("POST", "/director/manifest", MANIFEST, (200, REPLY)),
+            ("GET", "/image/root.json?a=%20", None, (200, root)),
+            ("POST", "/director/manifest", b"{", (400, b'{"error":5,"text":"NotJson"}')),
+            ("GET", "/nothing", None, (404, b'{"error":0,"text":"not found"}')),
+            ("POST", "/director/manifest", 262144 * b" ", (400, b'{"error":5,"text":"NotJson"}')),
+            ("POST", "/director/manifest", 262145 * b" ", (413, large))]
+
+
+# ---- clients that stay
+
+HEAD = b"POST /director/manifest HTTP/1.1\r\nHost: desk.example\r\nContent-Length: %d\r\n" % len(
+    MANIFEST)
+TARGETS = b"GET /image/targets.json HTTP/1.1\r\nHost: desk.example\r\n\r\n"
+BEGUN = [b"", HEAD[:20], HEAD + b"\r\n" + MANIFEST[:100], 50 * TARGETS]
+
+
+class Strangers:
+    """Clients that send nothing, half a head, half a body, a byte a second, or that read nothing
+    of fifty answers.
+    """
+
+    def __init__(self, proxy):
+        self.proxy, self.left, self.all = proxy, threading.Event(), []
+
+    def __enter__(self):
+        with ThreadPoolExecutor(16) as pool:
+            self.all = list(pool.map(self.come, (STRANGERS * BEGUN) + STRANGERS * [None]))
+        self.dripping = threading.Thread(target=self.drip)
+        self.dripping.start()
+        return self
+
+    def come(self, begun):
+        client = self.proxy.connected()
+        if begun:
+            client.sendall(begun)
+        return begun is None, client
+
+    def drip(self):
+        for at in range(len(HEAD)):
+            for drips, client in self.all:
+                with contextlib.suppress(OSError):
+                    if drips:
+                        client.sendall(HEAD[at:at + 1])
+            if self.left.wait(1):
+                return
+
+    def __exit__(self, *_):
+        self.left.set()
+        self.dripping.join()
+        for _, client in self.all:
+            client.close()
+
+
+def passes(proxy, root):
+    """Each case with whether requests pass the proxy as they should."""
+    name = proxy.name
+    yield name + ": each kind of request", all(
+        asked(proxy, *words) == [wanted] for *words, wanted in exchanges(root))
+    kept = asked(proxy, "GET", "/image/root.json", times=5)
+    yield name + ": a client keeps its connection", kept == 5 * [(200, root)]
+    chunks = asked(proxy,
+                   "POST",
+                   "/director/manifest",
+                   iter([MANIFEST[:100], MANIFEST[100:]]),
+                   encode_chunked=True,
+                   headers={"Transfer-Encoding": "chunked"})
+    unchunked = {"nginx": (200, REPLY), "haproxy": (501, b'{"error":0,"text":"not implemented"}')}
+    yield name + ": a body in chunks", chunks == [unchunked[name]]
+    with Strangers(proxy) as strangers, ThreadPoolExecutor(8) as pool:
+        time.sleep(1)
+        told = list(
+            pool.map(lambda words: (timed(proxy, *words[:-1]), words[-1]),
+                     ROUNDS * exchanges(root)))
+        well = all(came == [wanted] and after < SLOWEST for (came, after), wanted in told)
+        words = name, len(told), len(strangers.all), max(after for (_, after), _ in told)
+        print("%s: %d requests beside %d strangers, the slowest took %.2f seconds" % words,
+              flush=True)
+        yield name + ": requests beside clients that hold their connections", well
+    with ThreadPoolExecutor(AT_ONCE) as pool:
+        told = list(
+            pool.map(lambda _: timed(proxy, "POST", "/director/manifest", MANIFEST),
+                     range(AT_ONCE)))
+        print("%s: %d at once, the slowest took %.2f seconds" %
+              (name, AT_ONCE, max(after for _, after in told)),
+              flush=True)
+        yield name + ": many at once", all(came == [(200, REPLY)] for came, _ in told)
+
+
+def limited(proxy):
+    """A vehicle whose address begins with its identifier: its requests are limited, and it
+    stands in the log.
+    """
+    name, target = proxy.name, "/%s/director/manifest"
+    yield name + ": an address of a vehicle", asked(proxy, "POST", target % "VIN-1",
+                                                    MANIFEST) == [(200, REPLY)]
+    with ThreadPoolExecutor(8) as pool:
+        told = [
+            it for its in pool.map(lambda _: asked(proxy, "POST", target % "VIN-2", MANIFEST),
+                                   range(150)) for it in its
+        ]
+    answered = sum(it == (200, REPLY) for it in told)
+    yield name + ": one that asks without end is told so", 20 <= answered <= 100 and {
+        status
+        for status, _ in told
+    } == {200, 429}
+    yield name + ": others are answered as before", asked(
+        proxy, "POST", target % "VIN-3", MANIFEST) == asked(proxy, "POST", "/director/manifest",
+                                                            MANIFEST) == [(200, REPLY)]
+
+
+def listed(proxy, log):
+    """The log has the vehicles, with the status of their answers."""
+    lines = (proxy.own / "access.log").read_text("ascii") if log is None else log()
+    found = {
+        it: set(re.findall(r"vehicle=%s .*status=(\d+)" % it, lines))
+        for it in ("VIN-1", "VIN-2", "VIN-3")
+    }
+    yield proxy.name + ": the log has each vehicle", found == {
+        "VIN-1": {"200"}, "VIN-2": {"200", "429"}, "VIN-3": {"200"}
+    } or print(found)
+
+
+@contextlib.contextmanager
+def logging(proxy):
+    """What gives all lines that HAProxy sent."""
+    with socket.socket(socket.AF_INET, socket.SOCK_DGRAM) as one:
+        one.setsockopt(socket.SOL_SOCKET, socket.SO_RCVBUF, 1 << 22)
+        one.bind(("127.0.0.1", 0))
+        one.settimeout(2)
+        proxy.logged = one.getsockname()[1]
+
+        def lines():
+            made = []
+            with contextlib.suppress(TimeoutError):
+                while True:
+                    made.append(one.recv(65536).decode("ascii", "replace"))
+            return "\n".join(made)
+
+        yield lines if proxy.name == "haproxy" else None
+
+
+def proxied(program, own, name, secret):
+    """The cases of one proxy, before a service of its own that is started again in the end."""
+    path = trials.copied(own / "first", own / (name + ".db"))
+    root = http_cases.root_text()
+    with contextlib.ExitStack() as up:
+        service = up.enter_context(http_cases.served(program, path, 100_000))
+        proxy = Proxy(own, name, http_cases.free_port(), service.port, secret)
+        log = up.enter_context(logging(proxy))
+        up.enter_context(proxy.running())
+        yield from limited(proxy)
+        yield from listed(proxy, log)
+        yield from passes(proxy, root)
+        words = [str(program), "serve", str(path), str(service.port), "100000"]
+        with up.enter_context(ThreadPoolExecutor(10)) as pool:
+            service.kill()
+            service.wait()
+            if name == "nginx":
+                (status, _), = asked(proxy, "GET", "/image/root.json")
+                yield name + ": no service is the proxy's own answer", status == 502
+            waits = [
+                pool.submit(asked, proxy, "GET", "/image/root.json")
+                for _ in range(10 if name == "haproxy" else 0)
+            ]
+            time.sleep(1)
+            again = begun(up, words)
+            yield name + ": a service that is started again", asked(proxy, "GET",
+                                                                    "/image/root.json") == [(200,
+                                                                                             root)]
+            yield from over_a_restart(proxy, pool, again, words, up, waits,
+                                      root) if name == "haproxy" else ()
+
+
+def begun(up, words):
+    """The service, once it listens; it ends with the rest."""
+    running = up.enter_context(subprocess.Popen(words, stdout=subprocess.PIPE))
+    up.callback(running.kill)
+    running.stdout.readline()
+    return running
+
+
+def over_a_restart(proxy, pool, running, words, up, waits, root):
+    """While the service starts anew, requests wait in HAProxy's queue: none is refused."""
+    yield "haproxy: ten that came before it was there", all(it.result() == [(200, root)]
+                                                            for it in waits)
+    sent = [
+        pool.submit(asked, proxy, "POST", "/director/manifest", MANIFEST) for _ in range(HUNDRED)
+    ]
+    while not any(it.done() for it in sent):
+        time.sleep(0.001)
+    running.kill()
+    running.wait()
+    time.sleep(1.5)
+    begun(up, words)
+    before = sum(it.done() for it in sent)
+    well = [it.result() for it in sent] == HUNDRED * [[(200, REPLY)]]
+    print("haproxy: %d of %d were answered before the service was there again" % (before, HUNDRED))
+    yield "haproxy: a hundred requests over a restart, none is refused", well and before < HUNDRED
+
+
+# ---- units
+
+
+def units(program, own):
+    """What systemd says of the units, with the program and the scripts in their places."""
+    given = sorted(it for it in [*GIVEN.glob("uptane-desk*"), *GIVEN.glob("several/uptane-desk*")]
+                   if it.suffix in (".service", ".timer", ".path"))
+    names = []
+    for path in given:
+        text = path.read_text("ascii").replace("/usr/bin/uptane_desk", str(Path(program).resolve()))
+        names.append(own / path.name.replace("@.", "@1."))
+        names[-1].write_text(text.replace("/usr/lib/uptane_desk/", str(GIVEN) + "/"), "ascii")
+    ran = subprocess.run(["systemd-analyze", "verify", "--man=no", *map(str, names)],
+                         capture_output=True,
+                         text=True,
+                         check=False,
+                         timeout=60)
+    own_lines = [line for line in ran.stderr.splitlines() if "uptane-desk" in line]
+    print("".join(line + "\n" for line in own_lines), end="")
+    yield "systemd verifies the units", len(names) == 11 and ran.returncode == 0 and not own_lines
+
+
+def shells():
+    scripts = sorted(GIVEN.glob("*.sh"))
+    yield "a shell reads the scripts", len(scripts) == 6 and all(
+        subprocess.run(["sh", "-n", str(it)], check=False).returncode == 0 for it in scripts)
+    if shutil.which("shellcheck"):
+        ran = subprocess.run(["shellcheck", "-s", "sh", *map(str, scripts)],
+                             capture_output=True,
+                             check=False)
+        print(ran.stdout.decode("utf-8"), end="")
+        yield "shellcheck finds nothing in them", ran.returncode == 0
+
+
+def cases(program):
+    soft, hard = resource.getrlimit(resource.RLIMIT_NOFILE)
+    resource.setrlimit(resource.RLIMIT_NOFILE, (max(soft, min(hard, 8192)), hard))
+    with tempfile.TemporaryDirectory() as folder:
+        own = Path(folder)
+        own.chmod(0o755)
+        trials.printed(program, own / "first", http_cases.FIRST_PATH)
+        secret = certified(own)
+        if not secret:
+            print("no openssl, so no TLS")
+        for name in ("nginx", "haproxy"):
+            if shutil.which(name):
+                yield from proxied(program, own, name, secret)
+            else:
+                print("%s isn't installed, so it is left out" % name)
+        yield from shells()
+        if shutil.which("systemd-analyze"):
+            yield from units(program, own)
+        else:
+            print("systemd-analyze isn't installed, so no units are verified")
+
+
+def main(words: arguments.Words = None) -> int:
+    """Tries the program that is named."""
+    return trials.tried(__doc__, words, "proxy", cases)

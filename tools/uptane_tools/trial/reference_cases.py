@@ -1,0 +1,205 @@
+"""Tries the reference as whoever has no kit uses it: `tools/run reference` over scripts and over
+HTTP. Needs no program.
+
+    tools/run reference_cases
+
+Each script of `examples/` and `rows/` prints what stands beside it. Over HTTP the exchanges that
+`docs/integrate/HTTP.md` shows and the clients of `tools/run http_cases` find what they find of
+the program, and the requests of the tests of `up_http` and `up_service` have the answers that
+these want.
+"""
+import re
+import sqlite3
+import subprocess
+import sys
+from concurrent.futures import ThreadPoolExecutor
+from contextlib import closing
+
+from uptane_tools import arguments
+from uptane_tools.trial import http_cases
+from uptane_tools.oracle import reference
+from uptane_tools.oracle import reference_http
+from uptane_tools.trial import trials
+
+LABEL = reference.LABEL.encode()
+# the reference under the name of a program, without the line on standard error that says what it is
+WITHOUT_LABEL = """#!%s
+import sys
+sys.path.insert(0, %r)
+from uptane_tools.oracle import reference
+reference.LABEL = ""
+sys.exit(reference.main(sys.argv[1:]))
+""" % (sys.executable, str(trials.RUN.parent))
+
+
+def ran(*words, given=b""):
+    done = subprocess.run([sys.executable, trials.RUN, "reference", *words],
+                          input=given,
+                          capture_output=True,
+                          check=False,
+                          timeout=http_cases.PATIENCE)
+    return done.returncode, done.stdout, done.stderr
+
+
+def asked():
+    for wrong in ([], ["run"], ["serve", "x"], ["serve", "x",
+                                                "0"], ["serve", "x",
+                                                       "65536"], ["serve", "x", "80",
+                                                                  "0"], ["digest", "x"]):
+        status, out, err = ran(*wrong)
+        yield "no words of it: %s" % " ".join(wrong), (status, out) == (2,
+                                                                        b"") and b"usage: " in err
+    cannot = LABEL + b"uptane_desk: cannot open the database\n"
+    yield "a file that can't be opened", ran("run", "/nowhere/desk") == (3, b"", cannot)
+
+
+def scripts():
+    """What each script prints, and that standard error says what answers."""
+    found = [
+        it.parent
+        for it in sorted([*trials.TOP.glob("examples/*/script"), *trials.TOP.glob("rows/*/script")])
+        if not (it.parent / "under").exists()
+    ]
+    with ThreadPoolExecutor(2) as pool:
+        made = pool.map(
+            lambda folder: ran("run", ":memory:", given=(folder / "script").read_bytes()), found)
+        for folder, told in zip(found, made, strict=True):
+            yield "the script %s" % folder.relative_to(trials.TOP), told == (0, (
+                folder / "printed").read_bytes(), LABEL)
+
+
+def over_http():
+    with trials.folder() as own:
+        program = own / "reference"
+        program.write_text(WITHOUT_LABEL, encoding="ascii")
+        program.chmod(0o755)
+        trials.printed(program, own / "first", http_cases.FIRST_PATH)
+        with ThreadPoolExecutor(4) as pool:
+            tried = [(it,
+                      pool.submit(http_cases.goes_well, it, program,
+                                  trials.copied(own / "first", own / it.__name__)))
+                     for it in http_cases.CLIENTS]
+            for client, well in tried:
+                yield client.__doc__.strip().rstrip("."), well.result()
+        yield from http_cases.exchanges(program, own / "first")
+
+
+def by_the_page():
+    """The two commands with which the page for integrators begins: the second one answers a
+    request.
+    """
+    page = (trials.TOP / "docs" / "integrate" /
+            "PRIMARY.md").read_text(encoding="ascii").split("\n## ")[0]
+    first, second = re.findall(r"(?m)^    (.+)$", page)
+    with trials.folder() as own:
+
+        def placed(command, port=8080):
+            return command.replace("desk.db", str(own / "desk")).replace("8080", str(port))
+
+        ran = subprocess.run(["bash", "-c", placed(first)],
+                             capture_output=True,
+                             check=False,
+                             cwd=trials.TOP,
+                             timeout=http_cases.PATIENCE)
+        yield "the page's first command", (ran.returncode, ran.stdout) == (
+            0, b"done\ndone\nreply V1 version 1 targets 0\n")
+        with http_cases.served([*placed(second).split()[:2]], own / "desk", 1) as running:
+            came = http_cases.told(running, http_cases.GET_ROOT)
+            yield "the page's second command", placed(second, running.port).split()[2:] == [
+                "serve", str(own / "desk"), str(running.port)
+            ] and b'"type":"root"' in came
+
+
+# ---- the requests that tests of crates make
+
+
+def rows(crate, section):
+    """What the rows of a section of a crate's input ask, and what they want."""
+    told = (trials.TOP / "crates" / crate / "stdin").read_text(encoding="utf-8")
+    part = re.search(r"(?ms)^# %s\n(.*?)(?=^# |\Z)" % re.escape(section), told)
+    return [tuple(line.split(" => ", 1)) for line in part[1].split("\n")
+            if " => " in line] if part else []
+
+
+def unfolded(text):
+    """The bytes that a row means."""
+    before = None
+    while before != text:
+        before, text = text, re.sub(r"<\*(\d+)\*((?:(?!<\*).)*?)\*>",
+                                    lambda it: it[2] * int(it[1]),
+                                    text,
+                                    flags=re.DOTALL)
+    text = text.replace("|", "\r\n").replace("\\n", "\n").replace("\\t", "\t").encode()
+    return re.sub(rb"\\x(..)", lambda it: bytes([int(it[1], 16)]), text)
+
+
+def written(asked):
+    """A request as the rows of `up_http` write it."""
+    what = asked.what
+    words = "%s %s" % what if isinstance(
+        what, tuple) else "manifest %d" % len(what) if isinstance(what, bytes) else ""
+    words = words or str(
+        reference_http.CHECKS[what][0]) + (" " + asked.allow if asked.allow else "")
+    return words + " head" * asked.head + " last" * asked.last + ";"
+
+
+def requests():
+    """How bytes are cut into requests, whatever the pieces in which they come."""
+    for section in ("requests cut at every byte", "requests in pieces"):
+        found = rows("up_test_http", section)
+        yield "rows of %s" % section, len(found) > 10
+        for asked, wanted in found:
+            given, wanted = unfolded(asked), re.sub(r"^\d+ bytes, ", "", wanted)
+            yield "request: %s" % asked[:80], all(
+                cut(given, size) == wanted
+                for size in ((1, 7, 8192) if len(given) < 1000 else (8192, )))
+
+
+def cut(given, size):
+    stream = reference_http.Stream()
+    pieces = [given[at:at + size] for at in range(0, len(given), size)]
+    found = [it for piece in pieces for it in stream.feed(piece)] + list(stream.feed(b"", True))
+    return "%d: %s" % (len(found), "".join(map(written, found)))
+
+
+def streams():
+    """The answers to streams, over a desk after the lines of the same section."""
+    number = 0
+    told = (trials.TOP / "crates" / "up_test_stream" / "stdin").read_text(encoding="utf-8")
+    for section in re.findall(r"(?m)^# (.+)$", told):
+        if "on purpose" in section:
+            continue
+        with closing(sqlite3.connect(":memory:")) as db:
+            desk = reference.Desk(db)
+            for asked, wanted in rows("up_test_stream", section):
+                word, _, given = asked.partition(" ")
+                if word == "do":
+                    desk.answer(given)
+                elif word in ("whole", "slow", "cut"):
+                    number += 1
+                    yield "%s: %s" % (section, asked[:60]), answers(
+                        desk, unfolded(given)) == unfolded(wanted)
+    yield "rows of streams", number > 40
+
+
+def answers(desk, given):
+    found = [
+        reference_http.answer(desk, 1767225600, it)
+        for it in reference_http.Stream().feed(given, True)
+    ]
+    return b"%d: " % len(found) + b"".join(found)
+
+
+def cases():
+    yield from asked()
+    yield from scripts()
+    yield from over_http()
+    yield from by_the_page()
+    yield from requests()
+    yield from streams()
+
+
+def main(words: arguments.Words = None) -> int:
+    """Tries them."""
+    arguments.given(__doc__, words)
+    return trials.judged("reference", cases())

@@ -1,0 +1,110 @@
+"""What the tools that try the program from outside have in common."""
+import shutil
+import sqlite3
+import subprocess
+import tempfile
+from contextlib import closing, contextmanager
+from pathlib import Path
+
+from uptane_tools import RUN, TOP, arguments
+from uptane_tools.oracle import reference
+from uptane_tools.operate import statements
+
+__all__ = ["RUN", "TOP"]
+TABLES = [statements.table_of(statement) for statement in statements.schema()]
+# the examples of the scheme that is tried: the first path, and the messages of the small Primary
+FIRST_PATH, MESSAGES = (TOP / "examples" / it for it in {
+    "hmac-sha256": ("first_path", "primary"), "ed25519": ("first_path_ed25519", "primary/ed25519")
+}[reference.METHOD])
+NO_DATABASE = b"uptane_desk: cannot open the database\n"
+
+
+def run(program, path, script, limit=120):
+    """The status, the bytes printed and the message of a script, given as lines, over a database.
+    """
+    words = [str(program), "run", str(path)]
+    given = b"".join(
+        (line if isinstance(line, bytes) else line.encode()) + b"\n" for line in script)
+    ran = subprocess.run(words, input=given, capture_output=True, check=False, timeout=limit)
+    return ran.returncode, ran.stdout, ran.stderr
+
+
+def printed(program, path, script, limit=120):
+    """The lines printed; none where the run didn't end well."""
+    status, out, err = run(program, path, script, limit)
+    return None if status or err else out.decode("ascii").split("\n")[:-1]
+
+
+def expected(path, script):
+    """The lines that the rules print, over tables of SQLite's own."""
+    with closing(sqlite3.connect(path)) as db:
+        desk = reference.Desk(db)
+        return [desk.answer(line) for line in script if line]
+
+
+@contextmanager
+def folder(within=None):
+    """A new folder, in the usual place or in that one."""
+    with tempfile.TemporaryDirectory(dir=within) as name:
+        yield Path(name)
+
+
+def log_of(path):
+    return Path(str(path) + "-wal")
+
+
+def copied(path, to):
+    """A copy of the database, with its log where it has one."""
+    shutil.copy(path, to)
+    if log_of(path).exists():
+        shutil.copy(log_of(path), log_of(to))
+    return to
+
+
+@contextmanager
+def read(path):
+    """A connection of SQLite's own to a copy of the database, so that the file and its log stay
+    as they are.
+    """
+    with folder(Path(path).parent) as own, closing(sqlite3.connect(copied(path,
+                                                                          own / "copy"))) as db:
+        yield db
+
+
+def rows_in(db):
+    """All rows of all tables of a database."""
+    return {
+        table: sorted(map(tuple, db.execute("SELECT * FROM " + table)), key=repr)
+        for table in TABLES
+    }
+
+
+def rows(path):
+    """All rows of all tables of a file."""
+    with read(path) as db:
+        return rows_in(db)
+
+
+def faults(path):
+    """What SQLite finds wrong with the file."""
+    with read(path) as db:
+        found = [row for row in db.execute("PRAGMA integrity_check") if row != ("ok", )]
+        return found + db.execute("PRAGMA foreign_key_check").fetchall()
+
+
+def tried(doc, words, kind, cases, **usual):
+    """What a tool does whose words are a program and then such numbers: it judges the cases of
+    these.
+    """
+    asked = arguments.given(doc, words, "program", **usual)
+    return judged(kind, cases(Path(asked.program).resolve(), *(getattr(asked, it) for it in usual)))
+
+
+def judged(kind, cases):
+    """Prints each case and, last, how many passed; the status of the tool."""
+    passed = failed = 0
+    for name, well in cases:
+        print("%s: %s: %s" % (kind, name, "as it must be" if well else "DIFFERS"), flush=True)
+        passed, failed = passed + bool(well), failed + (not well)
+    print("%d passed, %d failed" % (passed, failed))
+    return 1 if failed else 0

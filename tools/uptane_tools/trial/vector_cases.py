@@ -1,0 +1,372 @@
+"""Tries the vectors of `vectors/`: by the small Primaries, and by the program where it takes
+them.
+
+    tools/run vector_cases [PROGRAM]
+
+They have to be what `tools/run make_vectors` makes. Without a PROGRAM the small Primaries alone
+are tried, with those of both schemes; the one in JavaScript where Node is installed. With
+SCHEME=ed25519 the program is uptane_desk_ed25519.
+"""
+import contextlib
+import copy
+import http.client
+import json
+import re
+import shutil
+import subprocess
+import types
+from contextlib import closing
+
+from uptane_tools import arguments
+from uptane_tools.measure import fleet
+from uptane_tools.trial import http_cases
+from uptane_tools.oracle import make_vectors
+from uptane_tools.oracle import reference
+from uptane_tools.oracle import schemes
+from uptane_tools.trial import small_primary
+from uptane_tools.trial import trials
+from uptane_tools.oracle import vector_fleet
+
+PRIMARY = trials.TOP / "examples" / "primary"
+envelopes, verify, primary = small_primary.modules()
+# the small Primary in Python, whose modules these are
+SMALL = types.SimpleNamespace(envelopes=envelopes, primary=primary, verify=verify)
+FOLDER = trials.TOP / "vectors"
+HMAC, METHOD = schemes.HmacSha256.method, reference.METHOD
+
+
+def vectors(name, method=None):
+    """The vectors of a name, of this scheme or of both."""
+    return json.loads((FOLDER / (method or "") / (name + ".json")).read_text(encoding="ascii"))
+
+
+def made():
+    yield "the vectors are those of the rules", make_vectors.main(["--check"]) == 0
+    shown = re.findall(r"(?s)```json\n(.*?)\n```", (trials.TOP / "docs" / "integrate" /
+                                                    "PRIMARY.md").read_text(encoding="ascii"))
+    of_primary = [path.read_text(encoding="ascii").strip() for path in PRIMARY.glob("**/*.json")]
+    texts = of_primary + [it["reply"] for it in vectors("replies", HMAC)["cases"]] + list(
+        vectors("chains", HMAC)["files of update"].values())
+    yield "the page shows eight messages", len(shown) == 8
+    for text in shown:
+        yield "the page shows %s.." % text[:60], any(text in it for it in texts)
+    found = {str(path.relative_to(FOLDER)) for path in FOLDER.rglob("*") if path.is_file()}
+    yield "there is no other file", found == make_vectors.names() | {"README.md"}
+
+
+# ---- the small Primary
+
+
+def by_primary():
+    for case in vectors("canonical_texts")["cases"]:
+        if "canonical" in case:
+            yield "canonical text: %(name)s" % case, envelopes.canonical(json.loads(
+                case["text"])) == case["canonical"]
+    for case in vectors("key_identifiers")["cases"]:
+        yield "key identifier: %(name)s" % case, envelopes.key_identifier(
+            bytes.fromhex(case["public"])) == case["keyid"]
+    for case in vectors("answers")["cases"]:
+        yield "answer: %(name)s" % case, answer_is_answered(SMALL, case)
+    for method in envelopes.SCHEMES:
+        yield from (("%s: %s" % (method, name), well) for name, well in under(method))
+
+
+def under(method):
+    """The vectors of a scheme."""
+    envelopes.use({"method": method})
+    scheme, told = envelopes.SCHEMES[method], vectors("signatures", method)
+    for case in told["signatures"]:
+        secret, public, data, sig = (bytes.fromhex(case[it])
+                                     for it in ("secret", "public", "data", "sig"))
+        well = (scheme.public_of(secret), scheme.sign(
+            secret, data)) == (public, sig) and scheme.verify(public, data, sig)
+        yield "signature: %(name)s" % case, well
+    for case in told.get("encodings", []):
+        yield "encoding: %(name)s" % case, scheme.verify(*(bytes.fromhex(case[it])
+                                                           for it in ("public", "data",
+                                                                      "sig"))) == case["verified"]
+    for case in told["envelopes"]:
+        if "refused" not in case:
+            signed = envelopes.is_signed_by(json.loads(case["envelope"]),
+                                            bytes.fromhex(told["key"]))
+            yield "envelope: %(name)s" % case, signed == case["signed_by_the_key"]
+    yield from verified(SMALL, method)
+    told = vectors("chains", method)
+    yield "a change of the repository between two requests", begins_again(told)
+    if told["vehicle"]["role_keys"]:
+        first = {
+            name: key
+            for name, key in told["vehicle"]["role_keys"].items()
+            if name in told["files of update"]["director/1.root.json"]
+        }
+        lacks = told | {"vehicle": told["vehicle"] | {"role_keys": first}}
+        yield "a Root whose keys the vehicle hasn't", verdict_of(
+            SMALL, lacks, {"base": "rotation"})[0] == "refused"
+
+
+def begins_again(told):
+    """Whether the small Primary verifies the Image repository where its Targets were of another
+    moment once, and not where they always are.
+    """
+    files = {name: envelopes.File(text) for name, text in told["files of update"].items()}
+    other = next(case["replace"] for case in told["cases"]
+                 if case["name"] == "the Image repository's Targets are of another moment")
+    found = []
+    for times in (1, 2):
+        mixed = times * [envelopes.File(other["image/targets.json"])]
+
+        def fetch(name):
+            return mixed.pop() if mixed and name == "image/targets.json" else files.get(name)
+
+        trust = {"root": files["image/1.root.json"], "versions": {}}
+        secrets = {name: bytes.fromhex(it) for name, it in told["vehicle"]["role_keys"].items()}
+        with contextlib.suppress(verify.Refused):
+            found.append(verify.image_repository(trust, fetch, secrets, told["now"])[0])
+    return found == [files["image/targets.json"]]
+
+
+def by_node():
+    """Whether the small Primary in JavaScript answers all of them."""
+    if shutil.which("node"):
+        words = [
+            "node", trials.TOP / "examples" / "primary_node" / "primary.mjs", "vectors", FOLDER
+        ]
+        ran = subprocess.run(words, capture_output=True, check=False, timeout=http_cases.PATIENCE)
+        counts = re.fullmatch(rb"([0-9]+) passed, 0 failed\n", ran.stdout)
+        yield "the small Primary in JavaScript", ran.returncode == 0 and not ran.stderr and bool(
+            counts) and int(counts[1]) > 100
+
+
+def verified(small, method):
+    """Whether this small Primary gives each chain and each image its verdict, and trusts then
+    what it has to.
+    """
+    told = vectors("chains", method)
+    for case in told["cases"]:
+        yield "%(attack)s: %(name)s" % case, chain_is_answered(small, told, case)
+    for case in told["contents"]:
+        yield "image: %(name)s" % case, image_is_answered(small, case)
+
+
+def image_is_answered(small, case):
+    try:
+        small.verify.check_image(case["target"], case["content"].encode())
+    except small.verify.Refused:
+        return case["verdict"] == "refused"
+    return case["verdict"] == "accepted"
+
+
+def answer_is_answered(small, case):
+    return small.primary.follows(case["status"], case["body"]) == (case["then"], case["value"])
+
+
+def chain_is_answered(small, told, case):
+    verdict, due, known = verdict_of(small, told, case)
+    wanted = (case["verdict"],
+              case.get("installs", told["installs"]) if case["verdict"] == "accepted" else None)
+    none = dict.fromkeys(("timestamp", "snapshot", "targets"), 0)
+    states = {
+        it: {"root": known[it]["root"]["signed"]["version"]} | none | known[it]["versions"]
+        for it in case["state"]
+    }
+    return (verdict, due) == wanted and states == case["state"]
+
+
+def vehicle_of(small, told, case, files):
+    """What the vehicle of a case knows."""
+    renamed, ecus = case.get("replaced", {}), copy.deepcopy(told["vehicle"]["ecus"])
+    for ecu in ecus:
+        name = ecu["ecu"]
+        ecu["installed"] |= case.get("installed", {}).get(name, {})
+        ecu["hardware"] = case.get("hardware", {}).get(name, ecu["hardware"])
+        ecu["ecu"] = renamed.get(name, name)
+    trust = {
+        it:
+        {"root": files(it + "/1.root.json"), "versions": dict(case.get("trusted", {}).get(it, {}))}
+        for it in reference.REPOSITORIES
+    }
+    return {"vehicle": told["vehicle"]["vehicle"], "ecus": ecus, "replaced": [*renamed]} | trust
+
+
+def verdict_of(small, told, case):
+    """What a small Primary says of a chain, what it would install, and what it trusts then."""
+    texts = told["files of " + case["base"]] | case.get("replace", {})
+
+    def files(name):
+        return small.envelopes.File(texts[name]) if texts.get(name) is not None else None
+
+    known = vehicle_of(small, told, case, files)
+    secrets = {name: bytes.fromhex(it) for name, it in told["vehicle"]["role_keys"].items()}
+    try:
+        reply = small.envelopes.reply_of(texts["reply"])
+        due = small.verify.verified(known, reply, files, secrets, case.get("now", told["now"]))
+    except small.verify.Old:
+        return "old", None, known
+    except small.verify.Refused:
+        return "refused", None, known
+    return "accepted", {ecu: target["file"] for ecu, target in due.items()}, known
+
+
+# ---- the program
+
+
+def delivered(body, at=None):
+    return fleet.line("deliver", at or vectors("manifests", METHOD)["at"], body=body)
+
+
+def of_text(secret, counter, case):
+    """A manifest of VIN-2 that has the text as a member more. One level of a text that is as
+    deep as may be is left to what is signed, which has it round the member.
+    """
+    payload = vector_fleet.payload_of("VIN-2", counter, vector_fleet.reports_of("VIN-2", counter))
+    texts = [case["text"], case.get("canonical", "[0]")]
+    if texts[0].startswith((14 * "[", 14 * '{"a":')):
+        texts = [it[1:-1] if it.startswith("[") else it[5:-1] for it in texts]
+    with_member = ['%s,"x":%s}' % (payload[:-1], it) for it in texts]
+    signature = json.loads(reference.sealed([secret], with_member[1]))["signatures"]
+    return '{"signatures":%s,"signed":%s}' % (reference.canonical(signature), with_member[0])
+
+
+def texts(program):
+    told, setup = vectors("canonical_texts")["cases"], vectors("manifests", METHOD)["setup"]
+    secret, version, lines, wanted = bytes.fromhex(vector_fleet.key(0xA4)), 0, [], []
+    for counter, case in enumerate(told, 1):
+        lines.append(delivered(of_text(secret, counter, case)))
+        version += "canonical" in case
+        number = {"NotJson": 5, "NotCanonical": 6}
+        wanted.append("refused %d %s" % (number[case["refused"]], case["refused"]) if "refused" in
+                      case else "reply VIN-2 version %d targets 0" % version)
+    printed = trials.printed(program, ":memory:", [*setup, *lines]) or []
+    for case, line, it in zip(told, printed[len(setup):] or len(told) * [None], wanted,
+                              strict=True):
+        yield "the program: canonical text: %(name)s" % case, line == it
+
+
+def identifiers(program):
+    keys = [case for case in vectors("key_identifiers")["cases"] if len(case["public"]) == 64]
+
+    def role(*given):
+        return {"keys": list(given), "threshold": 1}
+
+    roles = {it: role(vector_fleet.key(0x70 + at)) for at, it in enumerate(reference.ROLES)}
+    lines = [
+        fleet.line("found",
+                   director=roles | {"root": role(*(case["public"] for case in keys))},
+                   image=roles),
+        fleet.line("fetch", repository="director", file="root.json")
+    ]
+    printed = trials.printed(program, ":memory:", lines) or ["", "file null"]
+    root = json.loads(printed[1].removeprefix("file ")) or {}
+    yield "the program: key identifiers", bool(
+        root) and root["signed"]["roles"]["root"]["keyids"] == [case["keyid"] for case in keys]
+
+
+def signatures(program):
+    told = vectors("signatures", METHOD)
+    printed = trials.printed(
+        program, ":memory:",
+        [*told["setup"], *(delivered(case["envelope"]) for case in told["envelopes"])]) or []
+    for case, line in zip(told["envelopes"],
+                          printed[len(told["setup"]):] or len(told["envelopes"]) * [None],
+                          strict=True):
+        wanted = "reply VIN-2 version 1 targets 0" if case.get(
+            "signed_by_the_key") else "refused 12 BadManifestSignature"
+        yield "the program: envelope: %(name)s" % case, line == ("refused 7 " + case["refused"]
+                                                                 if "refused" in case else wanted)
+
+
+def body_of(case):
+    return case["body"] if "body" in case else case["spaces"] * " "
+
+
+def manifests(program, own):
+    told = vectors("manifests", METHOD)
+    printed = trials.printed(
+        program, ":memory:",
+        [*told["setup"], *(delivered(body_of(case)) for case in told["cases"])]) or []
+    for case, line in zip(told["cases"],
+                          printed[len(told["setup"]):] or len(told["cases"]) * [None],
+                          strict=True):
+        yield "the program: manifest: %(name)s" % case, line == case["printed"]
+    trials.printed(program, own / "desk", told["setup"])
+    with http_cases.served(program, own / "desk", len(told["cases"])) as running:
+        for case in told["cases"]:
+            yield "the program, over HTTP: manifest: %(name)s" % case, posted(
+                running, body_of(case)) == answered(case)
+        yield "the program ends well", http_cases.ended(running)
+
+
+def posted(running, body):
+    """The status of a manifest that is posted, and the body of the answer where it is refused."""
+    with contextlib.suppress(OSError, http.client.HTTPException), closing(
+            http.client.HTTPConnection("127.0.0.1", running.port, timeout=90)) as client:
+        client.request("POST", "/director/manifest", body.encode(), {"Connection": "close"})
+        came = client.getresponse()
+        text = came.read().decode()
+        return came.status, None if came.status == 200 else json.loads(text)
+    return None
+
+
+def answered(case):
+    """The same as the vector says."""
+    words = case["printed"].split(" ", 2)
+    return case["status"], {"error": int(words[1]), "text": words[2]
+                            } if words[0] == "refused" else None
+
+
+def replies(program, own):
+    told = vectors("replies", METHOD)
+    path = own / "replies"
+    trials.printed(program, path, told["setup"])
+    for case in told["cases"]:
+        printed = trials.printed(
+            program, path, [*case["lines"], delivered(case["body"], told["at"])]) or [None]
+        signed = json.loads(case["body"])["signed"]
+        with trials.read(path) as db:
+            kept = db.execute("SELECT reply FROM kept WHERE vehicle = ? AND counter = ?",
+                              (signed["vehicle"], signed["counter"])).fetchone()
+        yield "the program: reply: %(name)s" % case, printed[-1] == case["printed"] and kept == (
+            case["reply"], )
+
+
+def bases(program, own):
+    """The files and the reply of each base are those that the program makes."""
+    told = vectors("chains", METHOD)
+    for base in ("update", "rotation"):
+        path, files = own / base, dict(told["files of " + base])
+        printed = trials.printed(program, path, told["lines of " + base])
+        reply, names = files.pop("reply"), [name.split("/") for name in files]
+        fetched = trials.printed(
+            program, path,
+            [fleet.line("fetch", repository=repository, file=name) for repository, name in names])
+        with trials.read(path) as db:
+            kept = db.execute(
+                "SELECT reply FROM kept WHERE vehicle = 'VIN-1' ORDER BY version DESC").fetchone()
+        well = printed is not None and fetched == ["file " + text
+                                                   for text in files.values()] and kept == (reply, )
+        yield "the program: the files and the reply of the base %s" % base, well
+
+
+def by_program(program):
+    with trials.folder() as own:
+        yield from texts(program)
+        # (under Ed25519 no key is given whose public part is chosen)
+        yield from identifiers(program) if METHOD == HMAC else ()
+        yield from signatures(program)
+        yield from manifests(program, own)
+        yield from replies(program, own)
+        yield from bases(program, own)
+
+
+def cases(program=None):
+    yield from made()
+    yield from by_primary()
+    yield from by_node()
+    if program:
+        yield from by_program(program)
+
+
+def main(words: arguments.Words = None) -> int:
+    """Tries the vectors."""
+    return trials.judged("vectors",
+                         cases(arguments.given(__doc__, words, program="").program or None))
