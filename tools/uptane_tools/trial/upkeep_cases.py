@@ -430,8 +430,9 @@ def applied(program, own):
         text, is_public = (
             own /
             "journal").read_text("ascii"), b'"method":"ed25519"' in it.get("/director/root.json")
+        public = fleet.with_public({"key": fleet.key(8)})["key"]
         yield "it has public keys and no secrets, and is its owner's", (
-            fleet.key(8) in text) == is_public and fleet.key(1) not in text and stat.S_IMODE(
+            public in text) == is_public and fleet.key(1) not in text and stat.S_IMODE(
                 (own / "journal").stat().st_mode) & 0o7 == 0
         copies = sorted((own / "copies").glob("desk-*-before.db"))
         yield from read_alone(it)
