@@ -12,24 +12,16 @@ import random
 import re
 import resource
 import subprocess
-import sys
 
 from uptane_tools import arguments
+from uptane_tools.measure.ed25519_steps import MESSAGE, answered
 from uptane_tools.rows import ed25519_rows as rows
-
-MESSAGE = b"a message of 32 bytes, as any is"
 
 
 def seconds(program, parts):
     """The processor seconds of a run, which has to answer the rows."""
     before = resource.getrusage(resource.RUSAGE_CHILDREN)
-    ran = subprocess.run([str(program)],
-                         input=rows.stdin(parts),
-                         capture_output=True,
-                         text=True,
-                         check=False)
-    if ran.stdout != rows.stdout(parts):
-        sys.exit("the program tells:\n" + ran.stdout[:2000])
+    answered([str(program)], parts)
     after = resource.getrusage(resource.RUSAGE_CHILDREN)
     return after.ru_utime + after.ru_stime - before.ru_utime - before.ru_stime
 

@@ -32,21 +32,23 @@ def symbol(program, name):
     return found[0]
 
 
+def answered(words, parts):
+    """What a run of the program says beside its answers to the rows, which have to be right."""
+    ran = subprocess.run(words, input=rows.stdin(parts), capture_output=True, text=True,
+                         check=False)
+    if ran.stdout != rows.stdout(parts):
+        sys.exit("the program tells:\n" + ran.stdout[:2000])
+    return ran.stderr
+
+
 def callgrind(program, parts, folder, *more):
-    """What callgrind says of the program, which has to answer the rows."""
+    """What callgrind says of the program."""
     words = [
         "valgrind", "--tool=callgrind",
         "--callgrind-out-file=%s" % (folder / "told"), *more,
         str(program)
     ]
-    ran = subprocess.run(words,
-                         input=rows.stdin(parts),
-                         capture_output=True,
-                         text=True,
-                         check=False)
-    if ran.stdout != rows.stdout(parts):
-        sys.exit("the program tells:\n" + ran.stdout[:2000])
-    return ran.stderr
+    return answered(words, parts)
 
 
 def each(program, name, parts, folder):

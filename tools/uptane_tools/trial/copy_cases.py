@@ -17,7 +17,6 @@ import re
 import shutil
 import sqlite3
 import subprocess
-import sys
 import threading
 import time
 from contextlib import closing
@@ -87,14 +86,8 @@ def under_load(program, own, copies, number):
                     copies + 2) and posting.thread.is_alive():
                 time.sleep(0.001)
             answered, to, one = list(posting.answered), own / ("copy%d" % at), ["--one"] * (at % 2)
-            words = [
-                sys.executable, trials.RUN, "copy_served",
-                str(running.pid),
-                str(path),
-                str(to), *one
-            ]
-            ran = subprocess.run(words, capture_output=True, check=False, timeout=60)
-            taken.append((to, answered, ran.returncode == 0 and ran.stderr == b""))
+            status, _, err = trials.tool("copy_served", running.pid, path, to, *one)
+            taken.append((to, answered, (status, err) == (0, "")))
         posting.thread.join()
         yield "the service goes on", len(
             posting.answered) == len(bodies) and http_cases.ended(running)
@@ -147,14 +140,14 @@ def taking(program, own):
 
 
 @contextlib.contextmanager
-def that_clones(own):
-    """A folder on a filesystem that can clone files, made in a file; none where this machine
-    makes or mounts none.
+def that_clones(own, size):
+    """A folder on a filesystem that can clone files, made in a file of that size; none where this
+    machine makes or mounts none.
     """
     folder, image = own / "clones", own / "clones.img"
     folder.mkdir()
     with open(image, "wb") as file:
-        file.truncate(320 << 20)
+        file.truncate(size)
 
     def ran(*words):
         return shutil.which(words[0]) and subprocess.run(words, capture_output=True,
@@ -167,37 +160,29 @@ def that_clones(own):
     try:
         yield folder
     finally:
-        subprocess.run(["umount", str(folder)], check=True)
+        subprocess.run(["umount", "--lazy", str(folder)], check=True)
 
 
 def cloned(program, own):
     """Where the filesystem can, the copy is a clone; the tool says so, and where it can't, how
     long the program stood still.
     """
-    with that_clones(own) as folder:
+    with that_clones(own, 320 << 20) as folder:
         for to in filter(None, (own, folder)):
             path = to / "served"
             trials.printed(program, path, http_cases.FIRST_PATH)
             with http_cases.served(program, path, 1) as running:
-                ran = subprocess.run([
-                    sys.executable, trials.RUN, "copy_served",
-                    str(running.pid),
-                    str(path),
-                    str(to / "copy")
-                ],
-                                     capture_output=True,
-                                     check=False)
+                status, out, _ = trials.tool("copy_served", running.pid, path, to / "copy")
                 running.kill()
-            how = rb"cloned|copied, since the filesystem can't clone it there"
-            how = how if to == own else b"cloned"
+            how = "cloned|copied, since the filesystem can't clone it there"
+            how = how if to == own else "cloned"
             told = re.fullmatch(
-                rb"(\d+) bytes (%s); the program stood still for (\d\.\d{3}) seconds\n" % how,
-                ran.stdout)
+                r"(\d+) bytes (%s); the program stood still for (\d\.\d{3}) seconds" % how,
+                "".join(out))
             well = told and int(
                 told[1]) == path.stat().st_size and float(told[3]) < 5 and trials.rows(
                     to / "copy") == trials.rows(path)
-            yield "a copy" if to == own else "a copy that is a clone", ran.returncode == 0 and bool(
-                well)
+            yield "a copy" if to == own else "a copy that is a clone", status == 0 and bool(well)
         if not folder:
             print("no filesystem that clones can be mounted here, so no clone is tried")
 
@@ -224,11 +209,8 @@ def refused(program, own):
     (own / "one byte").write_bytes(b"S")
     for name in ("another product's meta", "other tables", "no bytes", "one byte"):
         before = (own / name).read_bytes()
-        ran = subprocess.run([sys.executable, trials.RUN, "page_sums",
-                              str(own / name)],
-                             capture_output=True,
-                             check=False)
-        well = ran.returncode == 1 and ran.stderr.startswith(b"page_sums: ")
+        status, _, err = trials.tool("page_sums", own / name)
+        well = status == 1 and err.startswith("page_sums: ")
         yield "no sums for a file with " + name, well and (own / name).read_bytes() == before
 
 

@@ -248,18 +248,17 @@ def rounds(program, own):
     yield from replaced(program, path, vehicle)
 
 
+def replacement():
+    """The line by which a workshop puts a new ECU in the place of one."""
+    return fleet.line("replace_ecu", NOW, vehicle="VIN-1", old="left", ecu="left-2", hardware="BR",
+                      key=ecu_key(9))
+
+
 def replaced(program, path, vehicle):
     """A workshop puts a new ECU in the place of one: the old one's reports are refused, and the
     new one gets the image that is due.
     """
-    line = fleet.line("replace_ecu",
-                      NOW,
-                      vehicle="VIN-1",
-                      old="left",
-                      ecu="left-2",
-                      hardware="BR",
-                      key=ecu_key(9))
-    yield "an ECU is replaced", trials.printed(program, path, [line]) == ["done"]
+    yield "an ECU is replaced", trials.printed(program, path, [replacement()]) == ["done"]
     refused = 1, [], 'primary: 409 {"error":14,"text":"UnknownEcu left"}\n'
     yield "a round with the old ECU", with_service(program, path, vehicle) == refused
     told = vehicle.told()
@@ -289,14 +288,7 @@ def locked(program, own, small):
     yield "%s: a manifest whose answer is lost" % small, trials.printed(
         program, path,
         [fleet.line("deliver", NOW, body=told["pending"])]) == ["reply VIN-1 version 1 targets 3"]
-    line = fleet.line("replace_ecu",
-                      NOW,
-                      vehicle="VIN-1",
-                      old="left",
-                      ecu="left-2",
-                      hardware="BR",
-                      key=ecu_key(9))
-    trials.printed(program, path, [line])
+    trials.printed(program, path, [replacement()])
     new = told["ecus"][1] | {"ecu": "left-2", "secret": ecu_key(9), "counter": 0}
     known = told | {"ecus": [told["ecus"][0], new, told["ecus"][2]]}
     # one that has kept no identifier takes the reply for a stranger's, and goes on in the next

@@ -15,7 +15,6 @@ import json
 import os
 import shutil
 import subprocess
-import sys
 import time
 from concurrent.futures import ThreadPoolExecutor
 from pathlib import Path
@@ -35,15 +34,6 @@ UNKNOWN = (404, b'{"error":10,"text":"UnknownVehicle"}')
 # ---- scripts
 
 
-def divided(*words, given=b""):
-    """The status, what is printed, and the message of the tool that divides."""
-    ran = subprocess.run([sys.executable, trials.RUN, "divide_script", *map(str, words)],
-                         input=given,
-                         capture_output=True,
-                         check=False)
-    return ran.returncode, ran.stdout.decode("ascii").splitlines(), ran.stderr.decode("ascii")
-
-
 class Desks:
     """A file for each desk, and the folder of their division."""
 
@@ -55,10 +45,8 @@ class Desks:
 
     def split(self, script, desks):
         self.number = desks
-        return divided(self.folder,
-                       "--desks",
-                       desks,
-                       given="".join(line + "\n" for line in script).encode("ascii"))
+        given = "".join(line + "\n" for line in script).encode("ascii")
+        return trials.tool("divide_script", self.folder, "--desks", desks, given=given)
 
     def answer(self, desk):
         """Gives a desk its script, and keeps its answers."""
@@ -72,7 +60,7 @@ class Desks:
     def ran(self, script, desks):
         """The joined answers to a script; none where anything went wrong."""
         well = self.split(script, desks)[0] == 0 and all(map(self.answer, range(1, desks + 1)))
-        status, answers, err = divided(self.folder, "--join")
+        status, answers, err = trials.tool("divide_script", self.folder, "--join")
         return answers if well and not err and status == any(
             it.startswith("differs") for it in answers) else None
 
@@ -189,12 +177,12 @@ def afterwards(program, own, desks, lines):
     yield "two scripts at once", desks.split([lines[0]], MORE)[0] == 1
     well = all(map(desks.answer, range(1, MORE + 1)))
     (desks.folder / "desk2.answers").write_bytes(b"")
-    status, _, err = divided(desks.folder, "--join")
+    status, _, err = trials.tool("divide_script", desks.folder, "--join")
     yield "answers that are missing", well and status == 1 and ("desk2.answers has 0 answers, and "
                                                                 "its script 1 lines") in err
     well = desks.answer(2)
     (desks.folder / "desk6.answers").write_bytes(b"refused 2 Store\n")
-    status, answers, err = divided(desks.folder, "--join")
+    status, answers, err = trials.tool("divide_script", desks.folder, "--join")
     told = "differs: desk 1 refused 9 AlreadyFounded; "
     yield "desks that differ", well and (status, err) == (
         1, "") and answers[0].startswith(told) and answers[0].endswith("desk 6 refused 2 Store")

@@ -2,6 +2,7 @@
 import shutil
 import sqlite3
 import subprocess
+import sys
 import tempfile
 from contextlib import closing, contextmanager
 from pathlib import Path
@@ -40,6 +41,13 @@ def expected(path, script):
     with closing(sqlite3.connect(path)) as db:
         desk = reference.Desk(db)
         return [desk.answer(line) for line in script if line]
+
+
+def tool(name, *words, given=b"", limit=120):
+    """The status of another tool, the lines printed and its message."""
+    ran = subprocess.run([sys.executable, RUN, name, *map(str, words)], input=given,
+                         capture_output=True, check=False, timeout=limit)
+    return ran.returncode, ran.stdout.decode("ascii").splitlines(), ran.stderr.decode("ascii")
 
 
 @contextmanager

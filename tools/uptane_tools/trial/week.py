@@ -40,11 +40,8 @@ from pathlib import Path
 
 from uptane_tools import arguments
 from uptane_tools.measure import fleet
-from uptane_tools.trial import http_cases
 from uptane_tools.oracle import reference
-from uptane_tools.trial import scale_cases
-from uptane_tools.trial import trials
-from uptane_tools.trial import upkeep_cases
+from uptane_tools.trial import copy_cases, http_cases, scale_cases, trials, upkeep_cases
 
 BEGUN = time.monotonic()
 DESKS, THREADS, HOUR, DAY = 8, 8, 3600, 86400
@@ -562,31 +559,6 @@ def cases(program, vehicles, days, to, within):
         yield from judged(week)
 
 
-@contextlib.contextmanager
-def that_clones(size, within):
-    """A folder on a filesystem that clones files, where one can be made and mounted; else on any.
-    """
-    with trials.folder(within) as own:
-        image_file, folder = own / "disk", own / "mounted"
-        folder.mkdir()
-        with open(image_file, "wb") as file:
-            file.truncate(size)
-
-        def ran(*words):
-            return shutil.which(words[0]) and subprocess.run(
-                words, capture_output=True, check=False).returncode == 0
-
-        mounted = ran("mkfs.xfs", "-q", str(image_file)) and ran("mount", "-o", "loop",
-                                                                 str(image_file), str(folder))
-        if not mounted:
-            print("no filesystem that clones can be mounted here, so copies are copies")
-        try:
-            yield folder
-        finally:
-            if mounted:
-                subprocess.run(["umount", "--lazy", str(folder)], check=True)
-
-
 def main(words: arguments.Words = None) -> int:
     """Lives the week."""
     asked = arguments.parser(__doc__)
@@ -607,6 +579,8 @@ def main(words: arguments.Words = None) -> int:
     given.to.mkdir(exist_ok=True)
     # where it is told to end, the services end first
     signal.signal(signal.SIGTERM, lambda *_: sys.exit(1))
-    with that_clones(4 << 30, given.within) as within:
-        return trials.judged(
-            "week", cases(given.program.resolve(), given.vehicles, given.days, given.to, within))
+    with trials.folder(given.within) as own, copy_cases.that_clones(own, 4 << 30) as cloning:
+        if not cloning:
+            print("no filesystem that clones can be mounted here, so copies are copies")
+        told = given.program.resolve(), given.vehicles, given.days, given.to, cloning or own
+        return trials.judged("week", cases(*told))
