@@ -33,6 +33,7 @@ LANES = {
         "up_machine": "state, decisions",
         "up_laws": "laws of replies",
         "up_primary": "a verified Primary",
+        "up_uptane": "Uptane's laws",
     },
     "the database": {
         "up_tables": "tables, statements",

@@ -1,0 +1,15 @@
+use Rattle.up_uptane.proofs.Offers.{listed}
+use Rattle.up_uptane.proofs.Reaching.{Reaching}
+use Rattle.up_uptane.proofs.laws.replies_offer_what_is_listed.Goals as goal
+
+pub returns : goal.returns
+returns c =
+    let keeping : Reaching = record {
+      sound = c.states_stay_sound.ensures.run;
+      none_sound = c.states_stay_sound.ensures.empty;
+      typed = c.states_stay_typed.ensures.run;
+      none_typed = c.states_stay_typed.ensures.empty;
+      own = c.plans_name_ecus_once.ensures.run;
+      none_own = c.plans_name_ecus_once.ensures.empty;
+    } in
+    listed keeping c.files_are_signed.ensures.replies c.replies_are_read_again.ensures c.files_are_read_again.ensures.images

@@ -1,0 +1,4 @@
+pub mod Deliveries
+pub mod Versions
+pub mod Offers
+pub mod Rotations
