@@ -65,7 +65,7 @@ own k s at body = by_decision (decide k s at (Deliver body)) refl
 
 -- ---- what is kept
 
-same_reply : (k : Rules) (s : State) (name other : Name) (v : Vehicle) (number : ℕ) (e f : Entry) → reply_to k (with_entry s other v f) name number e ≡ reply_to k s name number e
+pub same_reply : (k : Rules) (s : State) (name other : Name) (v : Vehicle) (number : ℕ) (e f : Entry) → reply_to k (with_entry s other v f) name number e ≡ reply_to k s name number e
 unfolding reply_text
 same_reply k s name other v number e f = refl
 

@@ -5,3 +5,4 @@ pub mod Published
 pub mod Versions
 pub mod Offers
 pub mod Rotations
+pub mod Fitting

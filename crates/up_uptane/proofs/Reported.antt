@@ -34,7 +34,7 @@ use Rattle.up_uptane.proofs.Deliveries.{reply_of}
 
 -- ---- lists whose names are distinct
 
-is_there : {A : Type 0} (p : A → Bool) (xs : List A) → list_any p xs ≡ true → (x : A) × (find p xs ≡ Some x)
+pub is_there : {A : Type 0} (p : A → Bool) (xs : List A) → list_any p xs ≡ true → (x : A) × (find p xs ≡ Some x)
 is_there p [] h = cc
 is_there {A} p (x ∷ xs) h = by_test (p x) h (is_there p xs)
   where
@@ -71,7 +71,7 @@ each_two P Q R go [] p q = tt
 each_two P Q R go (x ∷ xs) p q = (go x p.0 q.0, each_two P Q R go xs p.1 q.1)
 
 -- each is the one that is found by its name
-found_own : {A : Type 0} (f : A → Name) (xs : List A) → Distinct (map f xs) → AllByRecursion (λ x. find (λ y. bytes_eq (f y) (f x)) xs ≡ Some x) xs
+pub found_own : {A : Type 0} (f : A → Name) (xs : List A) → Distinct (map f xs) → AllByRecursion (λ x. find (λ y. bytes_eq (f y) (f x)) xs ≡ Some x) xs
 found_own f [] apart = tt
 found_own {A} f (x ∷ xs) apart = (
   ap (λ (b : Bool). cond b (Some x) (find (λ y. bytes_eq (f y) (f x)) xs)) ((bytes_decides (f x) (f x)).1 refl),

@@ -2,3 +2,4 @@ pub mod Deliveries
 pub mod Versions
 pub mod Offers
 pub mod Rotations
+pub mod Fitting

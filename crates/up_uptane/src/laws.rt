@@ -1,11 +1,15 @@
 //! The laws. Each function is empty but for laws that it calls: its contract is a theorem.
 ghost use Rattle.up_uptane.specs.Deliveries.{DeliveriesChangeTheirOwn, RepliesAreKept, NewRepliesAreOfAllEcus};
+ghost use Rattle.up_uptane.specs.Fitting.{NewRepliesFit};
 ghost use Rattle.up_uptane.specs.Offers.{RepliesOfferWhatIsListed};
 ghost use Rattle.up_uptane.specs.Rotations.{RotationsLeaveOut, NewRepliesAreOfTheLastRoot};
 ghost use Rattle.up_uptane.specs.Versions.{ImageVersionsNeverFall, RootVersionsNeverFall, RepliesRise, RepliesStayKept};
 
 use up_laws::laws::{plans_name_ecus_once, replies_are_read_again, states_stay_typed};
-use up_machine::laws::{files_are_signed, kept_replies_stay, states_stay_sound};
+use up_machine::laws::{
+    assigned_images_fit, files_are_signed, kept_replies_stay, states_stay_sound,
+};
+use up_plan::laws::assigned_is_due;
 use up_primary::laws::{files_are_read_again, roots_are_fetched};
 
 /// A delivery that is refused changes nothing. One that is answered a reply adds one manifest to its own vehicle, raises that vehicle's
@@ -57,6 +61,20 @@ pub fn replies_offer_what_is_listed()
     files_are_signed();
     replies_are_read_again();
     files_are_read_again();
+}
+
+/// Each target in a new reply's bytes is for an ECU of the vehicle, may be installed on that ECU's hardware, and is of a greater
+/// release than the image that the ECU reports, where that is registered.
+pub fn new_replies_fit_and_are_newer()
+    ensures { NewRepliesFit }
+{
+    states_stay_sound();
+    states_stay_typed();
+    plans_name_ecus_once();
+    assigned_is_due();
+    assigned_images_fit();
+    files_are_signed();
+    replies_are_read_again();
 }
 
 /// Behind a rotation the next Root is signed by its own root keys, and by those before that aren't among them. A key that no later Root
