@@ -15,7 +15,7 @@ import subprocess
 
 from uptane_tools import arguments
 from uptane_tools.measure.ed25519_steps import MESSAGE, answered
-from uptane_tools.rows import ed25519_rows as rows
+from uptane_tools.rows import ed25519_cases as rows
 
 
 def seconds(program, parts):

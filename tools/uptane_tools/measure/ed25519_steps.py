@@ -18,7 +18,7 @@ import tempfile
 from pathlib import Path
 
 from uptane_tools import arguments
-from uptane_tools.rows import ed25519_rows as rows
+from uptane_tools.rows import ed25519_cases as rows
 
 MESSAGE = b"a message of 32 bytes, as any is"
 

@@ -4,8 +4,9 @@ program nor the kit.
     tools/run check_rows
 
 Nothing is missing that there has to be; each script prints what stands beside it by the
-independent rules, and each row wants what is computed from the formats; the crates that carry
-rows out have just these; the small Primary builds and checks what its page shows.
+independent rules, and each row wants what is computed from the formats; what crates of tests have
+of the cases that are computed is a part of these; the small Primary builds and checks what its page
+shows.
 """
 import contextlib
 import os
@@ -17,7 +18,7 @@ import sys
 import time
 
 from uptane_tools import arguments
-from uptane_tools.rows import collect_rows
+from uptane_tools.rows import computed
 from uptane_tools.rows import expected_files
 from uptane_tools.trial import http_cases
 from uptane_tools.rows import row_texts
@@ -26,10 +27,8 @@ from uptane_tools.trial import trials
 
 EXAMPLES, ROWS = trials.TOP / "examples", trials.TOP / "rows"
 PRIMARY = EXAMPLES / "primary"
-CARRIES = trials.TOP / "crates" / "up_test_worked_rows"
 COMPUTED = [("texts", "expected_texts"), ("decisions", "expected_decisions"),
-            ("the store", "expected_store"), ("streams", "expected_streams"),
-            ("stops", "expected_stops"), ("lines", "each_line", "wanted")]
+            ("the store", "expected_store"), ("lines", "each_line", "wanted")]
 
 
 def read(path):
@@ -71,10 +70,11 @@ def scripts_under_ed25519():
 
 
 def texts():
-    """The texts of the rows are those of the formats, and the crate that carries the rows out
-    has them all.
+    """The texts of the rows are those of the formats, and what crates of tests have of cases that
+    are computed is a part of them.
     """
-    yield "the crate's rows are those of rows/", not collect_rows.differing(CARRIES)
+    for crate, well in computed.kept():
+        yield "the input of %s is a part of what is computed" % crate, well
     for name in row_texts.REPLIES:
         yield "replies of %s, from the formats" % name, read(ROWS / name /
                                                              "replies") == row_texts.replies(name)

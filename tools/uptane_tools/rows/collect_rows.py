@@ -1,15 +1,11 @@
-"""Collects the rows of `rows/` into what the crate that carries them out reads, and what it has
+"""Collects the rows of `rows/` into what the program that carries them out reads, and what it has
 to write: each folder, and each section of `rows/each_answer`, with the texts that `reference.py`
-computes.
-
-    tools/run collect_rows CRATE          tells whether that crate's stdin and stdout are the rows
-    tools/run collect_rows CRATE write    writes them
+computes. `computed` gives them to the program of the crate `up_test_worked_rows`, whose input has
+the first row, and those that are wrong on purpose.
 """
 import json
 import sqlite3
-from pathlib import Path
-
-from uptane_tools import TOP, arguments
+from uptane_tools import TOP
 from uptane_tools.trial import each_line
 from uptane_tools.oracle import reference
 
@@ -148,30 +144,13 @@ def seen():
     ]) + "\n"
 
 
-def collected():
-    """The crate's files, and what each has to be."""
-    each = list(rows())
-    return {
-        "stdin": "\n" + "".join(row.given() for row in each) + controls(),
-        "stdout": "".join(row.wanted() for row in each) + seen(),
-    }
+def texts(of=None):
+    """The input and what is told; of some rows, if any are said."""
+    each = list(rows() if of is None else of)
+    return ("\n" + "".join(row.given() for row in each) + controls(),
+            "".join(row.wanted() for row in each) + seen())
 
 
-def differing(crate):
-    """The files of the crate that aren't what the rows say."""
-    return [
-        crate / name for name, text in collected().items()
-        if (crate / name).read_text(encoding="ascii") != text
-    ]
-
-
-def main(words: arguments.Words = None) -> int:
-    """Compares a crate's rows, or writes them."""
-    asked = arguments.given(__doc__, words, "crate", order=["tell", "write"])
-    crate = Path(asked.crate)
-    if asked.order == "write":
-        for name, text in collected().items():
-            (crate / name).write_text(text, encoding="ascii")
-    for path in differing(crate):
-        print("%s isn't what the rows say" % path)
-    return int(bool(differing(crate)))
+def first():
+    """The same of the first manifest alone."""
+    return texts([row_of(ROWS / "first_manifest")])

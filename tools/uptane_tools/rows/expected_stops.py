@@ -1,22 +1,16 @@
-"""Computes the rows of runs over files that stop, and what they want, by the rules
-(`reference.py`) and the formats alone. The rows are the standard input of the crate
-`up_test_stops`.
-
-    tools/run expected_stops           tells where the crate's standard input or output is another
-    tools/run expected_stops write     writes both
+"""Computes the cases of runs over files that stop, and what they want, by the rules
+(`reference.py`) and the formats alone. `computed` gives them all to the program of the crate
+`up_test_stops`, whose input has the first section.
 
 A run's lines are answered once, and again after each of its beginnings, which has to be the same
 each time. Each line writes, so a log that stops does so in each of them; a database file is read
 while it is opened, and written while it is closed. A section that is wrong on purpose has to be
 told as that.
 """
-
-from uptane_tools import TOP, arguments
 from uptane_tools.trial import each_line
 from uptane_tools.rows import expected_streams
 from uptane_tools.rows import row_texts
 
-CRATE = TOP / "crates" / "up_test_stops"
 AT, P1, ZEROS = expected_streams.AT, expected_streams.P1, 64 * "0"
 
 
@@ -65,8 +59,8 @@ def wrong(steps, row, **other):
     return changed, "row %d is answered %s" % (row, again if "again" in other else first)
 
 
-def computed():
-    """The standard input and output."""
+def texts():
+    """The input and what is told."""
     good = steps()
     reply = good[3][2]
     controls = [
@@ -99,13 +93,7 @@ def places(words, number):
     return log + "%s, a database file that stops: while it is opened, while it is closed\n" % words
 
 
-def main(words: arguments.Words = None) -> int:
-    """Compares the crate's rows, or writes them."""
-    texts = dict(zip(("stdin", "stdout"), computed()))
-    if arguments.given(__doc__, words, order=["tell", "write"]).order == "write":
-        for name, text in texts.items():
-            (CRATE / name).write_text(text, encoding="ascii")
-        return 0
-    others = [it for it in texts if (CRATE / it).read_text(encoding="ascii") != texts[it]]
-    print("".join("%s: another %s\n" % (CRATE, name) for name in others), end="")
-    return len(others)
+def first():
+    """The same of the first section."""
+    given, told = texts()
+    return "\n# " + given.split("\n# ")[1] + "\n", "".join(told.splitlines(True)[:2])

@@ -1,16 +1,12 @@
-"""Computes the rows of streams and what they want, from the formats in docs/integrate/FORMATS.md
-and docs/integrate/HTTP.md and from rows/ alone. The rows are the standard input of the crate
-`up_test_stream`. In a row `|` stands for the end of a line of HTTP, `\\n` for that of a script.
-
-    tools/run expected_streams           tells where the crate's standard input or output is another
-    tools/run expected_streams write     writes both
+"""Computes the cases of streams and what they want, from the formats in docs/integrate/FORMATS.md
+and docs/integrate/HTTP.md and from rows/ alone. `computed` gives them all to the program of the
+crate `up_test_stream`, whose input has the short ones. In a case `|` stands for the end of a line
+of HTTP, `\\n` for that of a script.
 """
 import json
 
-from uptane_tools import TOP, arguments
+from uptane_tools import TOP
 from uptane_tools.rows import row_texts
-
-CRATE = TOP / "crates" / "up_test_stream"
 
 AT, PIECE, MOST = 1767225600, 8192, 262144
 canon = row_texts.canonical
@@ -266,37 +262,33 @@ def sections():
     yield "sockets of two clients", [("do " + FOUND, "kept"), ("do " + VEHICLE, "kept")] + clients
 
 
-def texts():
-    """What stdin and stdout have to be, with two rows that are wrong on purpose. Each section is
-    told over both media, but those of sockets.
-    """
-    all_of = list(sections())
-    wrong = "rows that are wrong on purpose"
+WRONG = "rows that are wrong on purpose"
+
+
+def parts():
+    """Each section: its words, what its cases are given and want, and what is told of it."""
     rows = [("whole " + NO_HOST, "1: " + NO_FILE_ANSWER, "1: " + BAD),
             ("dance", "0: ", "no such row")]
-    given = [(wrong, [row[:2] for row in rows])] + all_of
-    stdin = "".join("\n# %s\n%s" % (words, "".join("%s => %s\n" % row for row in of))
-                    for words, of in given)
-    differing = "".join("%s of %s is %s, in place of %s\n" % (wrong, asked, had, wanted)
+    differing = "".join("%s of %s is %s, in place of %s\n" % (WRONG, asked, had, wanted)
                         for asked, wanted, had in rows)
-    told = [(wrong, differing + wrong + ": 0\n")] + [(words, "%s: %d\n" % (words, len(of)))
-                                                     for words, of in all_of]
-
-    def media(words):
-        return [""] if words.startswith("sockets") else ["in memory, ", "in files, "]
-
-    return {
-        "stdin": stdin, "stdout":
-        "".join(medium + text for words, text in told for medium in media(words))
-    }
+    yield WRONG, [row[:2] for row in rows], differing + WRONG + ": 0\n"
+    for words, of in sections():
+        yield words, of, "%s: %d\n" % (words, len(of))
 
 
-def main(words: arguments.Words = None) -> int:
-    """Compares the crate's rows, or writes them."""
-    if arguments.given(__doc__, words, order=["tell", "write"]).order == "write":
-        for name, text in texts().items():
-            (CRATE / name).write_text(text)
-    differing = [name for name, text in texts().items() if (CRATE / name).read_text() != text]
-    rest = "the rows are those of the formats"
-    print("\n".join("%s is another" % name for name in differing) or rest)
-    return 1 if differing else 0
+def media(words):
+    """Each section is told over both media, but those of sockets."""
+    return [""] if words.startswith("sockets") else ["in memory, ", "in files, "]
+
+
+def texts(most=None):
+    """The input and what is told, two cases wrong on purpose among them; of the sections that have
+    at most so many characters, if any are said.
+    """
+    given, told = "", ""
+    for words, of, says in parts():
+        text = "\n# %s\n%s" % (words, "".join("%s => %s\n" % row for row in of))
+        if most is None or len(text) <= most:
+            given += text
+            told += "".join(medium + says for medium in media(words))
+    return given, told

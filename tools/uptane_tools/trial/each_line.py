@@ -11,7 +11,7 @@ script, or one of these words and what stands behind it. `times N LINE` is the l
 times, with the numbers from 0 on in place of `%`; `body TEXT`, `cuts TEXT` and `bytes HEX` are a
 body that is delivered, each of its beginnings, and a body in hex; `line HEX` is a line in hex.
 How texts that repeat or change in one place are spelled is said in
-`up_test_rows/src/sections.rt`. What is wanted is the line printed, with the SHA-256 of a file in
+docs/develop/CASES.md. What is wanted is the line printed, with the SHA-256 of a file in
 place of its text and of a reply behind its line, and what is shown of a vehicle without its
 name. In a section of stops a row is a whole run, its lines parted by ` ;; `, for `stops.py`.
 

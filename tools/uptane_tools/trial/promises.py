@@ -18,6 +18,7 @@ import subprocess
 from collections import defaultdict
 
 from uptane_tools import arguments
+from uptane_tools.rows import expected_streams
 from uptane_tools.trial import trials
 from uptane_tools.trial.trials import TOP
 
@@ -51,12 +52,15 @@ def edits():
 
 
 def sections(folder):
-    """The words of the sections of rows that a crate carries out; of worked rows, their names,
-    and sections of lines.
+    """The words of the sections that a crate carries out, those too that are computed; of worked
+    rows, their names, and sections of lines.
     """
     text = (folder / "stdin").read_text(encoding="utf-8")
     words = re.findall(r"^(?:#|row) (.+)$", text, re.MULTILINE)
+    if folder.name == "up_test_stream":
+        words += [it[0] for it in expected_streams.parts()]
     if words and "\nrow " in text:
+        words += [it.parent.name for it in (TOP / "rows").glob("*/script")]
         words += re.findall(r"^# (.+)$", (TOP / "rows" / "each_answer").read_text(encoding="utf-8"),
                             re.MULTILINE)
     return {name for it in words for name in (it, it.split(" under ")[0])} | {EVERY}

@@ -19,6 +19,7 @@ from uptane_tools import arguments
 from uptane_tools.trial import http_cases
 from uptane_tools.oracle import reference
 from uptane_tools.oracle import reference_http
+from uptane_tools.rows import expected_streams
 from uptane_tools.trial import trials
 
 LABEL = reference.LABEL.encode()
@@ -165,19 +166,16 @@ def cut(given, size):
 def streams():
     """The answers to streams, over a desk after the lines of the same section."""
     number = 0
-    told = (trials.TOP / "crates" / "up_test_stream" / "stdin").read_text(encoding="utf-8")
-    for section in re.findall(r"(?m)^# (.+)$", told):
-        if "on purpose" in section:
-            continue
+    for words, of in expected_streams.sections():
         with closing(sqlite3.connect(":memory:")) as db:
             desk = reference.Desk(db)
-            for asked, wanted in rows("up_test_stream", section):
+            for asked, wanted in of:
                 word, _, given = asked.partition(" ")
                 if word == "do":
                     desk.answer(given)
                 elif word in ("whole", "slow", "cut"):
                     number += 1
-                    yield "%s: %s" % (section, asked[:60]), answers(
+                    yield "%s: %s" % (words, asked[:60]), answers(
                         desk, unfolded(given)) == unfolded(wanted)
     yield "rows of streams", number > 40
 

@@ -1,28 +1,35 @@
-"""The rows of up_test_ed25519, by tools/run ed25519.
+"""The cases of Ed25519, by tools/run ed25519.
 
-    tools/run ed25519_rows                     compares stdin and stdout of crates/up_test_ed25519
-                                               with what this program makes
-    tools/run ed25519_rows write               writes them
-    tools/run ed25519_rows PROGRAM WORD [N]    gives the crate's program rows of N keys, 1,000 if
-                                               none are said, drawn by the word
+    tools/run ed25519_cases PROGRAM WORD [N]   gives the program of up_test_ed25519 cases of N keys,
+                                               1,000 if none are said, drawn by the word
 
-The rows that stand are the vectors of RFC 8032, section 7.1; signatures of which each byte of R,
-S, A and M is changed in turn; S + order; keys and nonces of small order; and 32 bytes that write
-no point. What is drawn are keys, messages and signatures both ways: a signature of the program
-is the reference's, byte by byte, and the program verifies those of the reference, each as it is
-and once more with a bit changed.
+Those that `computed` gives it are the vectors of RFC 8032, section 7.1; signatures of which each
+byte of R, S, A and M is changed in turn; S + order; keys and nonces of small order; and 32 bytes
+that write no point. What is drawn are keys, messages and signatures both ways: a signature of the
+program is the reference's, byte by byte, and the program verifies those of the reference, each as
+it is and once more with a bit changed.
 
 promise: ed25519-laws, ed25519-sign, ed25519-verify
 """
 import random
 import subprocess
 
-from uptane_tools import TOP, arguments
+from uptane_tools import arguments
 from uptane_tools.oracle.ed25519 import (
-    BASE, ORDER, P, add, encode, decode, digest, multiple, number, public_of, sign, vectors, verify,
+    BASE,
+    ORDER,
+    P,
+    add,
+    encode,
+    decode,
+    digest,
+    multiple,
+    number,
+    public_of,
+    sign,
+    vectors,
+    verify,
 )
-
-CRATE = TOP / "crates" / "up_test_ed25519"
 
 
 def little(count):
@@ -197,22 +204,20 @@ def compare(program, parts):
     return 0 if told == stdout(parts) else 1
 
 
-def stand(writes):
-    """Compares the files of the crate with what is made here, or writes them."""
-    parts, wrong = list(sections()), 0
-    for name, text in (("stdin", stdin(parts)), ("stdout", stdout(parts))):
-        if writes:
-            (CRATE / name).write_text(text, encoding="ascii")
-        elif (CRATE / name).read_text(encoding="ascii") != text:
-            print("%s isn't what this program makes" % name)
-            wrong += 1
-    print("%d passed, %d failed" % (2 - wrong, wrong))
-    return 1 if wrong else 0
+def texts():
+    """The input and what is told."""
+    parts = list(sections())
+    return stdin(parts), stdout(parts)
+
+
+def first():
+    """The same without what is changed in signatures: the vectors of the RFC alone."""
+    parts = [(call, rows[:len(vectors())] if call == "verified" else rows)
+             for call, rows in sections()]
+    return stdin(parts), stdout(parts)
 
 
 def main(words: arguments.Words = None) -> int:
-    """Compares the rows that stand, writes them, or gives a program rows that are drawn."""
-    asked = arguments.given(__doc__, words, program="tell", word="", count=1000)
-    if asked.program in ("tell", "write"):
-        return stand([asked.program] if asked.program == "write" else [])
+    """Gives the program cases that are drawn."""
+    asked = arguments.given(__doc__, words, "program", "word", count=1000)
     return compare(asked.program, drawn(asked.word, asked.count))

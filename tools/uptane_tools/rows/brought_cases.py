@@ -1,10 +1,6 @@
-"""The rows of up_test_brought: Root and Targets files, signed here under Ed25519, and what is to
-be answered of each.
-
-    tools/run brought_rows            compares stdin and stdout of crates/up_test_brought with what
-                                      this program makes
-    tools/run brought_rows write      writes them
-    tools/run brought_rows PROGRAM    gives the crate's program the rows
+"""The cases of files signed elsewhere: Root and Targets files, signed here under Ed25519, and what
+is to be answered of each. `computed` gives them to the program of the crate `up_test_brought`,
+whose input has the first of each section.
 
 Each answer is written here by hand, beside what is wrong with the file.
 
@@ -12,12 +8,10 @@ promise: brought-root, brought-keys, brought-targets
 """
 import json
 
-from uptane_tools import TOP, arguments
 from uptane_tools.oracle.ed25519 import P, decode, public_of, sign
 from uptane_tools.oracle.schemes import key_identifier
-from uptane_tools.rows.ed25519_rows import compare, little, stdin, stdout
+from uptane_tools.rows.ed25519_cases import little, stdin, stdout
 
-CRATE = TOP / "crates" / "up_test_brought"
 NOW = 1_800_000_000
 # the second is the moment itself
 EXPIRES, GONE = "2027-06-01T00:00:00Z", "2027-01-15T08:00:00Z"
@@ -40,9 +34,7 @@ def key(name):
 def sealed(payload, signers):
     signed = canonical(payload)
     signatures = [{
-        "keyid": key(it)[0],
-        "method": "ed25519",
-        "sig": sign(secret(it), signed.encode()).hex()
+        "keyid": key(it)[0], "method": "ed25519", "sig": sign(secret(it), signed.encode()).hex()
     } for it in signers]
     return canonical({"signatures": signatures})[:-1] + ',"signed":' + signed + "}"
 
@@ -55,12 +47,9 @@ def root(roles, version=1, repository="director", expires=EXPIRES, keys=None):
     """The payload of a Root; of each role its threshold and its keys."""
     listed = dict(key(name) for _, names in roles.values() for name in names)
     return {
-        "expires": expires,
-        "keys": keys or listed,
-        "repository": repository,
-        "roles": {it: role(*told) for it, told in roles.items()},
-        "type": "root",
-        "version": version
+        "expires": expires, "keys": keys or listed, "repository": repository, "roles":
+        {it: role(*told)
+         for it, told in roles.items()}, "type": "root", "version": version
     }
 
 
@@ -76,11 +65,8 @@ def image(name, release=1):
 
 def targets(listed, version=1, expires=EXPIRES):
     return {
-        "expires": expires,
-        "repository": "image",
-        "targets": listed,
-        "type": "targets",
-        "version": version
+        "expires": expires, "repository": "image", "targets": listed, "type": "targets", "version":
+        version
     }
 
 
@@ -142,9 +128,7 @@ def held_rows():
     yield row(first, HELD % "1 of 1", kept=GIVEN, given="- - -")
     yield row(first, "other keys targets", given=f"none {snapshot} {timestamp}")
     yield row(first, "other keys snapshot", kept=GIVEN, given=f"- {timestamp} -")
-    yield row(first,
-              "other keys timestamp",
-              given=f"{target} {snapshot} {timestamp},{snapshot}")
+    yield row(first, "other keys timestamp", given=f"{target} {snapshot} {timestamp},{snapshot}")
 
 
 def offline_rows():
@@ -195,8 +179,9 @@ def targets_rows():
 
 def kept_rows():
     """Targets that stay; they may have expired."""
-    for text, answer in ((sealed(targets(LISTED, 5, GONE), BOTH), "stay"),
-                         (sealed(targets(LISTED, 5), ("joe", )), "bad signature targets"),
+    for text, answer in ((sealed(targets(LISTED, 5, GONE),
+                                 BOTH), "stay"), (sealed(targets(LISTED, 5),
+                                                         ("joe", )), "bad signature targets"),
                          (sealed(targets(LISTED[:1], 5), BOTH), "other images")):
         yield f"{IMAGE_ROOT} {text} {REGISTER}", answer
 
@@ -207,15 +192,12 @@ def sections():
     return [(call, [" => ".join(row) for row in rows]) for call, rows in made]
 
 
-def main(words: arguments.Words = None) -> int:
-    """Compares the rows that stand, writes them, or gives a program the rows."""
-    asked, parts = arguments.given(__doc__, words, program="tell"), sections()
-    if asked.program not in ("tell", "write"):
-        return compare(asked.program, parts)
-    made, same = {"stdin": stdin(parts), "stdout": stdout(parts)}, 0
-    for name, text in made.items():
-        if asked.program == "write":
-            (CRATE / name).write_text(text, encoding="ascii")
-        same += (CRATE / name).read_text(encoding="ascii") == text
-    print("%d passed, %d failed" % (same, len(made) - same))
-    return 0 if same == len(made) else 1
+def texts(most=None):
+    """The input and what is told; at most so many cases of a section, if any are said."""
+    parts = [(call, rows[:most]) for call, rows in sections()]
+    return stdin(parts), stdout(parts)
+
+
+def first():
+    """The same of the first of each section."""
+    return texts(1)
