@@ -44,8 +44,12 @@ LANES = {
         "up_file": "database files",
     },
     "the program": {
-        "up_desk": "commands, the headline", "up_service": "scripts, streams", "up_main":
-        "the programs' parts", "uptane_desk": "under HMAC", "uptane_desk_ed25519": "under Ed25519"
+        "up_desk": "commands, the headline",
+        "up_service": "scripts, streams",
+        "up_shipped": "what ships",
+        "up_main": "the programs' parts",
+        "uptane_desk": "under HMAC",
+        "uptane_desk_ed25519": "under Ed25519"
     },
     "bytes and HTTP": {
         "up_pieces": "bytes in pieces",
