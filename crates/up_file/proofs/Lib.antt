@@ -1,4 +1,5 @@
 pub mod Adopted
 pub mod AsBefore
+pub mod Asked
 pub mod Closed
 pub mod TakenFor

@@ -1,4 +1,5 @@
 pub mod Adopting
+pub mod Causes
 pub mod Closing
 pub mod NewFiles
 pub mod Opening

@@ -2,6 +2,7 @@
 #![tactic(auto)]
 
 pub mod adopting;
+pub mod causes;
 pub mod closing;
 pub mod opening;
 pub mod schemes;

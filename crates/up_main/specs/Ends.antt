@@ -6,7 +6,7 @@ use Rattle.up_program.specs.declared.failure.Failure.TheVariants.{Usage, Unopene
 -- a script was stopped, by a cause of which this holds
 abbrev pub IsStopped : Failure → (ScriptCause → Type 0) → Type 0
 IsStopped Usage P = ⊥
-IsStopped Unopened P = ⊥
+IsStopped (Unopened cause) P = ⊥
 IsStopped (Stopped fault) P = P fault.cause
 IsStopped Unread P = ⊥
 IsStopped Unheard P = ⊥

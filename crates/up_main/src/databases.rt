@@ -1,5 +1,5 @@
 //! Databases: in memory, or in a file.
-ghost use Rattle.std.specs.Prelude.{◌≡◌, false, IfSome};
+ghost use Rattle.std.specs.Prelude.{◌≡◌, false, Err, IfOk};
 ghost use Rattle.sqlite.specs.Files.{file_state};
 ghost use Rattle.sqlite.specs.Held.{state};
 
@@ -11,11 +11,13 @@ use std::alloc::Global;
 use std::fs;
 use up_desk::desk::Desk;
 use up_file::adopting::{adopt_or_create, take_for};
+use up_file::causes::cause_of;
 use up_file::closing::close_file;
 use up_file::opening::{connect_files, open_files};
 use up_program::closing::closing;
 use up_program::failure::{Failure, told};
 use up_program::files::{is_memory, journal_of, may_open};
+use up_program::unopened::Unopened;
 use up_sign::scheme::Scheme;
 
 /// What is done over a database.
@@ -43,7 +45,7 @@ pub(crate) fn work_over<K: Scheme>(
 
 fn over_memory<K: Scheme>(rt: &HostRuntime, scheme: K, work: Work) -> Result<(), Failure> {
     let Ok(conn) = Connection::open_in_memory(rt.alloc()) else {
-        return told(&mut rt.stderr(), Err(Failure::Unopened));
+        return not_opened(rt, Unopened::Memory);
     };
     match adopt_or_create(conn) {
         Ok(store) => {
@@ -53,8 +55,15 @@ fn over_memory<K: Scheme>(rt: &HostRuntime, scheme: K, work: Work) -> Result<(),
             released(desk);
             ended
         }
-        Err(_) => told(&mut rt.stderr(), Err(Failure::Unopened)),
+        Err(_) => not_opened(rt, Unopened::Memory),
     }
+}
+
+/// Tells why no database is opened.
+fn not_opened(rt: &HostRuntime, cause: Unopened) -> Result<(), Failure>
+    ensures { result ≡ Err (Failure.Unopened cause) }
+{
+    told(&mut rt.stderr(), Err(Failure::Unopened(cause)))
 }
 
 /// A file whose keys are another scheme's stays as it is.
@@ -64,12 +73,12 @@ fn over_file<K: Scheme>(
     path: &str,
     work: Work,
 ) -> Result<(), Failure> {
-    if !is_usable(rt, path) {
-        return told(&mut rt.stderr(), Err(Failure::Unopened));
+    if let Some(cause) = hindrance(rt, path) {
+        return not_opened(rt, cause);
     }
     match connected(rt, path) {
-        Some(conn) => over_files(rt, scheme, conn, work),
-        None => told(&mut rt.stderr(), Err(Failure::Unopened)),
+        Ok(conn) => over_files(rt, scheme, conn, work),
+        Err(cause) => not_opened(rt, cause),
     }
 }
 
@@ -87,28 +96,28 @@ fn over_files<K: Scheme, D: Disk + Drop>(
     requires mode { (file_state conn).in_transaction ≡ false }
 {
     match desk_over(rt.alloc(), scheme, conn) {
-        Some(desk) => closing(
+        Ok(desk) => closing(
             desk,
             |desk| work_at(rt, desk, work),
             |desk| {
                 close_file(released(desk)).ok();
             },
         ),
-        None => told(&mut rt.stderr(), Err(Failure::Unopened)),
+        Err(cause) => not_opened(rt, cause),
     }
 }
 
-/// A desk over a database that is this scheme's; none where it is another's, or can't be taken.
+/// A desk over a database that is this scheme's; or why it isn't, or can't be taken.
 fn desk_over<K: Scheme, D: Alter + Drop>(
     alloc: Global,
     scheme: K,
     conn: Connection<D>,
-) -> Option<Desk<K, D>>
+) -> Result<Desk<K, D>, Unopened>
     requires mode { (state D.Store conn).in_transaction ≡ false }
 {
     match take_for(alloc, scheme.method(), conn) {
-        Ok(store) => Some(Desk::new(scheme, store)),
-        Err(_) => None,
+        Ok(store) => Ok(Desk::new(scheme, store)),
+        Err((mut conn, fault)) => Err(cause_of(&mut conn, fault)),
     }
 }
 
@@ -119,29 +128,39 @@ fn released<K: Scheme, D: Alter>(desk: Desk<K, D>) -> Connection<D>
     desk.release().release()
 }
 
-/// A connection over the database file at the path and its log; none where they can't be opened, or no connection can be made over
+/// A connection over the database file at the path and its log; or why they can't be opened, or no connection can be made over
 /// them.
-fn connected(rt: &HostRuntime, path: &str) -> Option<Connection<FileStore<FileFrom<Unknown>>>>
-    ensures mode { IfSome result (λ c. (file_state c).in_transaction ≡ false) }
+fn connected(
+    rt: &HostRuntime,
+    path: &str,
+) -> Result<Connection<FileStore<FileFrom<Unknown>>>, Unopened>
+    ensures mode { IfOk result (λ c. (file_state c).in_transaction ≡ false) }
 {
-    let (files, seed) = open_files(rt, path, Unknown).ok()?;
-    connect_files(rt.alloc(), files, seed).ok()
+    let (files, seed) = open_files(rt, path, Unknown)?;
+    match connect_files(rt.alloc(), files, seed) {
+        Ok(conn) => Ok(conn),
+        Err((cause, _)) => Err(cause),
+    }
 }
 
-/// Whether a database file may stand at the path, and beside it its log and the journal that SQLite looks for; else nothing is
+/// Why no database file may stand at the path, and beside it its log and the journal that SQLite looks for: then nothing is
 /// made there, and what is there stays.
-fn is_usable(rt: &HostRuntime, path: &str) -> bool {
+fn hindrance(rt: &HostRuntime, path: &str) -> Option<Unopened> {
     let Ok(journal) = journal_of(rt.alloc(), path) else {
-        return false;
+        return Some(Unopened::Memory);
     };
     if fs::exists(rt, journal.as_str()).is_err() {
-        return false;
+        return Some(Unopened::Path);
     }
     let length = match fs::metadata(rt, path) {
         Ok(found) => Some(found.len()),
         Err(_) => None,
     };
-    may_open(length, &mut || fs::read(rt, path).ok())
+    if may_open(length, &mut || fs::read(rt, path).ok()) {
+        None
+    } else {
+        Some(Unopened::Damaged)
+    }
 }
 
 fn work_at<K: Scheme, D: Alter>(

@@ -4,3 +4,5 @@ pub mod Times
 pub mod Calls
 pub mod Files
 pub mod Tries
+pub mod Unopened
+pub mod Versions

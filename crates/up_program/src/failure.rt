@@ -5,6 +5,7 @@ ghost use Rattle.up_program.specs.Failures.{cause_word, failure_line, status_of,
 ghost use Rattle.up_program.specs.Messages.{IsWritten};
 
 use crate::line::{Line, write_line};
+use crate::unopened::Unopened;
 use itoa::Buffer;
 use std::process::ExitCode;
 use up_lines::fault::{ScriptCause, ScriptFault};
@@ -15,8 +16,8 @@ use up_pieces::sink::Sink;
 pub enum Failure {
     /// The words ask for no job.
     Usage,
-    /// The database can't be opened, or isn't this product's.
-    Unopened,
+    /// The database isn't opened, and why.
+    Unopened(Unopened),
     /// The script was stopped.
     Stopped(ScriptFault),
     /// The file can't be opened or read, or is too long.
@@ -32,7 +33,7 @@ impl Failure {
     {
         match self {
             Failure::Usage => 2,
-            Failure::Unopened => 3,
+            Failure::Unopened(_) => 3,
             Failure::Stopped(_) => 4,
             Failure::Unread => 4,
             Failure::Unheard => 4,
@@ -48,7 +49,11 @@ impl Failure {
             Failure::Usage => line.push_str(
                 "usage: uptane_desk run FILE | serve FILE PORT COUNT | digest FILE\n",
             ),
-            Failure::Unopened => line.push_str("uptane_desk: cannot open the database\n"),
+            Failure::Unopened(cause) => {
+                line.push_str("uptane_desk: cannot open the database: ");
+                line.push_str(cause.words());
+                line.push_str("\n");
+            }
             Failure::Stopped(fault) => {
                 line.push_str("uptane_desk: stopped after ");
                 line.push_str(Buffer::new().format(fault.lines));

@@ -12,4 +12,6 @@ pub mod line;
 pub mod messages;
 pub mod times;
 pub mod tries;
+pub mod unopened;
+pub mod version;
 pub mod words;

@@ -5,20 +5,21 @@ use std::test::Fail;
 use std::{fs, io};
 use up_file::closing::close_file;
 use up_file::opening::{connect_files, open_files};
+use up_program::unopened::Unopened;
 use up_tables::open::{OpenFault, create_tables, take_tables};
 
-/// A connection over the file at the path; or the fault, and whether files came back with it.
+/// A connection over the file at the path; or why there is none, and whether files came back with it.
 fn opened(
     rt: &HostRuntime,
     path: &str,
-) -> Result<Connection<FileStore<FileFrom<Unknown>>>, (OpenFault, bool)> {
+) -> Result<Connection<FileStore<FileFrom<Unknown>>>, (Unopened, bool)> {
     let (files, seed) = match open_files(rt, path, Unknown) {
         Ok(opened) => opened,
-        Err(fault) => return Err((fault, false)),
+        Err(cause) => return Err((cause, false)),
     };
     match connect_files(rt.alloc(), files, seed) {
         Ok(conn) => Ok(conn),
-        Err((fault, _)) => Err((fault, true)),
+        Err((cause, _)) => Err((cause, true)),
     }
 }
 
@@ -67,7 +68,7 @@ fn a_new_file_is_its_owners_alone(rt: HostRuntime) -> Result<(), Fail> {
     assert!(rt;
         matches!(
             opened(&rt, "up_file_new/a.db"),
-            Err((OpenFault::Store, false))
+            Err((Unopened::Locked, false))
         )
     );
     drop(conn);
@@ -99,18 +100,21 @@ fn a_closed_file_stands_alone(rt: HostRuntime) -> Result<(), Fail> {
 fn what_is_no_database_file_is_refused(rt: HostRuntime) -> Result<(), Fail> {
     in_new_folder(&rt, "up_file_refused")?;
     fs::write(&rt, "up_file_refused/text", b"no database\n".as_slice())?;
-    for (path, has_files) in [
-        (":memory:", false),
-        ("file:up_file_refused/a.db", false),
-        ("", false),
-        ("up_file_refused", false),
-        ("up_file_refused/no/a.db", false),
-        ("up_file_refused/text", true),
+    fs::write(&rt, "up_file_refused/hot", b"".as_slice())?;
+    fs::write(&rt, "up_file_refused/hot-journal", b"journal".as_slice())?;
+    for (path, wanted) in [
+        (":memory:", (Unopened::Path, false)),
+        ("file:up_file_refused/a.db", (Unopened::Path, false)),
+        ("", (Unopened::Path, false)),
+        ("up_file_refused", (Unopened::Path, false)),
+        ("up_file_refused/no/a.db", (Unopened::Path, false)),
+        ("up_file_refused/hot", (Unopened::Journal, false)),
+        ("up_file_refused/text", (Unopened::Damaged, true)),
     ] {
         let Err(refused) = opened(&rt, path) else {
             return Err(Fail::from(io::Error::from(io::ErrorKind::Other)));
         };
-        assert_eq!(rt; refused, (OpenFault::Store, has_files), "{path}");
+        assert_eq!(rt; refused, wanted, "{path}");
     }
     assert!(rt; fs::metadata(&rt, "file:up_file_refused/a.db").is_err());
     let text = fs::read(&rt, "up_file_refused/text")?;
@@ -134,7 +138,7 @@ fn a_changed_bit_is_found(rt: HostRuntime) -> Result<(), Fail> {
         assert!(rt;
             matches!(
                 opened(&rt, "up_file_changed/b.db"),
-                Err((OpenFault::Store, true))
+                Err((Unopened::Damaged, true))
             ),
             "{at}"
         );

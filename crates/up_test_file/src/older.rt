@@ -1,10 +1,13 @@
 //! Files of older schemas, which are taken. The statements are those of their own schema, and no part of the program.
 use crate::files::{found, in_new_folder};
 use sqlite::{Alter, Connection, FileFrom, FileStore, Unknown};
+use std::alloc::Global;
 use std::test::Fail;
 use std::{fs, io};
-use up_file::adopting::adopt_or_create;
+use up_file::adopting::{adopt_or_create, take_for};
+use up_file::causes::cause_of;
 use up_file::closing::close_file;
+use up_program::unopened::Unopened;
 
 const EIGHT_TABLES: [&str; 8] = [
     "CREATE TABLE meta (id INTEGER PRIMARY KEY, app TEXT NOT NULL, schema INTEGER NOT NULL, root INTEGER NOT NULL, image_version INTEGER NOT NULL, stamp INTEGER NOT NULL) STRICT",
@@ -75,6 +78,17 @@ fn taken<S: Alter + Drop>(conn: Connection<S>) -> Option<Connection<S>> {
     match adopt_or_create(conn) {
         Ok(store) => Some(store.release()),
         Err(_) => None,
+    }
+}
+
+/// Why the database isn't taken for a scheme; none where it is.
+fn cause<S: Alter + Drop>(alloc: Global, conn: Connection<S>) -> Option<Unopened> {
+    if !conn.is_autocommit() {
+        return None;
+    }
+    match take_for(alloc, "hmac-sha256", conn) {
+        Ok(_) => None,
+        Err((mut conn, fault)) => Some(cause_of(&mut conn, fault)),
     }
 }
 
@@ -153,18 +167,20 @@ fn a_file_of_schema_2_is_raised(rt: HostRuntime) -> Result<(), Fail> {
 // promise: file-adopted
 #[test]
 fn another_schema_is_refused(rt: HostRuntime) -> Result<(), Fail> {
-    for change in [
-        "UPDATE meta SET schema = 4",
-        "UPDATE meta SET schema = 0",
-        "UPDATE meta SET app = 'uptane'",
-        "UPDATE meta SET id = 2",
-        "DROP TABLE meta",
-        "CREATE TABLE retired (n INTEGER)",
-        "CREATE TABLE image_sha512 (n INTEGER)",
+    for (change, wanted) in [
+        ("UPDATE meta SET schema = 4", Unopened::NewerSchema),
+        ("UPDATE meta SET schema = 0", Unopened::Damaged),
+        ("UPDATE meta SET app = 'uptane'", Unopened::OtherProduct),
+        ("UPDATE meta SET id = 2", Unopened::OtherProduct),
+        ("DROP TABLE meta", Unopened::OtherProduct),
+        ("CREATE TABLE retired (n INTEGER)", Unopened::Damaged),
+        ("CREATE TABLE image_sha512 (n INTEGER)", Unopened::Damaged),
     ] {
         in_new_folder(&rt, "up_file_other")?;
         make(&rt, "up_file_other/a.db", &[change])?;
         assert!(rt; is_refused(&rt, "up_file_other/a.db")?, "{change}");
+        let told = cause(rt.alloc(), found(&rt, "up_file_other/a.db")?);
+        assert_eq!(rt; told, Some(wanted), "{change}");
     }
     fs::remove_dir_all(&rt, "up_file_other")?;
     Ok(())

@@ -463,8 +463,8 @@ def judged(story, own, table, column, row, value):
     given, damage = shutil.copy(path, own / "given"), list(marks(story.before, all_rows(path)))
     status, out, err = trials.run(story.program, path, story.lines)
     if breaks_the_schema(given) or (table, column) in OF_OTHERS:
-        return (status, out,
-                err) == (3, b"", trials.NO_DATABASE) and path.read_bytes() == given.read_bytes()
+        return (status, out) == (
+            3, b"") and err in trials.UNOPENED.values() and path.read_bytes() == given.read_bytes()
     told = out.decode("utf-8", "surrogateescape").split("\n")[:-1]
     if status or err or len(told) != len(story.lines):
         return False

@@ -66,24 +66,24 @@ def modes(program, own):
         yield "a new file in the working folder", trials.printed(
             program, "alone", DAY[:1]) == ["done"] and mode("alone") == 0o600
         yield "a URI is refused", trials.run(program, "file:named",
-                                             DAY[:1]) == (3, b"", trials.NO_DATABASE)
+                                             DAY[:1]) == (3, b"", trials.UNOPENED["path"])
         yield "and no file is made of it", not [name for name in os.listdir() if "named" in name]
     finally:
         os.chdir(there)
     (own / "link").symlink_to("nowhere")
     yield "a link to nothing is refused", trials.run(program, own / "link",
-                                                     DAY[:1]) == (3, b"", trials.NO_DATABASE)
+                                                     DAY[:1]) == (3, b"", trials.UNOPENED["path"])
     (own / "folder").mkdir()
     for name in ("folder", "missing/file"):
         yield name + " is refused", trials.run(program, own / name,
-                                               DAY[:1]) == (3, b"", trials.NO_DATABASE)
+                                               DAY[:1]) == (3, b"", trials.UNOPENED["path"])
     yield "nothing is made in their place", not (own / "missing").exists() and not (
         own / "nowhere").exists()
     path = own / "byte"
     path.write_bytes(b"S")
     told = trials.run(program, path, DAY[:1])
     yield "a file of one byte is refused, and stays", told == (
-        3, b"", trials.NO_DATABASE) and path.read_bytes() == b"S"
+        3, b"", trials.UNOPENED["damaged"]) and path.read_bytes() == b"S"
     path = own / "begun"
     path.write_bytes(b"\0")
     yield "what a stop may leave of a database that is made is taken", trials.printed(
@@ -94,7 +94,7 @@ def modes(program, own):
     held = path.read_bytes()
     journal.write_bytes(left)
     yield "a file with a journal that SQLite left is refused", trials.run(
-        program, path, SHOWS[:1]) == (3, b"", trials.NO_DATABASE)
+        program, path, SHOWS[:1]) == (3, b"", trials.UNOPENED["journal"])
     yield "and both stay", path.read_bytes() == held and journal.read_bytes() == left
     journal.unlink()
     yield "without the journal the file is taken", trials.printed(program, path,
@@ -103,7 +103,7 @@ def modes(program, own):
     there = sorted(os.listdir(own))
     told = trials.run(program, own / (248 * "n"), DAY[:1])
     yield "a name too long for its journal is refused, and no file is left", told == (
-        3, b"", trials.NO_DATABASE) and sorted(os.listdir(own)) == there
+        3, b"", trials.UNOPENED["path"]) and sorted(os.listdir(own)) == there
     yield "the longest that fits is taken", trials.printed(program, own / (247 * "n"),
                                                            DAY[:1]) == ["done"]
 
@@ -144,7 +144,7 @@ def seconds(program, own):
     first = Running(program, path)
     answers = [first.ask(line) for line in DAY[:4]]
     yield "a second program is refused", trials.run(program, path,
-                                                    DAY[:1]) == (3, b"", trials.NO_DATABASE)
+                                                    DAY[:1]) == (3, b"", trials.UNOPENED["locked"])
     yield "and so is SQLite", is_locked(path)
     answers += [first.ask(line) for line in DAY[4:]]
     yield "the first goes on", answers == trials.expected(":memory:", DAY)
@@ -178,7 +178,7 @@ def flipped(program, own):
             file.seek(at)
             file.write(bytes([data[at] ^ bit]))
         status, out, err = trials.run(program, bad, asked)
-        if (status, out, err) == (3, b"", trials.NO_DATABASE):
+        if (status, out, err) == (3, b"", trials.UNOPENED["damaged"]):
             refused += 1
         elif status or err or out.decode("ascii", "replace").split("\n")[:-1] != wanted:
             wrong.append("byte %d, bit %d" % (at, bit))
@@ -253,7 +253,7 @@ def other_scheme(program, own):
         file, held = path.read_bytes(), log()
         told = trials.run(program, path, DAY[:1])
         kept = log().startswith(held) if len(held) > 41 else len(log()) == 41
-        return told == (3, b"", trials.NO_DATABASE) and path.read_bytes() == file and kept
+        return told == (3, b"", trials.UNOPENED["scheme"]) and path.read_bytes() == file and kept
 
     founded, bare = made(own / "founded", DAY[:1]), made(own / "bare", [])
     yield "a file of the other scheme is refused", stays(founded)

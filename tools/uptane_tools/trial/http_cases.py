@@ -302,7 +302,7 @@ def no_listener(program, path):
 def second_program(program, path):
     """While it serves, a second program on its file is refused."""
     with served(program, path, 1) as running:
-        refused = trials.run(program, path, FIRST_PATH) == (3, b"", trials.NO_DATABASE)
+        refused = trials.run(program, path, FIRST_PATH) == (3, b"", trials.UNOPENED["locked"])
         return refused and told(running, NO_FILE) == OPEN and ended(running)
 
 

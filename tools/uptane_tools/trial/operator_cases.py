@@ -4,6 +4,7 @@ of files, the page of the fleet, and the queries and idioms of `docs/use/OPERATI
     tools/run operator_cases PROGRAM
 """
 import base64
+import html
 import itertools
 import json
 import re
@@ -601,13 +602,14 @@ def taken_changed(program, own):
     for name, sql, lost in TAKEN + [(name, it, None) for name, it in REFUSED]:
         other = changed(path, own / name.replace(" ", "-"), sql)
         unwritten = trials.run(program, trials.copied(other, own / "unwritten"), ASKED)
-        yield "a file with %s is refused for its sums" % name, unwritten == (3, b"",
-                                                                             trials.NO_DATABASE)
+        yield "a file with %s is refused for its sums" % name, unwritten == (
+            3, b"", trials.UNOPENED["damaged"])
         page_sums.rewritten(other)
         if lost is None:
-            yield "and with sums, where it is %s" % name, trials.run(program, other,
-                                                                     ASKED) == (3, b"",
-                                                                                trials.NO_DATABASE)
+            told = trials.run(program, other, ASKED)
+            print("%s: %s" % (name, told[2].decode("ascii")), end="")
+            yield "and with sums, where it is %s" % name, told[:2] == (
+                3, b"") and told[2] in trials.UNOPENED.values()
         else:
             wanted = ["refused 2 Store" if at in lost else it for at, it in enumerate(as_ever)]
             yield "with sums it is taken, and %d lines are lost" % len(lost), trials.printed(
@@ -644,6 +646,23 @@ def check_beside(path):
 
 def data_of(page):
     return json.loads(re.search(r'id="data" data-now="\d+">(.*?)</script>', page).group(1))
+
+
+def unwrapped(page):
+    """Whether each text in an element that keeps to one line fits a screen of 420 pixels, of some
+    49 letters; on one of at most 760 the style lets some wrap, as the caption of a line over time.
+    """
+    style = re.search(r"<style>(.*?)</style>", page, re.S)[1]
+    wide, narrow = style.split("@media (max-width: 760px)")
+    kept = set(re.findall(r"\.([\w-]+)(?: small)? { [^}]*white-space: nowrap", wide))
+    lets = set(re.findall(r"\.([\w-]+) { [^}]*white-space: normal", narrow))
+    texts = [
+        (words[0], html.unescape(re.sub("<[^>]*>", "", words[1])))
+        for words in re.findall(r'<(?:div|span|a|td|small) class="([\w -]+)"[^>]*>(.*?)</', page)
+    ]
+    longest = max(len(text) for names, text in texts if "of" in names.split())
+    return "of" in kept & lets and longest > 20 and all(
+        len(text) < 49 for names, text in texts if set(names.split()) & (kept - lets))
 
 
 def pages(program, own):
@@ -724,6 +743,7 @@ def pages(program, own):
     yield "the page is as of the newest manifest", "as of %s UTC" % date_of(
         max(it["seen"] or 0 for it in vehicles)) in made
     yield "no secret is on the page", secrets and not any(secret in made for secret in secrets)
+    yield "at 420 pixels each text that can't wrap fits", unwrapped(made)
     trials.printed(program, path, [
         fleet.line(
             "bench", vehicle="new", primary="n", key=fleet.key(9), counter=1, reports=[attack])

@@ -1,7 +1,8 @@
 """What the pages name is there: links, headings, files, contracts, calls, tests, rows, and the
 texts of the Primary's page. Tests are functions, or sections of the rows that a crate or a tool
 carries out, named by their words. And each public call of the program's libraries is named by
-the page of proofs, each refusal and each message of the program by the page for operators.
+the page of proofs, each refusal and each message of the program by the page for operators. The
+version is the project's wherever it is told.
 
     tools/run pages          tells what isn't there
     tools/run pages write    writes, for each promise of the page of proofs, the files of its
@@ -14,6 +15,8 @@ from uptane_tools import arguments
 from uptane_tools.trial import trials
 from uptane_tools.trial.trials import TOP
 
+# the words of each cause for which no database is opened
+CAUSES = "crates/up_program/specs/Unopened.antt"
 PAGES = [
     "README.md", "SECURITY.md", "docs/**/*.md", "examples/**/README.md", "rows/README.md",
     "vectors/README.md", "crates/*/README.md"
@@ -267,11 +270,28 @@ def messages():
     for name in re.findall(r"`uptane_desk: (cannot .*?)`", listed) + re.findall(
             r"^\| `(.*?)` \|", listed, re.MULTILINE):
         yield "docs/use/OPERATING.md: the message %s" % name, name in told
+    for name in re.findall(r'= codes "(.*)"', (TOP / CAUSES).read_text("utf-8")):
+        yield "docs/use/OPERATING.md: the cause %s" % name, name in told
+
+
+def versions():
+    """Whether `--version`, its definition and its page tell the project's version, and one kit."""
+    source = (TOP / "crates" / "up_program" / "src" / "version.rt").read_text("utf-8")
+    told = dict(re.findall(r'const (\w+): &str = "(.*)";', source))
+    yield "version.rt: VERSION", told["VERSION"] == (TOP / "VERSION").read_text("ascii").strip()
+    line = "uptane_desk %(VERSION)s, ed25519, kit %(KIT)s, %(PROOF)s" % told
+    yield "docs/use/PROGRAM.md: the version", line in part("use/PROGRAM.md", "`--version`")
+    first, last = line.split("ed25519")
+    stated = (TOP / "crates" / "up_program" / "specs" / "Versions.antt").read_text("utf-8")
+    yield "Versions.antt: the version", '"%s" ++ method ++ codes "%s\\n"' % (first, last) in stated
 
 
 def cases():
     """Each of the names that lead nowhere, and what the pages show."""
-    found = [*links(), *files(), *promises(), *located(), *calls(), *refusals(), *messages()]
+    found = [
+        *links(), *files(), *promises(), *located(), *calls(), *refusals(), *messages(),
+        *versions()
+    ]
     yield "%d links and names of the pages" % len(found), all(well for _, well in found)
     yield from ((name, well) for name, well in found if not well)
     yield from primary()

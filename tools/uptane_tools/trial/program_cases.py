@@ -1,26 +1,30 @@
 """The program's words, exit statuses and messages: what `docs/use/PROGRAM.md` says, tried.
 
 promise: digest, exit-status, messages, script-ends-well, file-names, digest-line,
-words-after-the-name
+words-after-the-name, version
 """
 import hashlib
 import os
+import re
 import resource
+import shutil
 import subprocess
 import tempfile
 from pathlib import Path
 
+from uptane_tools import TOP
+from uptane_tools.oracle import reference
+from uptane_tools.trial import trials
+
 USAGE = b"usage: uptane_desk run FILE | serve FILE PORT COUNT | digest FILE\n"
-NO_DATABASE = b"uptane_desk: cannot open the database\n"
+NO_PATH = trials.UNOPENED["path"]
 UNREAD = b"uptane_desk: cannot read the file\n"
 RUN = ["run", ":memory:"]
 NOT_JSON = b"refused 5 NotJson\n"
 # SHA-256 and SHA-512 of `abc`, by FIPS 180-4
-ABC = (
-    b"3 ba7816bf8f01cfea414140de5dae2223b00361a396177a9cb410ff61f20015ad "
-    b"ddaf35a193617abacc417349ae20413112e6fa4e89a97ea20a9eeee64b55d39a"
-    b"2192992a274fc1a836ba3c23a3feebbd454d4423643ce80e2a9ac94fa54ca49f\n"
-)
+ABC = (b"3 ba7816bf8f01cfea414140de5dae2223b00361a396177a9cb410ff61f20015ad "
+       b"ddaf35a193617abacc417349ae20413112e6fa4e89a97ea20a9eeee64b55d39a"
+       b"2192992a274fc1a836ba3c23a3feebbd454d4423643ce80e2a9ac94fa54ca49f\n")
 LONGEST_LINE = 2_097_152
 LARGEST_FILE = 1_073_741_824
 MEBIBYTE = 1 << 20
@@ -53,9 +57,27 @@ def words(program):
             program, ["serve", ":memory:", port, count], b"", 2, b"", USAGE)
     yield "serve without a count", answers(program, ["serve", ":memory:", "80"], b"", 2, b"", USAGE)
     for path in ("/dev/null", "file:desk.db"):
-        yield "run over " + path, answers(program, ["run", path], b"nope\n", 3, b"", NO_DATABASE)
+        yield "run over " + path, answers(program, ["run", path], b"nope\n", 3, b"", NO_PATH)
         yield "serve over " + path, answers(program, ["serve", path, "80", "1"], b"", 3, b"",
-                                            NO_DATABASE)
+                                            NO_PATH)
+
+
+def version(program):
+    """What the program says of itself is what the project and the kit say, and what its file's
+    end says of a proof.
+    """
+    told = subprocess.run([program, "--version"], capture_output=True, check=False)
+    proof = "without" if b"\nUNPROVED: " in Path(program).read_bytes()[-200:] else "with"
+    project = (TOP / "VERSION").read_text("ascii").strip()
+    line = re.fullmatch(r"uptane_desk (\S+), (\S+), kit (\S+), built (\w+) a proof\n",
+                        told.stdout.decode("ascii"))
+    yield "the version", told.returncode == 0 and told.stderr == b"" and line and line.groups() == (
+        project, reference.METHOD, line[3], proof)
+    kit = shutil.which("rt") and subprocess.run(["rt", "version"], capture_output=True,
+                                                check=False).stdout.decode("ascii").split()[0]
+    if kit:
+        yield "and the kit", bool(line) and line[3] == kit
+    yield "with a word behind it", answers(program, ["--version", "x"], b"", 2, b"", USAGE)
 
 
 def names(program):
@@ -65,10 +87,10 @@ def names(program):
         for length in (248, 251, 252, 255, 256):
             path = str(Path(folder) / (length * "n"))
             yield "run over a name of %d bytes" % length, answers(program, ["run", path], b"nope\n",
-                                                                  3, b"", NO_DATABASE)
+                                                                  3, b"", NO_PATH)
             yield "serve over a name of %d bytes" % length, answers(program,
                                                                     ["serve", path, "80", "1"], b"",
-                                                                    3, b"", NO_DATABASE)
+                                                                    3, b"", NO_PATH)
         yield "and no file is left", os.listdir(folder) == []
         longest = 247 * "n"
         yield "run over the longest name", answers(program,
@@ -165,6 +187,7 @@ def digests(program):
 def cases(program):
     """Each case with whether the program does as the page says."""
     yield from words(program)
+    yield from version(program)
     yield from names(program)
     yield from scripts(program)
     yield from digests(program)

@@ -61,7 +61,8 @@ VARIABLES = {
     "memory": "FAIL_ALLOC", "disk": "FAIL_IO", "older": "FAIL_ALLOC", "reading": "FAIL_ALLOC",
     "http": "FAIL_ALLOC"
 }
-MESSAGES = [b"", b"uptane_desk: stopped after %d lines: memory\n", trials.NO_DATABASE]
+MESSAGES = [b"", b"uptane_desk: stopped after %d lines: memory\n"]
+UNOPENED = [trials.UNOPENED[name] for name in ("memory", "path", "damaged")]
 POSTS = 4
 
 
@@ -286,7 +287,8 @@ def ended(it, count):
     out, err = it.communicate(timeout=60)
     if it.returncode == 2:
         return count == 0 and err.startswith(b"usage: ")
-    return (it.returncode, err) in ((0, b""), (3, trials.NO_DATABASE), (4, MESSAGES[1] % count))
+    return (it.returncode, err) in ((0, b""), (4, MESSAGES[1] % count), *((3, line)
+                                                                          for line in UNOPENED))
 
 
 def found(path, row, count):
@@ -365,7 +367,7 @@ def posted(program, path, failing):
     it = failing.start([program, "serve", path, port, 20])
     if it.stdout.readline() != b"listening %d\n" % port:
         status, err = it.wait(60), it.stderr.read()
-        well = (status, err) == (3, trials.NO_DATABASE) or err.startswith(b"usage: ")
+        well = (status == 3 and err in UNOPENED) or err.startswith(b"usage: ")
         return None if well and trials.rows(path) == before else "no start"
     it.port = port
     got = [http_cases.told(it, http_cases.POST % len(body) + body) for _ in range(POSTS)]

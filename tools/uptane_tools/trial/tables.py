@@ -134,8 +134,10 @@ def foreign(program, own):
 
 def is_refused(program, path):
     before = path.read_bytes()
-    return trials.run(program, path,
-                      DAY[:1]) == (3, b"", trials.NO_DATABASE) and path.read_bytes() == before
+    status, out, err = trials.run(program, path, DAY[:1])
+    return (status,
+            out) == (3, b"") and err in (trials.UNOPENED["product"],
+                                         trials.UNOPENED["damaged"]) and path.read_bytes() == before
 
 
 # ---- older schemas

@@ -17,7 +17,16 @@ TABLES = [statements.table_of(statement) for statement in statements.schema()]
 FIRST_PATH, MESSAGES = (TOP / "examples" / it for it in {
     "hmac-sha256": ("first_path", "primary"), "ed25519": ("first_path_ed25519", "primary/ed25519")
 }[reference.METHOD])
-NO_DATABASE = b"uptane_desk: cannot open the database\n"
+# why a database isn't opened, each with the line that tells it
+UNOPENED = {
+    name: b"uptane_desk: cannot open the database: %s\n" % words
+    for name, words in {
+        "memory": b"there is too little memory", "path": b"its path can't be opened or made",
+        "locked": b"another program has it open", "journal": b"SQLite left a journal beside it",
+        "damaged": b"it is damaged, or its disk fails", "product": b"it is another product's",
+        "schema": b"it has a newer schema", "scheme": b"its keys are of the other scheme"
+    }.items()
+}
 
 
 def run(program, path, script, limit=120):

@@ -160,6 +160,11 @@ def shown(name, unit=UNIT):
     return ran("systemctl", "show", "-p", name, "--value", unit, text=True).stdout.strip()
 
 
+def said(line):
+    """Whether the service wrote this."""
+    return line in ran("journalctl", "-q", "-o", "cat", "-u", UNIT).stdout
+
+
 def changed(lines, unit=UNIT):
     """Whether the unit could be given these lines in the place of its own, or its own again
     where there are none.
@@ -329,6 +334,7 @@ def ends():
         waits = other.stdout.readline() and ran("systemctl", "start",
                                                 UNIT) and until(lambda: int(shown("NRestarts")) > 1)
         other.stdin.close()
+    yield "its log says that another program has it", said(trials.UNOPENED["locked"])
     yield "it waits for a program that has the file", waits and all(
         delivered(body) == reply for body, reply in kept)
 
@@ -516,6 +522,7 @@ def broken():
     well("systemctl", "restart", "--no-block", UNIT)
     yield "a file of another owner: it gives up", until(lambda: shown(
         "ActiveState") == "failed") and fewer and limits == ["30", "1h"]
+    yield "its log says why", said(trials.UNOPENED["path"])
     yield "and that is told", failed_so(UNIT)
     with open("/etc/uptane/settings", "a", encoding="ascii") as settings:
         settings.write("LATE=1\nWATCHED=/run/watch.prom\n")
@@ -559,6 +566,7 @@ def restored():
     trials.log_of(FILE).unlink(missing_ok=True)
     well("systemctl", "start", "--no-block", UNIT)
     yield "the file is lost, and the service fails", until(lambda: int(shown("NRestarts")) > 2)
+    yield "its log says that it is damaged", said(trials.UNOPENED["damaged"])
     done = ran("/usr/lib/uptane_desk/tools/run", "restore", str(backup))
     print(done.stdout.decode("utf-8") + done.stderr.decode("utf-8"), end="")
     yield "it is restored, and served", done.returncode == 0 and shown(

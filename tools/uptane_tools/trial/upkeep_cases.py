@@ -5,7 +5,7 @@ often the small Primary asks.
     tools/run upkeep_cases PROGRAM
 
 In the place of systemd a small program starts and stops the services. What isn't installed
-(promtool, dpkg, curl) is left out, and told.
+(promtool, dpkg, curl, logrotate) is left out, and told.
 """
 import contextlib
 import hashlib
@@ -456,6 +456,7 @@ def applied(program, own):
         yield from killed(it)
         it.env["PROGRAM"] = str(program)
         yield from rotated(it)
+        yield from turned(it)
 
 
 def read_alone(it):
@@ -498,6 +499,42 @@ def killed(it):
     yield "and nothing is left", it.script("apply.sh",
                                            "--mend").returncode == 0 and it.calls() == [] and list(
                                                (it.own / "spool").glob("taken.*")) == []
+
+
+def between():
+    """Nobody waits for the timer: a path is watched whose unit gives what was dropped; and no
+    Timestamp comes near its end before the timer's next time.
+    """
+    path, unit, timer = ((SERVICE / ("uptane-desk-" + name)).read_text("ascii")
+                         for name in ("now.path", "now.service", "refresh.timer"))
+    asked = "/var/spool/uptane/now"
+    yield "a file asks for scripts to be given at once", "PathExists=%s\n" % asked in path and (
+        "ExecStartPre=/bin/rm -rf %s\nExecStart=/usr/lib/uptane_desk/apply.sh\n" % asked) in unit
+    hours = sorted(map(int, re.search(r"OnCalendar=.* ([\d,]+):00:00\n", timer)[1].split(",")))
+    gaps = [after - before for before, after in zip(hours, [*hours[1:], hours[0] + 24])]
+    delay = int(re.search(r"RandomizedDelaySec=(\d+)min\n", timer)[1])
+    least = int(re.search(r"LEAST_LEFT:=(\d+)", (SERVICE / "watch.sh").read_text("ascii"))[1])
+    yield "between two runs nothing is told of a Timestamp", 3600 * max(
+        gaps) + 60 * delay < DAY - least
+
+
+def turned(it):
+    """The journal is rotated, and what is given then is in the file that has the name."""
+    if not shutil.which("logrotate"):
+        print("there is no logrotate, so no journal is rotated")
+        return
+    conf, own = it.own / "logrotate", it.own
+    text = (SERVICE / "uptane-desk.logrotate").read_text("ascii")
+    conf.write_text(text.replace("/var/log/uptane/", "%s/" % own), encoding="ascii")
+    conf.chmod(0o644)
+    before = (own / "journal").read_bytes()
+    done = ran("logrotate", "--force", "--state", own / "turned", conf)
+    print(done.stderr, end="")
+    old = list(own.glob("journal-*"))
+    it.script("apply.sh", "--refresh")
+    yield "the journal is rotated whole, and goes on", done.returncode == 0 and [
+        path.read_bytes() for path in old
+    ] == [before] and [one["asked"]["do"] for one in it.journal()] == ["refresh"]
 
 
 def rotated(it):
@@ -632,11 +669,21 @@ def backed_up(program, own):
         ] == [True, True] and str(copies[0]) in (own / "listed").read_text("ascii")
         modes = {stat.S_IMODE(path.stat().st_mode) for path in (own / "copies").iterdir()}
         yield "it is its owner's alone", modes == {0o600}
+        never = [
+            own / name
+            for name in ("copies/desk-20200101T000000Z-schema2.db", "spool/answers/old.answers",
+                         "spool/held/old.script", "data/before-20200101T000000Z/desk.db")
+        ]
+        for path in never:
+            path.parent.mkdir(exist_ok=True)
+            path.touch(0o600)
+            os.utime(path, (0, 0))
         for at in range(3):
             time.sleep(1.1)
             it.script("backup.sh")
         kept = sorted((own / "copies").glob("desk-*Z.db"))
         yield "older ones go", len(kept) == 3 and copies[0] not in kept
+        yield "what the page calls never pruned stays", all(path.exists() for path in never)
         # what comes behind the newest copy
         backup = kept[-1]
         told = [posted(port, manifest("V1", number))
@@ -885,6 +932,7 @@ def paced():
 
 def cases(program):
     yield from paced()
+    yield from between()
     parts = [planned, measured]
     if shutil.which("curl"):
         parts += [applied, applied_to_several, backed_up, watched]

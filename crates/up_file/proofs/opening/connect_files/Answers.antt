@@ -26,9 +26,9 @@ returns-in-Ok-clause-connected g c =
 
 pub returns-in-Err-clause-refused : goal.returns-in-Err-clause-refused
 returns-in-Err-clause-refused g c = record {
-  known = c.opening_fault.ensures.known;
+  known = c.why.ensures.known;
   error = c.in-Err.error;
-  told = c.opening_fault.ensures.told;
+  told = c.why.ensures.told;
   cause = c.in-Err.ensures.cause;
   unharmed = c.in-Err.ensures.unharmed;
 }
