@@ -18,8 +18,7 @@ class Vectors(unittest.TestCase):
         for _, public, message, signature in vectors():
             turned = [
                 signature[:at] + bytes([signature[at] ^ 1]) + signature[at + 1:]
-                for at in range(0, 64, 9)
-            ]
+                for at in range(0, 64, 9)]
             greater = number(signature[32:]) + ORDER
             turned.append(signature[:32] + greater.to_bytes(32, "little"))
             with self.subTest(public.hex()):

@@ -83,20 +83,14 @@ pub fn two() -> u8 {
 }
 """
 TREE = {
-    "crates.txt": "low:\nup: low\n",
-    "crates/low/src/lib.rt": LOW,
-    "crates/low/src/counts.rt": COUNTS,
-    "crates/low/specs/Lib.antt": "pub mod Numbers\n",
-    "crates/low/specs/Numbers.antt":
-    "use Rattle.std.specs.Prelude.{ℕ}\n\n-- the least count\nabbrev pub least : ℕ\nleast = 3\n",
+    "crates.txt": "low:\nup: low\n", "crates/low/src/lib.rt": LOW,
+    "crates/low/src/counts.rt": COUNTS, "crates/low/specs/Lib.antt": "pub mod Numbers\n",
+    "crates/low/specs/Numbers.antt": "use Rattle.std.specs.Prelude.{ℕ}\n\n-- the least count\nabbrev pub least : ℕ\nleast = 3\n",
     "crates/low/proofs/Lib.antt": "pub mod Facts\n",
-    "crates/low/proofs/Facts.antt":
-    "use Rattle.std.specs.Prelude.{ℕ}\n\nabbrev pub three : ℕ\nthree = 3\n",
-    "crates/low/refused/another-least.edit":
-    "file: src/counts.rt\nold: let count = LEAST;\nnew: let count = LEAST + 1;\n",
+    "crates/low/proofs/Facts.antt": "use Rattle.std.specs.Prelude.{ℕ}\n\nabbrev pub three : ℕ\nthree = 3\n",
+    "crates/low/refused/another-least.edit": "file: src/counts.rt\nold: let count = LEAST;\nnew: let count = LEAST + 1;\n",
     "crates/up/src/lib.rt": UP,
-    "crates/up/refused/three-told-as-two.edit": "file: src/lib.rt\nold:     2\nnew:     3\n",
-}
+    "crates/up/refused/three-told-as-two.edit": "file: src/lib.rt\nold:     2\nnew:     3\n"}
 
 
 def edit(old, new, file="src/counts.rt"):
@@ -124,10 +118,8 @@ class OnATree(unittest.TestCase):
         self.write(path, text.replace(old, new))
 
     def tool(self, *words):
-        ran = subprocess.run([sys.executable, RUN, "refused", *words],
-                             capture_output=True,
-                             text=True,
-                             check=False)
+        ran = subprocess.run([sys.executable, RUN, "refused", *words], capture_output=True,
+                             text=True, check=False)
         return ran.returncode, ran.stdout.splitlines(), ran.stderr
 
 
@@ -177,13 +169,11 @@ class Hashes(OnATree):
 
     def test_what_crosses_the_boundary_is_read_above(self):
         self.above("use low::counts::{same, LEAST};")
-        texts = [
-            ("src/counts.rt", "ensures { result ≡ a }", "ensures { a ≡ result }"),
-            ("src/counts.rt", "LEAST: u64 = 3", "LEAST: u64 = 4"),
-            ("src/counts.rt", "a as u16 + a as u16", "2 * (a as u16)"),
-            ("src/counts.rt", "        4", "        5"),
-            ("specs/Numbers.antt", "least = 3", "least = 4"),
-        ]
+        texts = [("src/counts.rt", "ensures { result ≡ a }", "ensures { a ≡ result }"),
+                 ("src/counts.rt", "LEAST: u64 = 3", "LEAST: u64 = 4"),
+                 ("src/counts.rt", "a as u16 + a as u16", "2 * (a as u16)"),
+                 ("src/counts.rt", "        4", "        5"),
+                 ("specs/Numbers.antt", "least = 3", "least = 4")]
         for path, old, new in texts:
             with self.subTest(new):
                 now = self.changed()
@@ -223,8 +213,7 @@ class Hashes(OnATree):
             [("src/more.rt", "macro_rules! half { () => { halved(2) } }\n")],
             [("specs/More.antt", "use Rattle.low.specs.contracts.counts.halved\n")],
             # (by another one, which antt names)
-            [("specs/More.antt", "use Rattle.low.specs.contracts.counts.other\n")],
-        ]
+            [("specs/More.antt", "use Rattle.low.specs.contracts.counts.other\n")]]
         for files in namings:
             with self.subTest(files):
                 self.setUp()
@@ -242,25 +231,17 @@ class Hashes(OnATree):
 
     def test_a_function_that_is_more_than_private_is_read_above(self):
         texts = {
-            "of a trait's impl":
-            "impl Counted for u8 {\n    fn count(&self) -> u64\n        ensures { result ≡ 4 }\n  "
+            "of a trait's impl": "impl Counted for u8 {\n    fn count(&self) -> u64\n        ensures { result ≡ 4 }\n  "
             "  {\n        4\n    }\n}",
-            "of a cycle of calls":
-            "#[cycle(parity)]\nfn even(a: u64) -> u64\n    ensures { result ≡ 4 }\n{\n    a\n}",
-            "for C":
-            "extern \"C\" fn made() -> u64\n    ensures { result ≡ 4 }\n{\n    4\n}",
-            "const":
-            "const fn made() -> u64\n    ensures { result ≡ 4 }\n{\n    4\n}",
-            "of an operator":
-            "impl Add for Held {\n    fn add(self, b: Held) -> Held\n        ensures { result ≡ 4 "
+            "of a cycle of calls": "#[cycle(parity)]\nfn even(a: u64) -> u64\n    ensures { result ≡ 4 }\n{\n    a\n}",
+            "for C": "extern \"C\" fn made() -> u64\n    ensures { result ≡ 4 }\n{\n    4\n}",
+            "const": "const fn made() -> u64\n    ensures { result ≡ 4 }\n{\n    4\n}",
+            "of an operator": "impl Add for Held {\n    fn add(self, b: Held) -> Held\n        ensures { result ≡ 4 "
             "}\n    {\n        b\n    }\n}",
-            "of a name that macros call":
-            "impl Held {\n    pub fn write_fmt(&self)\n        ensures { result ≡ 4 }\n    {\n    "
+            "of a name that macros call": "impl Held {\n    pub fn write_fmt(&self)\n        ensures { result ≡ 4 }\n    {\n    "
             "    4\n    }\n}",
-            "of a fault by ?":
-            "impl From<Held> for u8 {\n    fn from(a: Held) -> u8\n        ensures { result ≡ 4 "
-            "}\n    {\n        4\n    }\n}",
-        }
+            "of a fault by ?": "impl From<Held> for u8 {\n    fn from(a: Held) -> u8\n        ensures { result ≡ 4 "
+            "}\n    {\n        4\n    }\n}"}
         for name, text in texts.items():
             with self.subTest(name):
                 self.setUp()
@@ -280,8 +261,7 @@ class Hashes(OnATree):
         self.assertEqual(now(), ["low", "up"])
         items = [
             "macro_rules! made { () => {} }", "struct Held { a: u8 }",
-            "pub use crate::counts::same;", "use crate::counts::*;"
-        ]
+            "pub use crate::counts::same;", "use crate::counts::*;"]
         for text in items:
             with self.subTest(text):
                 now = self.changed()
@@ -300,8 +280,7 @@ class Hashes(OnATree):
             ("crates/up/refused/calls.edit", "file: src/lib.rt\nold:     2\nnew:     halved(2)\n"),
             ("crates/low/src/more.rt", "pub static HALF: fn(u64) -> u64 = halved;"),
             ("crates/low/src/more.rt", "pub trait Half { fn half(a: u64) -> u64 { halved(a) } }"),
-            ("crates/low/specs/More.antt", "use Rattle.low.specs.contracts.counts.halved as f"),
-        ]
+            ("crates/low/specs/More.antt", "use Rattle.low.specs.contracts.counts.halved as f")]
         for text, before in ((halved, ""), (of_held, f"{begun}}}")):
             for path, naming in namings:
                 with self.subTest(naming):
@@ -345,8 +324,7 @@ class Hashes(OnATree):
             ("crates/low/src/counts.rt",
              "ghost use Rattle.low.specs.declared.TheConstants.{MADE as first};"),
             ("crates/low/specs/Numbers.antt",
-             "use Rattle.low.specs.declared.TheConstants.{MADE as first}"),
-        ]
+             "use Rattle.low.specs.declared.TheConstants.{MADE as first}")]
         for of in ("", "pub "):
             for path, naming in namings:
                 with self.subTest(naming):
@@ -403,9 +381,8 @@ impl Counted for Held {
         self.write(path, self.HELD)
         turns = [
             ("use crate::counts::{Counted,", "use crate::counts::{Counted, doubled,", ["low"]),
-            ("doubled, same as alike};", "{least_count, reaches as reach}, same as alike};",
-             ["low"]),
-            ("same as alike};", "same as alike};\nuse crate::Held as Other;", ["low"]),
+            ("doubled, same as alike};", "{least_count, reaches as reach}, same as alike};", [
+                "low"]), ("same as alike};", "same as alike};\nuse crate::Held as Other;", ["low"]),
             ("same as alike};", "reaches as alike};", ["low"]),
             ("◌≤◌, ℕ}", "◌<◌, List, []}", ["low"]),
             ("{least as first}", "{least as first, least}", ["low"]),
@@ -417,8 +394,7 @@ impl Counted for Held {
             ("use crate::more::{Counted,", "use crate::more::{self, Counted,", ["low", "up"]),
             ("use crate::more", "use crate::counts::Read as _;\nuse crate::more", ["low", "up"]),
             ("use crate::counts::Read",
-             "#[cfg(test)]\nuse crate::counts::Write;\nuse crate::counts::Read", ["low", "up"]),
-        ]
+             "#[cfg(test)]\nuse crate::counts::Write;\nuse crate::counts::Read", ["low", "up"])]
         for old, new, crates in turns:
             with self.subTest(new):
                 now = self.changed()
@@ -472,8 +448,7 @@ impl Counted for Held {
             ("crates/up/specs/Lib.antt", f"use {declared}.{{third}}\n"),
             ("crates/up/src/more.rt", f"ghost use {declared}.third as third;\n"),
             ("crates/up/src/more.rt",
-             "#[tactic(auto, unfolding(low::specs::declared::third::Third))]\nfn other() {}\n"),
-        ]
+             "#[tactic(auto, unfolding(low::specs::declared::third::Third))]\nfn other() {}\n")]
         for path, text in leads:
             with self.subTest(text):
                 self.setUp()
@@ -501,8 +476,7 @@ impl Counted for Held {
              "pub struct Held { pub a: u64, ghost b: { Rattle.«low».specs.More.more } }\n"),
             ("crates/low/specs/Numbers.antt", TREE["crates/low/specs/Numbers.antt"].replace(
                 "\n\n", "\nuse Rattle.low.specs.More.{more}\n\n", 1)),
-            ("crates/low/specs/Lib.antt", "pub mod Numbers\npub mod More\npub use More.{more}\n"),
-        ]
+            ("crates/low/specs/Lib.antt", "pub mod Numbers\npub mod More\npub use More.{more}\n")]
         for path, text in leads:
             with self.subTest(text):
                 self.setUp()
@@ -606,8 +580,8 @@ impl Counted for Held {
             (1, ["low: its edits are to be judged: tools/run refused low"]))
         # judging one crate leaves the kit of the others
         lock.write(crates_here(), hashes(crates_here(), ["up"]))
-        self.assertEqual({name: it.kit
-                          for name, it in lock.kept().items()}, {"low": "an-older-kit", "up": here})
+        self.assertEqual({name: it.kit for name, it in lock.kept().items()},
+                         {"low": "an-older-kit", "up": here})
 
     def test_a_line_of_another_form_is_none(self):
         lock.write(crates_here(), hashes(crates_here(), ["low", "up"]))
@@ -627,7 +601,8 @@ impl Counted for Held {
         """A commit at which all edits were judged, two of the low crate among them, by an older kit."""
         self.write("crates/low/refused/less-reached.edit", edit("b <= a", "b < a"))
         lock.write(crates_here(), hashes(crates_here(), ["low", "up"]))
-        self.write(lock.FILE, Path(lock.FILE).read_text(encoding="utf-8").replace(kit.name(), "an-older-kit"))
+        self.write(lock.FILE,
+                   Path(lock.FILE).read_text(encoding="utf-8").replace(kit.name(), "an-older-kit"))
         self.git("init", "-q")
         self.git("add", "-A")
         self.git("commit", "-q", "-m", "judged")
@@ -637,7 +612,8 @@ impl Counted for Held {
         Path("crates/low/refused/another-least.edit").unlink()
         self.assertEqual(self.tool("--owed")[0], 1)
         self.assertEqual(self.tool("--fewer", "HEAD")[0], 0)
-        self.assertEqual({name: (it.rests[0], it.kit) for name, it in lock.kept().items()}, {"low": (1, "an-older-kit"), "up": (1, "an-older-kit")})
+        self.assertEqual({name: (it.rests[0], it.kit) for name, it in lock.kept().items()},
+                         {"low": (1, "an-older-kit"), "up": (1, "an-older-kit")})
         # and what went comes back by itself
         self.git("checkout", "-q", "HEAD", "--", "crates")
         self.assertEqual(self.tool("--owed")[0], 1)
@@ -650,15 +626,18 @@ impl Counted for Held {
     def test_fewer_edits_are_judged_where_anything_else_changed(self):
         more = Path("crates/low/refused/more.edit")
         turns = {
-            "an edit that is another": lambda: self.turn("crates/low/refused/less-reached.edit", "b < a", "b > a"),
+            "an edit that is another": lambda: self.turn("crates/low/refused/less-reached.edit",
+                                                         "b < a", "b > a"),
             "an edit that is new": lambda: self.write(more, edit("a || b", "a")),
-            "an edit under another name": lambda: Path("crates/low/refused/less-reached.edit").rename(more),
+            "an edit under another name": lambda: Path("crates/low/refused/less-reached.edit"
+                                                       ).rename(more),
             "a body of its own": lambda: self.turn("crates/low/src/counts.rt", "a || b", "b || a"),
-            "a definition of its own": lambda: self.turn("crates/low/specs/Numbers.antt", "least = 3", "least = 4"),
-            "a lemma of its own": lambda: self.turn("crates/low/proofs/Facts.antt", "three = 3", "three = 2"),
+            "a definition of its own": lambda: self.turn("crates/low/specs/Numbers.antt",
+                                                         "least = 3", "least = 4"),
+            "a lemma of its own": lambda: self.turn("crates/low/proofs/Facts.antt", "three = 3",
+                                                    "three = 2"),
             "the lock at that revision": lambda: self.unjudged("28"),
-            "the number in the lock": lambda: self.unjudged("low 2", "low 3"),
-        }
+            "the number in the lock": lambda: self.unjudged("low 2", "low 3")}
         for name, turn in turns.items():
             with self.subTest(name):
                 self.setUp()
@@ -666,12 +645,16 @@ impl Counted for Held {
                 Path("crates/low/refused/another-least.edit").unlink()
                 turn()
                 status, lines, _ = self.tool("--fewer", "HEAD")
-                self.assertEqual((status, lines[:1]), (1, ["low: its edits are to be judged: tools/run refused low"]))
+                self.assertEqual((status, lines[:1]),
+                                 (1, ["low: its edits are to be judged: tools/run refused low"]))
 
     def unjudged(self, old, new=None):
         """A line of the lock that didn't hold when it was kept."""
         text = Path(lock.FILE).read_text(encoding="utf-8")
-        self.write(lock.FILE, text.replace(old, new) if new else re.sub(r"(?m)^(low \d+ )\w{8}", r"\g<1>00000000", text))
+        self.write(
+            lock.FILE,
+            text.replace(old, new)
+            if new else re.sub(r"(?m)^(low \d+ )\w{8}", r"\g<1>00000000", text))
         self.git("commit", "-q", "-m", "another lock", lock.FILE)
 
     def test_fewer_edits_are_judged_where_a_crate_below_changed(self):
@@ -680,7 +663,8 @@ impl Counted for Held {
         Path("crates/low/refused/another-least.edit").unlink()
         self.turn("crates/low/src/counts.rt", "ensures { result ≡ a }", "ensures { a ≡ result }")
         status, lines, _ = self.tool("--fewer", "HEAD")
-        words = [f"{it}: its edits are to be judged: tools/run refused {it}" for it in ("low", "up")]
+        words = [
+            f"{it}: its edits are to be judged: tools/run refused {it}" for it in ("low", "up")]
         self.assertEqual((status, lines[:2]), (1, words))
 
     def test_a_crate_without_edits_is_not_owed(self):
@@ -719,8 +703,7 @@ class Texts(OnATree):
         own = {"first": ("Held", True), "second": ("Held", True)}
         others = {
             "third": "OtherFromVec", "fourth": "ScripterInterpretDesk", "fifth": "RefSliceU8Shown",
-            "sixth": "Tuple2U8HeldFromRefStr"
-        }
+            "sixth": "Tuple2U8HeldFromRefStr"}
         others |= {"seventh": "Counted", "eighth": "AnySource", "alone": None}
         self.assertEqual(owners, own | {name: (owner, False) for name, owner in others.items()})
 
@@ -732,9 +715,8 @@ class Texts(OnATree):
             "three() {}\n")
         self.write("crates/low/src/deep/other.rt", "enum Held { A }\nimpl Held { fn two() {} }\n")
         modules = {
-            path: [it.modules for it in found]
-            for path, found in functions_below("crates/low").items()
-        }
+            path: [it.modules for it in found
+                   ] for path, found in functions_below("crates/low").items()}
         self.assertEqual(modules["src/held.rt"], [(("held", ), )])
         both = (("deep", "other"), ("held", ))
         self.assertEqual([tuple(sorted(it)) for it in modules["src/more.rt"]],
@@ -743,14 +725,14 @@ class Texts(OnATree):
 
     def test_edits_of_something_else_than_one_body_are_bad(self):
         texts = {
-            "a-constant": edit("LEAST: u64 = 3", "LEAST: u64 = 4"),
-            "a-signature": edit("pub fn same(a: u64)", "pub fn same(a: u32)"),
-            "a-definition": edit("least = 3", "least = 4", "specs/Numbers.antt"),
-            "two-bodies": edit("b <= a", "b < a") + "old: a || b\nnew: a\n",
-            "a-function-of-its-own": edit("a || b", "fn more() -> bool { true } more()"),
-            "no-such-text": edit("let total = 0;", "let total = 1;"),
-            "an-open-brace": edit("a || b", "a || { b"),
-        }
+            "a-constant": edit("LEAST: u64 = 3", "LEAST: u64 = 4"), "a-signature": edit(
+                "pub fn same(a: u64)", "pub fn same(a: u32)"), "a-definition": edit(
+                    "least = 3", "least = 4",
+                    "specs/Numbers.antt"), "two-bodies": edit("b <= a", "b < a") +
+            "old: a || b\nnew: a\n", "a-function-of-its-own": edit(
+                "a || b", "fn more() -> bool { true } more()"), "no-such-text": edit(
+                    "let total = 0;", "let total = 1;"), "an-open-brace": edit(
+                        "a || b", "a || { b")}
         for name, text in texts.items():
             self.write(f"crates/low/refused/{name}.edit", text)
         bad = [it.label for it in edits_in("low", "crates/low") if it.why]
@@ -766,40 +748,32 @@ class Texts(OnATree):
         chosen = [
             f"if 1 > 2 {{ {new} }} else {{ {held} }}",
             f"if let Some(_) = more(1) {{ {held} }} else if held.len() == 9 {{ ({new}) }} else "
-            f"{{ {held} }}",
-            f"match (1, 2) "
+            f"{{ {held} }}", f"match (1, 2) "
             f"{{ (a, 2) if a >= 2 => {new}, (_, 2) => {{ {held} }} _ => if more() {{ {new} }} else {{ {held} }} }}",
-            f"{{ {new} }}",
-        ]
+            f"{{ {new} }}"]
         others = [
             f"if 1 > 2 {{ {new} }} else {{ held }}",
-            f"match 1 {{ 1 => {new}, _ => return {held} }}",
-            f"{{ let held = {new}; {held} }}",
+            f"match 1 {{ 1 => {new}, _ => return {held} }}", f"{{ let held = {new}; {held} }}",
             f"if 1 > 2 {{ {new} }} else {{ {held} }}.trim()",
-            f"more(if 1 > 2 {{ {new} }} else {{ {held} }})",
-        ]
-        chosen, others = ([edit(held, new, "src/asked.rt") for new in these]
-                          for these in (chosen, others))
+            f"more(if 1 > 2 {{ {new} }} else {{ {held} }})"]
+        chosen, others = (
+            [edit(held, new, "src/asked.rt") for new in these] for these in (chosen, others))
         beside = chosen[0].partition("\n")[2]
         chosen.append(edit("SELECT a", "SELECT b", "src/asked.rt") + beside)
         others.append(edit("let held", "let mut held", "src/asked.rt") + beside)
         texts = {
             "no-rows": (of_text, True, "it turns a text of SQL alone"),
-            "other-rows":
-            (of_text + "rows: rows are read\n", True, "it names the rows 'rows are read'"),
+            "other-rows": (of_text + "rows: rows are read\n", True,
+                           "it names the rows 'rows are read'"),
             "shown": (of_text + "rows: rows are set\n", True, None),
-            "two-texts":
-            (of_text + 'old: "SELECT a"\nnew: "SELECT b"\nrows: rows are set\n', True, None),
-            "text-and-code": (of_text + "old: let held\nnew: let mut held\n", False, None),
-            "another-text": (edit('"a SELECT"', '"b SELECT"', "src/asked.rt"), False, None),
-            "another-begins": (edit('"a SELECT"', '"SELECT"', "src/asked.rt"), False, None),
-            **{
-                f"chosen-{at}": (it + "rows: rows are set\n", False, "it chooses among texts of SQL")
-                for at, it in enumerate(chosen)
-            },
-            **{f"not-chosen-{at}": (it, False, None)
-               for at, it in enumerate(others)},
-        }
+            "two-texts": (of_text + 'old: "SELECT a"\nnew: "SELECT b"\nrows: rows are set\n', True,
+                          None), "text-and-code": (of_text + "old: let held\nnew: let mut held\n",
+                                                   False, None), "another-text": (edit(
+                                                       '"a SELECT"', '"b SELECT"',
+                                                       "src/asked.rt"), False, None),
+            "another-begins": (edit('"a SELECT"', '"SELECT"', "src/asked.rt"), False, None), **{
+                f"chosen-{at}": (it + "rows: rows are set\n", False, "it chooses among texts of SQL") for at, it in enumerate(chosen)},
+            **{f"not-chosen-{at}": (it, False, None) for at, it in enumerate(others)}}
         for name, (text, _, _) in texts.items():
             self.write(f"crates/low/refused/{name}.edit", text)
         found = {it.label.partition("/")[2]: it for it in edits_in("low", "crates/low")}
@@ -833,17 +807,13 @@ class Texts(OnATree):
             "note: src/counts.rt:50:5: `search` found no proof (`invariant_of-table-2`)",
             "fn low::counts::placed: no proof: expected answers in "
             "./proofs/counts/placed/Answers.antt; `search` did not prove `invariant_of-table-2`",
-            "fn low::counts::kept: not proved",
-            "fn low::counts::either: not proved",
+            "fn low::counts::kept: not proved", "fn low::counts::either: not proved",
             "proofs/held/Held/told/Proof.antt:4:1: error: `returns`: the two types differ",
-            "fn low::held::Held::told: not proved",
-            "logic=not-proved",
-        ]
+            "fn low::held::Held::told: not proved", "logic=not-proved"]
         found = [*refusals(lines)]
         self.assertEqual([it[0] for it in found], [
             "low::counts::reaches", "low::counts::placed", "low::counts::kept",
-            "low::held::Held::told"
-        ])
+            "low::held::Held::told"])
         reaches = Function("reaches", (28, 32), 0, 0, None, False)
         self.assertTrue(is_shown("src/counts.rt", reaches, *found[0][:2]))
         self.assertFalse(is_shown("src/more.rt", reaches, *found[0][:2]))
@@ -924,14 +894,12 @@ class Macros(unittest.TestCase):
 
 def macros_in(text):
     """Yields what each macro that a text declares has in its braces, without comments and texts."""
-    code = re.sub(r'//[^\n]*|/\*.*?\*/|"(?:[^"\\]|\\.)*"|\'(?:[^\'\\]|\\.)\'',
-                  " ",
-                  text,
+    code = re.sub(r'//[^\n]*|/\*.*?\*/|"(?:[^"\\]|\\.)*"|\'(?:[^\'\\]|\\.)\'', " ", text,
                   flags=re.DOTALL)
     for found in re.finditer(r"\bmacro_rules\s*!\s*\w+\s*(?=\{)", code):
         depths = itertools.accumulate((it == "{") - (it == "}") for it in code[found.end():])
-        yield code[found.end():][:next((at for at, depth in enumerate(depths)
-                                        if not depth), len(code))]
+        yield code[found.end():][:next((
+            at for at, depth in enumerate(depths) if not depth), len(code))]
 
 
 def methods_called(code):
@@ -945,19 +913,16 @@ class Verdicts(OnATree):
     """
 
     REAL = {
-        "another-least": edit("let count = LEAST;", "let count = LEAST + 1;"),
-        "less-reached": edit("b <= a", "b < a"),
-    }
+        "another-least": edit("let count = LEAST;", "let count = LEAST + 1;"), "less-reached": edit(
+            "b <= a", "b < a")}
     HARMLESS = {
-        "again-kept": edit("    items", "    let again = items; again"),
-        "exchanged": edit("a || b", "b || a"),
-    }
+        "again-kept": edit("    items", "    let again = items; again"), "exchanged": edit(
+            "a || b", "b || a")}
     BROKEN = {
-        "moved-value": edit("    items", "    let again = items; drop(again); items"),
-        "no-operand": edit("a || b", "a || || ;; b"),
-        "unknown-name": edit("b <= a", "c <= a"),
-        "wrong-type": edit("let count = LEAST;", "let count = b\"3\";"),
-    }
+        "moved-value": edit("    items",
+                            "    let again = items; drop(again); items"), "no-operand": edit(
+                                "a || b", "a || || ;; b"), "unknown-name": edit("b <= a", "c <= a"),
+        "wrong-type": edit("let count = LEAST;", "let count = b\"3\";")}
 
     def begun(self, edits, *words):
         """Starts the tool in a tree of its own, whose low crate has these edits."""
@@ -968,10 +933,8 @@ class Verdicts(OnATree):
         for name, text in edits.items():
             self.write(f"crates/low/refused/{name}.edit", text)
         words = [sys.executable, RUN, "refused", "--jobs", "1", *words]
-        return os.getcwd(), subprocess.Popen(words,
-                                             stdout=subprocess.PIPE,
-                                             stderr=subprocess.DEVNULL,
-                                             text=True)
+        return os.getcwd(), subprocess.Popen(words, stdout=subprocess.PIPE,
+                                             stderr=subprocess.DEVNULL, text=True)
 
     def ended(self, folder, run):
         """Returns how the tool ended: its status, what it said of each edit, its last line, and
@@ -981,8 +944,7 @@ class Verdicts(OnATree):
         os.chdir(folder)
         verdicts = {
             name: verdict
-            for verdict, name in re.findall(r"(?m)^([A-Za-z ]+) low/([\w-]+):", "\n".join(lines))
-        }
+            for verdict, name in re.findall(r"(?m)^([A-Za-z ]+) low/([\w-]+):", "\n".join(lines))}
         return run.returncode, verdicts, lines[-1], [*lock.kept()]
 
     def test_verdicts(self):
@@ -997,8 +959,8 @@ class Verdicts(OnATree):
         for it in (all_kinds, apart):
             self.assertEqual(self.ended(*it), (1, wanted, "2 passed, 6 failed", []))
         for it in (real, real_apart):
-            self.assertEqual(self.ended(*it),
-                             (0, {name: "refused"
-                                  for name in self.REAL}, "2 passed, 0 failed", ["low"]))
+            self.assertEqual(
+                self.ended(*it),
+                (0, {name: "refused" for name in self.REAL}, "2 passed, 0 failed", ["low"]))
         known = {name: wanted[name] for name in (*self.REAL, *self.HARMLESS)}
         self.assertEqual(self.ended(*drawn), (1, known, "2 passed, 2 failed", []))

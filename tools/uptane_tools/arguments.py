@@ -36,10 +36,7 @@ def given(doc: str | None, words: Words, *names: str, **usual: Any) -> argparse.
         asked.add_argument(name, metavar=name.upper())
     for name, value in usual.items():
         if isinstance(value, list):
-            asked.add_argument(name,
-                               nargs="?",
-                               choices=value,
-                               default=value[0],
+            asked.add_argument(name, nargs="?", choices=value, default=value[0],
                                metavar="|".join(value))
         else:
             kind = int if isinstance(value, int) else str

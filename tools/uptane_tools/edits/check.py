@@ -58,12 +58,8 @@ class Bench:
         no edit can be judged on it, or None.
         """
         words = [*rtlib.guarded(), "rt", "check", "--jobs", str(jobs)]
-        ran = subprocess.run(words,
-                             cwd=self.crate.folder,
-                             capture_output=True,
-                             text=True,
-                             errors="replace",
-                             check=False)
+        ran = subprocess.run(words, cwd=self.crate.folder, capture_output=True, text=True,
+                             errors="replace", check=False)
         if ran.returncode:
             return (f"{self.crate.name} is not proved as it stands: "
                     f"{_first_error((ran.stdout + ran.stderr).splitlines())}")
@@ -81,8 +77,8 @@ class Bench:
         # (the crate's root has no name, so it is checked whole)
         self.only = [word for it in modules for word in ("--only", it)] if all(modules) else []
         said = self.check({}, self.kept, jobs, "as it stands, without the other bodies")
-        lines, refused = [it for it in map(FUNCTION.fullmatch, said.lines)
-                          if it], [*refusals(said.lines)]
+        lines, refused = [it for it in map(FUNCTION.fullmatch, said.lines) if it], [
+            *refusals(said.lines)]
         for path, function in functions:
             mine = [it[2] for it in lines if is_of(it[1], path, function)]
             is_refused = any(is_shown(path, function, name, places) for name, places, _ in refused)
@@ -110,15 +106,12 @@ class Bench:
         for path, here in functions_below(self.folder).items():
             text = Path(self.folder, path).read_bytes()
             out = [
-                it for it in here
-                if (path,
-                    it.name) not in names and (path,
-                                               it.cycle) not in cycles and not it.is_read_above
-            ]
+                it for it in here if (path, it.name) not in names and (
+                    path, it.cycle) not in cycles and not it.is_read_above]
             # (each line stays where it is)
             lines = {it: b"\n" * text.count(b"\n", it.opens, it.closes) for it in out}
-            Path(self.folder,
-                 path).write_bytes(with_bodies(text, [(it, LEFT_OUT + lines[it]) for it in out]))
+            Path(self.folder, path).write_bytes(
+                with_bodies(text, [(it, LEFT_OUT + lines[it]) for it in out]))
         stay = {name for _, name in names} | {f"+{cycle}" for _, cycle in cycles}
         for at, _, files in os.walk(f"{self.folder}/proofs", topdown=False):
             if PROOF_FILES & {*files} and os.path.basename(at) not in stay:
@@ -136,10 +129,8 @@ class Bench:
         known, left = [], []
         refused = [*refusals(said.lines)] if said.status == 1 else []
         for it in group:
-            shown = next(
-                (why
-                 for name, places, why in refused if is_shown(it.path, it.function, name, places)),
-                None)
+            shown = next((why for name, places, why in refused
+                          if is_shown(it.path, it.function, name, places)), None)
             if shown:
                 beside = ""
                 if it.is_of_text:
@@ -160,13 +151,9 @@ class Bench:
                 Path(room, path).write_bytes(text)
             words = [
                 *self.crate.words(["--jobs", str(jobs)], keeps=False), "--incremental", kept,
-                *self.only
-            ]
+                *self.only]
             words = [*rtlib.guarded(), rtlib.RATTLE, "check", *words]
-            ran = subprocess.Popen(words,
-                                   cwd=room,
-                                   stdin=subprocess.DEVNULL,
-                                   stdout=out,
+            ran = subprocess.Popen(words, cwd=room, stdin=subprocess.DEVNULL, stdout=out,
                                    stderr=subprocess.STDOUT)
             late = threading.Timer(self.seconds, ran.kill)
             late.start()
@@ -185,13 +172,12 @@ def _parts(group, said):
     """Returns the groups to try in place of one whose check says nothing: the edits at fault
     each alone, where that is told, else halves.
     """
-    places = [(path, int(line))
-              for path, line in ERROR.findall("\n".join(said.lines))] if said.is_fault else []
+    places = [(path, int(line)) for path, line in ERROR.findall("\n".join(said.lines))
+              ] if said.is_fault else []
     faulty = [
         it for it in group
         if any(path == it.path and it.function.lines[0] <= line <= it.function.lines[1]
-               for path, line in places)
-    ]
+               for path, line in places)]
     others = [it for it in group if it not in faulty]
     return [*([it] for it in faulty), others] if faulty else [group[::2], group[1::2]]
 
@@ -232,8 +218,8 @@ def refusals(lines):
         if function and not function[2].startswith("proved"):
             named = OPEN_GOALS.search(function[2])
             named = re.findall("`([^`]+)`", named[1]) if named else []
-            own, mine = [it for it in goals
-                         if it[2] in named or not named], terms[function[1].partition("::")[2]]
+            own, mine = [it for it in goals if it[2] in named or not named
+                         ], terms[function[1].partition("::")[2]]
             if own or mine:
                 yield function[1], [it[:2] for it in own], ", ".join(it[2] for it in own) or mine[0]
         if ITEM.match(line):
@@ -260,9 +246,8 @@ def is_of(name, path, function):
     # (a closure in a method is named by its type's module too, and a function there by that of its
     # file)
     inside = [[*it, "fn", *own] for it in (*modules, here)]
-    return words in [[*it, *own]
-                     for it in modules] or any(words[:len(it)] == it and len(words) > len(it)
-                                               for it in inside)
+    return words in [[*it, *own] for it in modules] or any(
+        words[:len(it)] == it and len(words) > len(it) for it in inside)
 
 
 def _failure(edit, said):

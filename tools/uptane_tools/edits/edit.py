@@ -73,9 +73,8 @@ def functions_below(folder):
                 ) if not function.is_own or function.owner in declared[path] else elsewhere
 
     return {
-        path: [it._replace(modules=modules(path, it)) for it in functions_of(rows)]
-        for path, rows in found.items()
-    }
+        path: [it._replace(modules=modules(path, it)) for it in functions_of(rows)
+               ] for path, rows in found.items()}
 
 
 def edit_files(folder):
@@ -101,8 +100,7 @@ def groups_of(edits, most):
     counts = {number: -(-len(these) // most) for number, these in rounds.items()}
     return [
         these[at::counts[number]] for number, these in rounds.items()
-        for at in range(counts[number])
-    ]
+        for at in range(counts[number])]
 
 
 def texts_with(folder, edits):
@@ -114,6 +112,7 @@ def texts_with(folder, edits):
         text = Path(folder, path).read_bytes()
         # (by name and lines, since other bodies may be left out of the text)
         here = {(it.name, it.lines): it for it in functions_in(text)}
-        made[path] = with_bodies(text, [(here[it.function.name, it.function.lines], it.body)
-                                        for it in edits if it.path == path])
+        made[path] = with_bodies(text, [
+            (here[it.function.name, it.function.lines], it.body) for it in edits if it.path == path
+        ])
     return made

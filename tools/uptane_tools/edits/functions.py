@@ -23,8 +23,8 @@ Token = collections.namedtuple("Token", "line start end kind word")
 # something names it; else None. `is_private` says that those above can't name it.
 Function = collections.namedtuple(
     "Function",
-    "name lines opens closes cycle is_read_above owner is_own modules begins is_private",
-    defaults=[None, False, None, None, False])
+    "name lines opens closes cycle is_read_above owner is_own modules begins is_private", defaults=[
+        None, False, None, None, False])
 
 CYCLE = re.compile(r"# \[ cycle \( (\w+) \)")
 ATTRIBUTE = re.compile(r"# \[ [^]]* \] ")
@@ -37,8 +37,7 @@ def tokens_of(files):
     """
     if not files:
         return []
-    ran = subprocess.run([rtlib.RATTLE, "fmt", "--tokens", *files],
-                         capture_output=True,
+    ran = subprocess.run([rtlib.RATTLE, "fmt", "--tokens", *files], capture_output=True,
                          check=False)
     if ran.returncode:
         return None
@@ -76,8 +75,8 @@ def functions_of(tokens):
                 lines, is_read = (code[start].line,
                                   code[closes].line), at < trait_ends or "const" in words[start:at]
                 mine = (owner, is_own) if at < owner_ends else (None, False)
-                is_bare = bisect.bisect(ghost,
-                                        code[start].start) == bisect.bisect(ghost, code[at].start)
+                is_bare = bisect.bisect(ghost, code[start].start) == bisect.bisect(
+                    ghost, code[at].start)
                 begins = code[start].start if not is_read and is_bare and _is_for_callers(
                     words[start:at], *mine) else None
                 private = not _is_public(words[start:at])
@@ -133,9 +132,7 @@ def types_of(tokens):
     """Returns the names of the types that a text's tokens declare."""
     words = [it.word for it in tokens if it.kind == "Code"]
     return {
-        name
-        for word, name in zip(words, words[1:]) if word in ("struct", "enum", "union", "type")
-    }
+        name for word, name in zip(words, words[1:]) if word in ("struct", "enum", "union", "type")}
 
 
 def owner_of(words):

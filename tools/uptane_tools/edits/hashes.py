@@ -64,9 +64,9 @@ def _made(folder):
                 copy = Path(room, f"{len(made)}{Path(path).suffix}")
                 copy.write_text(text, encoding="utf-8")
                 made.append((file.name, path, copy))
-        return whys + [(name, path, text)
-                       for (name, path, _), text in zip(made, _texts([copy
-                                                                      for _, _, copy in made]))]
+        return whys + [
+            (name, path, text)
+            for (name, path, _), text in zip(made, _texts([copy for _, _, copy in made]))]
 
 
 def _texts(files):
@@ -78,5 +78,4 @@ def _texts(files):
         return [Path(it).read_bytes().decode(errors="replace") for it in files]
     return [
         "\n".join(spelled(rows,
-                          Path(file).read_bytes()).values()) for file, rows in zip(files, tokens)
-    ]
+                          Path(file).read_bytes()).values()) for file, rows in zip(files, tokens)]

@@ -43,9 +43,8 @@ def put(crates, lines):
         fcntl.flock(file, fcntl.LOCK_EX)
         rows = {**kept(), **lines}
         there = {
-            it: line
-            for it, line in sorted(rows.items()) if it in crates and count_of(crates[it].folder)
-        }
+            it: line for it, line in sorted(rows.items())
+            if it in crates and count_of(crates[it].folder)}
         file.truncate(0)
         file.write(HEAD + "".join(f"{it} {rests[0]} {rests[1]} {by}\n"
                                   for it, (rests, by) in there.items()))

@@ -60,8 +60,7 @@ from uptane_tools.edits import fewer, kit, lock
 from uptane_tools.edits.check import Bench
 from uptane_tools.edits.edit import edits_in, groups_of
 from uptane_tools.edits.hashes import count_of, hashes
-from uptane_tools.edits.kit import crates as crates_here
-from uptane_tools.edits.kit import rt, rtlib
+from uptane_tools.edits.kit import crates as crates_here, rt, rtlib
 
 
 class Judge:
@@ -120,10 +119,9 @@ class Judge:
         """
         top = os.getcwd()
         with tempfile.TemporaryDirectory(prefix="refused-") as room:
-            shutil.copytree(top,
-                            f"{room}/top",
-                            ignore=shutil.ignore_patterns("out", ".git",
-                                                          os.path.basename(lock.FILE)))
+            shutil.copytree(
+                top, f"{room}/top", ignore=shutil.ignore_patterns("out", ".git",
+                                                                  os.path.basename(lock.FILE)))
             os.chdir(f"{room}/top")
             copied = crates_here()
             for it in copied.values():
@@ -215,28 +213,17 @@ def given_words(words):
     add("--owed", action="store_true", help="names the crates whose hash the lock lacks")
     add("--all", action="store_true", help="judges all edits from nothing")
     add("--drawn", metavar="WORD", help="judges anew the group of edits that the word draws")
-    add("--fewer",
-        metavar="REVISION",
+    add("--fewer", metavar="REVISION",
         help="writes the lines of crates that have fewer edits than were judged at this revision")
-    add("--apart",
-        action="store_true",
+    add("--apart", action="store_true",
         help="judges each group without the other bodies, several at one time")
-    add("--jobs",
-        type=int,
-        metavar="N",
+    add("--jobs", type=int, metavar="N",
         help="checks at one time (one for each processor and 3 GB of free memory)")
-    add("--most",
-        type=int,
-        default=16,
-        metavar="N",
+    add("--most", type=int, default=16, metavar="N",
         help="edits in one check (16); with 1 each is judged alone")
-    add("--seconds",
-        type=int,
-        default=1800,
-        metavar="N",
+    add("--seconds", type=int, default=1800, metavar="N",
         help="the longest that one check may take (1800)")
-    add("--times",
-        action="store_true",
+    add("--times", action="store_true",
         help="a line for each check, with its processor seconds and memory")
     add("names", nargs="*", metavar="NAME", help="the crates")
     given = parser.parse_args(words)

@@ -85,9 +85,8 @@ variant_key with write_fmt write_str zip
 # marks of its words, which a `use` of its file may bring, the words that may name a function or a
 # module, those that may name a constant, the paths of antt that stand in it, and the modules that
 # paths of antt name behind `declared` or `contracts`.
-Part = collections.namedtuple("Part",
-                              "said when name marks names words paths modules",
-                              defaults=[ALWAYS, None, *[frozenset()] * 5])
+Part = collections.namedtuple("Part", "said when name marks names words paths modules", defaults=[
+    ALWAYS, None, *[frozenset()] * 5])
 
 # What a crate shows: the parts of each of its files, by path, the words of antt that may name
 # functions, and of each file that a private module closes off, by path, the module's name.
@@ -107,16 +106,14 @@ def shown_by(crates):
     """Returns what each of these crates shows, by name."""
     read = [(name, it) for name in crates for it in files_in(crates[name].folder, rtlib.PARTS)
             if os.path.basename(it) not in OF_A_FUNCTION]
-    tokens, shown = tokens_of([f"{crates[name].folder}/{path}" for name, path in read
-                               ]), {it: Shown({}, set(), {})
-                                    for it in crates}
+    tokens, shown = tokens_of([f"{crates[name].folder}/{path}" for name, path in read]), {
+        it: Shown({}, set(), {}) for it in crates}
     if tokens is None:
         raise SystemExit("refused: rattle can't read a text of a crate below")
     for (name, path), rows in zip(read, tokens):
         shown[name].files[path] = _parts(name, path, rows,
                                          Path(crates[name].folder, path).read_bytes())
-    private = {(name, it)
-               for (name, path), rows in zip(read, tokens) if path == "src/lib.rt"
+    private = {(name, it) for (name, path), rows in zip(read, tokens) if path == "src/lib.rt"
                for it in _private_modules(rows)}
     for (name, path), rows in zip(read, tokens):
         module = path.removeprefix("src/").removesuffix(".rt")
@@ -124,10 +121,8 @@ def shown_by(crates):
             shown[name].closed[path] = module
     for name, here in shown.items():
         antt = words_of("\n".join({
-            it.word
-            for (crate, _), rows in zip(read, tokens) if crate == name for it in rows
-            if it.kind == "Antt"
-        }))
+            it.word for (crate, _), rows in zip(read, tokens) if crate == name for it in rows
+            if it.kind == "Antt"}))
         here.cites.update(antt if "contracts" in antt else ())
     return shown
 
@@ -137,9 +132,8 @@ def reached(texts, shown):
     shows: the path of each file and the text of what is in, first those of src/ and specs/, and
     then the lemma files.
     """
-    lines, paths = {line
-                    for text in texts
-                    for line in text.split("\n")}, set().union(*map(paths_in, texts))
+    lines, paths = {
+        line for text in texts for line in text.split("\n")}, set().union(*map(paths_in, texts))
     words = words_of("\n".join(lines))
     cites = set().union(*(it.cites for it in shown.values()), words if "contracts" in words else ())
     words, own, named = words | cites, {it: {*cites} for it in shown}, words | cites
@@ -160,8 +154,7 @@ def reached(texts, shown):
         if part.when == BROUGHT:
             return part.name <= marks[crate, path]
         return part.when == ALWAYS or part.name in {
-            NAMED: words, PRIVATE: own[crate], CONSTANT: named
-        }[part.when]
+            NAMED: words, PRIVATE: own[crate], CONSTANT: named}[part.when]
 
     grown = True
     while grown:
@@ -183,15 +176,13 @@ def reached(texts, shown):
 
     def told(crate, is_lemma):
         files = {
-            path: [it.said for at, it in enumerate(parts) if at in within[crate, path]]
-            for path, parts in shown[crate].files.items()
-        }
+            path: [it.said for at, it in enumerate(parts) if at in within[crate, path]
+                   ] for path, parts in shown[crate].files.items()}
         return [(path, "\n".join(said)) for path, said in files.items()
                 if said and path.startswith("proofs/") == is_lemma]
 
-    return [(it, told(it, False)) for it in sorted(shown)], [(it, told(it, True))
-                                                             for it in sorted(shown)
-                                                             if told(it, True)]
+    return [(it, told(it, False)) for it in sorted(shown)], [
+        (it, told(it, True)) for it in sorted(shown) if told(it, True)]
 
 
 def words_of(text):
@@ -221,11 +212,9 @@ def modules_in(text):
     paths = [it.split(".")[1:5] for it in PATH.findall(text.replace("«", "").replace("»", ""))]
     of_code = [
         it for it in paths_in(text)
-        if it[2] in ("declared", "contracts") and [*it] not in [its[:3] for its in paths]
-    ]
+        if it[2] in ("declared", "contracts") and [*it] not in [its[:3] for its in paths]]
     found = {(*it, "*", "*", "*", "*")[:4] for it in paths} | {(*it, "*") for it in of_code}
-    return {(crate, module)
-            for crate, part, file, module in found
+    return {(crate, module) for crate, part, file, module in found
             if part in ("*", "specs") and file in ("*", "declared", "contracts")}
 
 
@@ -242,10 +231,8 @@ def spelled(rows, text):
     too.
     """
     begins = {
-        it.start
-        for it, before in zip(rows, [None, *rows])
-        if it.kind == "Antt" and (before is None or it.line != before.line)
-    }
+        it.start for it, before in zip(rows, [None, *rows])
+        if it.kind == "Antt" and (before is None or it.line != before.line)}
     columns = {it: f"{it - text.rfind(NEWLINE, 0, it)} " for it in begins}
     return {it.start: f"{columns.get(it.start, '')}{it.kind} {it.word}" for it in rows}
 
@@ -259,13 +246,9 @@ def _parts(crate, path, rows, text):
     when, paths, modules = SPECS if of == "specs" else PROOFS, paths_in(said), modules_in(said)
     if file != "Lib.antt":
         return [
-            Part(said,
-                 when,
-                 file.split("/")[0].removesuffix(".antt"),
-                 words=words_of(said),
-                 paths=paths,
-                 modules=modules)
-        ]
+            Part(said, when,
+                 file.split("/")[0].removesuffix(".antt"), words=words_of(said), paths=paths,
+                 modules=modules)]
     files = re.findall(r"mod (\S+) (?:pub )?", " ".join([*(it.word for it in rows), ""]))
     if files == [it.word for it in rows if it.word not in ("pub", "mod")]:
         return [Part(f"mod {it}", when, it.strip("«»")) for it in files]
@@ -280,28 +263,25 @@ def _parts_of_code(crate, rows, lines):
         said = "\n".join(lines[it.start] for it in tokens)
         code = [it.word for it in tokens if it.kind == "Code"]
         names = set().union(
-            *map(words_of, {word
-                            for before, word in zip(["", *code], code) if before != "fn"}))
+            *map(words_of, {word for before, word in zip(["", *code], code) if before != "fn"}))
         # (a sign of code is none that a `ghost use` brings)
         marks = set().union(*map(words_of, {*code}),
-                            *map(marks_of, {it.word
-                                            for it in tokens if it.kind != "Code"}))
+                            *map(marks_of, {it.word for it in tokens if it.kind != "Code"}))
         return Part(said, when, name, marks, names, marks, paths_in(said, crate), modules_in(said))
 
     functions = functions_of(rows)
     cuts = _joined([
-        *_tactics(rows), *((it.opens, it.closes, None) for it in functions if not it.is_read_above)
-    ])
-    kept, by_name = [*_outside(rows, cuts)
-                     ], [it for it in functions if it.begins is not None and _is_by_name(it)]
+        *_tactics(rows),
+        *((it.opens, it.closes, None) for it in functions if not it.is_read_above)])
+    kept, by_name = [*_outside(rows, cuts)], [
+        it for it in functions if it.begins is not None and _is_by_name(it)]
     code = [it.word for it in kept if it.kind == "Code"]
     shows_code = any(it.is_read_above for it in functions) or _has_macro(code)
     places, regions = [it.start for it in kept], []
     for it in by_name:
         tokens = kept[bisect.bisect_left(places, it.begins):bisect.bisect_right(places, it.closes)]
-        regions.append(
-            (it.begins, it.closes + 1, [part(tokens, PRIVATE if it.is_private else NAMED,
-                                             it.name)]))
+        regions.append((it.begins, it.closes + 1, [
+            part(tokens, PRIVATE if it.is_private else NAMED, it.name)]))
     for tokens in _items([*_outside(kept, regions)]):
         kind, name = [it.word for it in tokens[_visible(tokens, 0):]][:2]
         if kind == "const":
@@ -385,8 +365,8 @@ def _is_closed(rows):
     for at, word in enumerate(words):
         if word != "impl" or (at and words[at - 1] in "(<,:&>=+"):
             continue
-        head = words[at + 1:next((it for it in range(at, len(words))
-                                  if words[it] in ("{", "where")), len(words))]
+        head = words[at + 1:next((
+            it for it in range(at, len(words)) if words[it] in ("{", "where")), len(words))]
         depth, of = 0, []
         for it in head:
             depth += (it == "<") - (it == ">")
@@ -408,8 +388,8 @@ def _items(rows):
         words = [it.word for it in rows[at:at + 4]]
         bare = [it.word for it in rows[at + _visible(rows, at):][:4]]
         is_use = words[0] == "use" or words[:2] == ["ghost", "use"]
-        is_constant = depth == 0 and bare[:1] == ["const"
-                                                  ] and bare[1:2] != ["_"] and bare[2:3] == [":"]
+        is_constant = depth == 0 and bare[:1] == ["const"] and bare[1:2] != ["_"] and bare[2:3] == [
+            ":"]
         if rows[at].kind == "Code" and words[:3] == ["#", "!", "["]:
             at += closing([it.word for it in rows[at:]], 2) + 1
         elif rows[at].kind == "Code" and is_start and (is_use or is_constant or bare[:1] == ["mod"]
@@ -426,8 +406,8 @@ def _items(rows):
 def _visible(rows, at):
     """Returns how many tokens say at `at` who sees an item: `pub`, or `pub(crate)` and the like."""
     words = [it.word for it in rows[at:at + 2]]
-    return 0 if words[:1] != ["pub"] else 1 if words[1:] != ["("] else closing(
-        [it.word for it in rows[at:]], 1) + 1
+    return 0 if words[:1] != [
+        "pub"] else 1 if words[1:] != ["("] else closing([it.word for it in rows[at:]], 1) + 1
 
 
 def _end(rows, at):

@@ -33,8 +33,8 @@ def texts_in(body):
     """Returns the texts of SQL in a body (bytes), in order, and its other tokens."""
     words = words_in(body)
     texts = [it for it in words if IS_TEXT.match(it)]
-    return [re.sub(r"\\(.)", r"\1", it[1:-1])
-            for it in texts], [it for it in words if it not in texts]
+    return [re.sub(r"\\(.)", r"\1", it[1:-1]) for it in texts], [
+        it for it in words if it not in texts]
 
 
 def turns_a_text(old, new):
@@ -96,17 +96,14 @@ def rows_named(file):
     SECTION'.
     """
     return [
-        it.strip() for it in ROWS.findall(Path(file).read_text(encoding="utf-8", errors="replace"))
-    ]
+        it.strip() for it in ROWS.findall(Path(file).read_text(encoding="utf-8", errors="replace"))]
 
 
 def sections_beside(folder):
     """Returns the names of the sections of rows that the crates beside this one carry out."""
     return {
-        name
-        for it in Path(folder).resolve().parent.glob("*/stdin")
-        for name in SECTION.findall(it.read_text(encoding="utf-8"))
-    }
+        name for it in Path(folder).resolve().parent.glob("*/stdin")
+        for name in SECTION.findall(it.read_text(encoding="utf-8"))}
 
 
 def unshown(folder, file):

@@ -47,10 +47,8 @@ def look(top, took):
     else the nearest above it.
     """
     rows = list(running())
-    parents, crates = {number: parent
-                       for number, parent, *_ in rows
-                       }, {number: crate_of(words)
-                           for number, *_, words in rows}
+    parents, crates = {number: parent for number, parent, *_ in rows}, {
+        number: crate_of(words) for number, *_, words in rows}
     for number, _, seconds, _ in rows:
         crate, at = crates[number], number
         while at in parents and at != top:

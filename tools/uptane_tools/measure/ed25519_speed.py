@@ -28,16 +28,14 @@ def seconds(program, parts):
 
 def each(program, words, full, bare):
     """Microseconds of a call: rows with it, without those that lack it."""
-    taken = min(seconds(program, [(words, full)])
-                for _ in range(5)) - min(seconds(program, [(words, bare)]) for _ in range(5))
+    taken = min(seconds(program, [(words, full)]) for _ in range(5)) - min(
+        seconds(program, [(words, bare)]) for _ in range(5))
     return 1e6 * taken / len(full)
 
 
 def by_openssl():
-    told = subprocess.run(["openssl", "speed", "-seconds", "2", "ed25519"],
-                          capture_output=True,
-                          text=True,
-                          check=False).stdout
+    told = subprocess.run(["openssl", "speed", "-seconds", "2", "ed25519"], capture_output=True,
+                          text=True, check=False).stdout
     found = re.search(r"\(Ed25519\)\s+\S+\s+\S+\s+([\d.]+)\s+([\d.]+)", told)
     return [1e6 / float(it) for it in found.groups()] if found else []
 

@@ -46,8 +46,7 @@ def callgrind(program, parts, folder, *more):
     words = [
         "valgrind", "--tool=callgrind",
         "--callgrind-out-file=%s" % (folder / "told"), *more,
-        str(program)
-    ]
+        str(program)]
     return answered(words, parts)
 
 
@@ -58,8 +57,7 @@ def each(program, name, parts, folder):
               "--dump-after=" + function)
     counts = [
         re.search(r"^totals: (\d+)", path.read_text(encoding="utf-8", errors="replace"), re.M)
-        for path in folder.glob("told.*")
-    ]
+        for path in folder.glob("told.*")]
     return [int(count[1]) for count in counts if count and int(count[1])]
 
 
@@ -71,8 +69,8 @@ def whole(program, parts, folder):
 def verification(program, secrets, folder):
     triples = [(rows.public_of(secret), MESSAGE, rows.sign(secret, MESSAGE)) for secret in secrets]
     taken = [("verified", [rows.verified_row(*triple) for triple in triples])]
-    refused = [("verified",
-                [rows.verified_row(public[:31], message, tag) for public, message, tag in triples])]
+    refused = [("verified", [
+        rows.verified_row(public[:31], message, tag) for public, message, tag in triples])]
     return (whole(program, taken, folder) - whole(program, refused, folder)) // len(secrets)
 
 

@@ -58,9 +58,8 @@ def report_text(told):
     hashes = {name: told[name] for name in ("sha256", "sha512") if name in told}
     image = {"file": told["file"], "hashes": hashes, "length": told["length"]}
     payload = {
-        "attack": told.get("attack", ""), "counter": told["counter"], "ecu": told["ecu"], "image":
-        image
-    }
+        "attack": told.get("attack", ""), "counter": told["counter"], "ecu": told["ecu"],
+        "image": image}
     payload |= {"time": moment(told["time"]), "type": "report"}
     return sealed([bytes.fromhex(told["key"])], canonical(payload))
 
@@ -92,9 +91,7 @@ class Fleet:
         self.seed, self.rng, self.second_hashes = seed, random.Random(seed), second_hashes
         self.hardware = ["HP"] + ["HS%d" % i for i in range(1, min(ecus, 6))]
         self.vehicles = {
-            "v%06d" % number: self.ecus_of("v%06d" % number, ecus)
-            for number in range(vehicles)
-        }
+            "v%06d" % number: self.ecus_of("v%06d" % number, ecus) for number in range(vehicles)}
         self.images = self.new_images(images)
         self.by_file = {image["file"]: image for image in self.images}
         self.campaigns = [self.new_campaign(number) for number in range(campaigns if images else 0)]
@@ -117,12 +114,10 @@ class Fleet:
             kind = self.hardware[i % len(self.hardware)]
             releases[kind] += rng.randint(1, 3)
             image = {
-                "file": "%s/image-%04d.bin" % (kind.lower(), i), "length": rng.randint(1, 2**30)
-            }
+                "file": "%s/image-%04d.bin" % (kind.lower(), i), "length": rng.randint(1, 2**30)}
             image |= {
-                "sha256": digest("image %d %d" % (self.seed, i)), "hardware": [kind], "release":
-                releases[kind]
-            }
+                "sha256": digest("image %d %d" % (self.seed, i)), "hardware": [kind],
+                "release": releases[kind]}
             if int(digest("second %d %d" % (self.seed, i))[:8], 16) < self.second_hashes * 2**32:
                 image["sha512"] = second("image %d %d" % (self.seed, i))
             other = rng.choice(self.hardware)
@@ -174,8 +169,7 @@ class Fleet:
         if number > 1 and offer and rng.random() < 0.5:
             self.installed[ecu] = content(offer)
         self.last[ecu] = {
-            "ecu": ecu, "key": secret, "counter": number, "time": START + 3600 * number
-        }
+            "ecu": ecu, "key": secret, "counter": number, "time": START + 3600 * number}
         self.last[ecu] |= self.installed.get(ecu, FACTORY)
         if rng.random() < 0.02:
             self.last[ecu]["attack"] = 'counter "low" \\ seen'
@@ -201,8 +195,7 @@ class Fleet:
             new = "%s-e%d-r%d" % (name, place, number)
             ecus[place] = new, kind, digest("%d %s" % (self.seed, new))
             told = {
-                "vehicle": name, "old": old, "ecu": new, "hardware": kind, "key": ecus[place][2]
-            }
+                "vehicle": name, "old": old, "ecu": new, "hardware": kind, "key": ecus[place][2]}
             yield line("replace_ecu", START + 3600 * number, **told)
 
     def round(self, number, share, replaced, history, delivers):
@@ -228,17 +221,8 @@ class Fleet:
             yield line("fetch", repository="image", file=file)
 
 
-def script(vehicles=100,
-           ecus=4,
-           rounds=5,
-           images=20,
-           campaigns=5,
-           seed=1,
-           repeats=0.2,
-           replaced=0,
-           second_hashes=0,
-           deliver=False,
-           from_round=0):
+def script(vehicles=100, ecus=4, rounds=5, images=20, campaigns=5, seed=1, repeats=0.2, replaced=0,
+           second_hashes=0, deliver=False, from_round=0):
     """The lines of the script."""
     fleet, history = Fleet(vehicles, ecus, images, campaigns, seed, second_hashes), []
     setup = list(fleet.setup())
@@ -254,9 +238,8 @@ def main(words: arguments.Words = None) -> int:
     """Prints the script."""
     asked = arguments.parser(__doc__)
     numbers = {
-        "--vehicles": 100, "--ecus": 4, "--rounds": 5, "--images": 20, "--campaigns": 5, "--seed":
-        1, "--from-round": 0
-    }
+        "--vehicles": 100, "--ecus": 4, "--rounds": 5, "--images": 20, "--campaigns": 5,
+        "--seed": 1, "--from-round": 0}
     for name, usual in numbers.items():
         asked.add_argument(name, type=int, default=usual)
     asked.add_argument("--repeats", type=float, default=0.2)

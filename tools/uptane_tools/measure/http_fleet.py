@@ -24,8 +24,7 @@ import time
 
 from uptane_tools import arguments
 from uptane_tools.measure import fleet
-from uptane_tools.trial import http_cases
-from uptane_tools.trial import trials
+from uptane_tools.trial import http_cases, trials
 
 A_CONNECTION = 100
 # bytes: what no answer to an accepted manifest is shorter than
@@ -38,8 +37,8 @@ def day(number):
     words = {"images": 12, "campaigns": 4, "seed": 5, "second_hashes": 0.7, "deliver": True}
     lines = list(fleet.script(vehicles, ecus, -(-number // vehicles), **words))
     bodies = [json.loads(line)["body"].encode() for line in lines if '"do":"deliver"' in line]
-    return [line for line in lines
-            if '"do":"deliver"' not in line and '"do":"show"' not in line], bodies
+    return [line for line in lines if '"do":"deliver"' not in line and '"do":"show"' not in line
+            ], bodies
 
 
 def posted(running, bodies):
@@ -60,9 +59,7 @@ def named(body):
 def kept(path, what):
     with trials.read(path) as db:
         return {
-            row[:2]: row[2]
-            for row in db.execute("SELECT vehicle, counter, %s FROM kept" % what)
-        }
+            row[:2]: row[2] for row in db.execute("SELECT vehicle, counter, %s FROM kept" % what)}
 
 
 def over_http(program, path, bodies):
@@ -94,14 +91,12 @@ def alike(program, own, number):
     accepted = "%d manifests, of which %d came again" % (len(bodies), len(bodies) - len(replies))
     yield accepted, len(replies) >= number and {named(body) for body in bodies} == set(replies)
     yield "each is answered by its kept reply", answers == [
-        wanted(replies, part) for part in hundreds(bodies)
-    ]
+        wanted(replies, part) for part in hundreds(bodies)]
     now = time.time()
-    yield "at the moments of the clock", all(now - 600 < moment <= now
-                                             for moment in moments.values())
+    yield "at the moments of the clock", all(
+        now - 600 < moment <= now for moment in moments.values())
     again = [
-        fleet.line("deliver", moments[named(body)], body=body.decode("ascii")) for body in bodies
-    ]
+        fleet.line("deliver", moments[named(body)], body=body.decode("ascii")) for body in bodies]
     printed = trials.printed(program, script, again)
     yield "the same by script", printed is not None and all(
         line.startswith("reply ") for line in printed)

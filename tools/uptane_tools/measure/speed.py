@@ -60,20 +60,16 @@ from typing import Any
 
 from uptane_tools import arguments
 from uptane_tools.measure import fleet
-from uptane_tools.trial import http_cases
 from uptane_tools.operate import page_sums
-from uptane_tools.trial import proxy_cases
-from uptane_tools.trial import trials
+from uptane_tools.trial import http_cases, proxy_cases, trials
 
 FLEETS = {
-    "40 of 4 ECUs": {"vehicles": 40, "ecus": 4},
-    "100 of 4 ECUs": {"vehicles": 100, "ecus": 4},
-    "1,000 of 1 ECU": {"vehicles": 1000, "ecus": 1, "rounds": 2},
-    "1,000 of 1 ECU, three rounds": {"vehicles": 1000, "ecus": 1, "rounds": 3},
-    "10 of 32 ECUs": {"vehicles": 10, "ecus": 32},
-    "10 of 32 ECUs, ten rounds": {"vehicles": 10, "ecus": 32, "rounds": 10},
-    "40 of 4 ECUs, images with two hashes": {"vehicles": 40, "ecus": 4, "second_hashes": 1},
-}
+    "40 of 4 ECUs": {"vehicles": 40, "ecus": 4}, "100 of 4 ECUs": {"vehicles": 100, "ecus": 4},
+    "1,000 of 1 ECU": {"vehicles": 1000, "ecus": 1, "rounds": 2}, "1,000 of 1 ECU, three rounds": {
+        "vehicles": 1000, "ecus": 1,
+        "rounds": 3}, "10 of 32 ECUs": {"vehicles": 10, "ecus": 32}, "10 of 32 ECUs, ten rounds": {
+            "vehicles": 10, "ecus": 32, "rounds": 10}, "40 of 4 ECUs, images with two hashes": {
+                "vehicles": 40, "ecus": 4, "second_hashes": 1}}
 COMPRESS = re.compile(r".*block256::compress")
 TAKES_MEMORY = [re.compile(name) for name in ("malloc", "calloc", "realloc")]
 MOST = 100_000
@@ -160,41 +156,33 @@ def kinds_of_lines():
 
     items = [{"hardware": desk.images[0]["hardware"][0], "file": desk.images[0]["file"]}]
     campaigns = [
-        fleet.line("open_campaign", campaign="n%d" % at, vehicles="all", items=items) for at in few
-    ]
+        fleet.line("open_campaign", campaign="n%d" % at, vehicles="all", items=items) for at in few]
     image = {"length": 1, "sha256": fleet.digest("new"), "hardware": ["HP"], "release": 99}
     yield "`found`", [], setup[:1]
     yield "`rotate`", setup, [fleet.line("rotate", **fleet.key_set(81))] * 10
     yield "`add_vehicle`, of 4 ECUs", setup, [
         fleet.line("add_vehicle", vehicle="n%d" % at, primary="n%d-e0" % at, ecus=named("n%d" % at))
-        for at in few
-    ]
+        for at in few]
     yield "`add_image`, the 21st to the 30th", setup, [
-        fleet.line("add_image", file="n%d" % at, **image) for at in few
-    ]
+        fleet.line("add_image", file="n%d" % at, **image) for at in few]
     both = image | {"sha512": fleet.second("new")}
     yield "the same with two hashes", setup, [
-        fleet.line("add_image", file="n%d" % at, **both) for at in few
-    ]
+        fleet.line("add_image", file="n%d" % at, **both) for at in few]
     yield "`refresh`, with 20 images", setup, [
-        fleet.line("refresh", version=100 + at) for at in few
-    ]
+        fleet.line("refresh", version=100 + at) for at in few]
     yield "`open_campaign`, for all", setup, campaigns
     yield "`close_campaign`", setup + campaigns, [
-        fleet.line("close_campaign", campaign="n%d" % at) for at in few
-    ]
+        fleet.line("close_campaign", campaign="n%d" % at) for at in few]
     yield "a manifest of 4 ECUs", setup, manifests
     yield "its repeat", setup + manifests, manifests
-    for name, second in (("the next one", {}), ("the next one, of ECUs with two hashes",
-                                                {"sha512": fleet.second("factory")})):
+    for name, second in (("the next one", {}), ("the next one, of ECUs with two hashes", {
+            "sha512": fleet.second("factory")})):
         first, after = (list(numbered(desk, number, second)) for number in (1, 2))
         yield name, setup + first, after
     yield "`fetch` of a Timestamp", setup, [
-        fleet.line("fetch", repository="image", file="timestamp.json")
-    ] * 10
+        fleet.line("fetch", repository="image", file="timestamp.json")] * 10
     yield "`show`, of 4 ECUs", setup + manifests, [
-        fleet.line("show", vehicle="v%06d" % at) for at in few
-    ]
+        fleet.line("show", vehicle="v%06d" % at) for at in few]
 
 
 def numbered(desk, number, second):
@@ -205,9 +193,8 @@ def numbered(desk, number, second):
         report = {"counter": number, "time": fleet.START, **fleet.FACTORY, **second}
         reports = [report | {"ecu": ecu, "key": key} for ecu, _, key in ecus]
         told = {
-            "vehicle": name, "primary": ecus[0][0], "key": ecus[0][2], "counter": number, "reports":
-            reports
-        }
+            "vehicle": name, "primary": ecus[0][0], "key": ecus[0][2], "counter": number,
+            "reports": reports}
         yield fleet.line("deliver", body=fleet.body(told))
 
 
@@ -245,8 +232,7 @@ def manifests(vehicles, number, first=1, ecus=1):
         reports = [report | {"ecu": "%s-e%d" % (name, ecu)} for ecu in range(ecus)]
         told = {
             "vehicle": name, "primary": name + "-e0", "key": fleet.key(7), "counter": counter,
-            "reports": reports
-        }
+            "reports": reports}
         yield fleet.line("deliver", body=fleet.body(told))
 
 
@@ -261,8 +247,7 @@ def prepared(vehicles, images, campaigns, ecus=1, ended=0, reach=("other", ), is
         yield fleet.line("add_vehicle", vehicle=name, primary=name + "-e0", ecus=told)
     for at in range(images):
         image = {
-            "file": "i%d" % at, "length": 1, "sha256": fleet.digest("%d" % at), "hardware": ["HS"]
-        }
+            "file": "i%d" % at, "length": 1, "sha256": fleet.digest("%d" % at), "hardware": ["HS"]}
         yield fleet.line("add_image", **image | (greatest(at) if is_great else {}), release=at + 1)
     items = [{"hardware": "HS", "file": "i0"}]
     reach = reach if reach == "all" else list(reach)
@@ -278,11 +263,10 @@ def greatest(at):
     name.
     """
     kinds = ["HS", *("%d-%s" % (place, 61 * "h") for place in range(10, 25))]
-    needs, files = [{"hardware": kind, "release": 1}
-                    for kind in kinds], ["%d-%s" % (place, 125 * "c") for place in range(10, 26)]
+    needs, files = [{"hardware": kind, "release": 1} for kind in kinds], [
+        "%d-%s" % (place, 125 * "c") for place in range(10, 26)]
     lists = {
-        "hardware": kinds, "needs": needs, "conflicts": files, "sha512": fleet.second("%d" % at)
-    }
+        "hardware": kinds, "needs": needs, "conflicts": files, "sha512": fleet.second("%d" % at)}
     return lists | ({"file": "%04d%s" % (at, 124 * "f")} if at else {})
 
 
@@ -310,8 +294,7 @@ def cost(program, before, script):
     """The processor microseconds that a line of the script takes over memory, behind the lines
     before it.
     """
-    with subprocess.Popen([program, "run", ":memory:"],
-                          stdin=subprocess.PIPE,
+    with subprocess.Popen([program, "run", ":memory:"], stdin=subprocess.PIPE,
                           stdout=subprocess.PIPE) as it:
         asked(it, before)
         begun = processor(it.pid)
@@ -326,19 +309,14 @@ def cost(program, before, script):
 FEW = {"vehicles": 100, "images": 10, "campaigns": 10}
 MANY = ["v%06d" % at for at in range(100, 1100)]
 THERE = {
-    "10 images, 10 campaigns, 100 vehicles": FEW,
-    "no campaigns": FEW | {"campaigns": 0},
-    "200 campaigns": FEW | {"campaigns": 200},
-    "1,000 campaigns": FEW | {"campaigns": 1000},
+    "10 images, 10 campaigns, 100 vehicles": FEW, "no campaigns": FEW | {"campaigns": 0},
+    "200 campaigns": FEW | {"campaigns": 200}, "1,000 campaigns": FEW | {"campaigns": 1000},
     "200 campaigns for all": FEW | {"campaigns": 200, "reach": "all"},
-    "10,000 closed campaigns": FEW | {"ended": 10_000},
-    "200 campaigns for 1,000 vehicles each":
-    {"vehicles": 1100, "images": 10, "campaigns": 200, "reach": MANY},
-    "2,000 closed campaigns for 1,000 vehicles each":
-    {"vehicles": 1100, "images": 10, "campaigns": 0, "ended": 2000, "reach": MANY},
-    "1,000 images": FEW | {"images": 1000},
-    "10,000 vehicles": FEW | {"vehicles": 10_000},
-}
+    "10,000 closed campaigns": FEW | {"ended": 10_000}, "200 campaigns for 1,000 vehicles each": {
+        "vehicles": 1100, "images": 10, "campaigns": 200,
+        "reach": MANY}, "2,000 closed campaigns for 1,000 vehicles each": {
+            "vehicles": 1100, "images": 10, "campaigns": 0, "ended": 2000, "reach": MANY
+        }, "1,000 images": FEW | {"images": 1000}, "10,000 vehicles": FEW | {"vehicles": 10_000}}
 
 
 def growth(program, _):
@@ -351,9 +329,9 @@ def growth(program, _):
         print("| %d kept replies, a repeat | %.0f |" % (kept, repeats), flush=True)
     first = list(manifests(100, 100 + number))
     for name, words in THERE.items():
-        print("| %s | %.0f |" %
-              (name, cost(program, [*prepared(**words), *first[:100]], first[100:])),
-              flush=True)
+        print(
+            "| %s | %.0f |" %
+            (name, cost(program, [*prepared(**words), *first[:100]], first[100:])), flush=True)
 
 
 def alone(program, path, script, before=(), answered=b"reply "):
@@ -362,9 +340,7 @@ def alone(program, path, script, before=(), answered=b"reply "):
     """
     told = path.parent / "told"
     words = [*callgrind(told, "--instr-atstart=no"), str(program), "run", str(path)]
-    with subprocess.Popen(words,
-                          stdin=subprocess.PIPE,
-                          stdout=subprocess.PIPE,
+    with subprocess.Popen(words, stdin=subprocess.PIPE, stdout=subprocess.PIPE,
                           stderr=subprocess.PIPE) as it:
         asked(it, [fleet.line("show", vehicle="v000000"), *before])
         subprocess.run(
@@ -394,12 +370,12 @@ def growth_counts(program, own, most=MOST):
     for kept in [it for it in (1000, 10_000, 100_000) if it <= most]:
         there = kept_replies(program, path, there, kept)
         fresh, again = (list(manifests(100, lines, 1 + at // 100)) for at in (kept, kept - lines))
-        print("| %d kept replies | %d |" %
-              (kept, alone(program, trials.copied(path, own / "next"), fresh)),
-              flush=True)
-        print("| %d kept replies, a repeat | %d |" %
-              (kept, alone(program, trials.copied(path, own / "same"), again)),
-              flush=True)
+        print(
+            "| %d kept replies | %d |" %
+            (kept, alone(program, trials.copied(path, own / "next"), fresh)), flush=True)
+        print(
+            "| %d kept replies, a repeat | %d |" %
+            (kept, alone(program, trials.copied(path, own / "same"), again)), flush=True)
     for name, words in THERE.items():
         path = own / name
         assert trials.printed(program, path, prepared(**words), 3600) is not None
@@ -420,13 +396,9 @@ def forged(line):
 # what the files have over which manifests of four ECUs are counted
 ONE = {"vehicles": 100, "images": 1, "campaigns": 0, "ecus": 4}
 FILES = {
-    "1 image": ONE,
-    "10 campaigns": ONE | {"campaigns": 10},
-    "200 campaigns": ONE | {"campaigns": 200},
-    "200 campaigns for all": ONE | {"campaigns": 200, "reach": "all"},
-    "10,000 closed campaigns": ONE | {"ended": 10_000},
-    "1,024 images": ONE | {"images": 1024},
-}
+    "1 image": ONE, "10 campaigns": ONE | {"campaigns": 10}, "200 campaigns": ONE
+    | {"campaigns": 200}, "200 campaigns for all": ONE | {"campaigns": 200, "reach": "all"},
+    "10,000 closed campaigns": ONE | {"ended": 10_000}, "1,024 images": ONE | {"images": 1024}}
 
 
 def senders(program, own, lines=100):
@@ -453,9 +425,8 @@ def loading(program, own):
     first = list(manifests(100, 1, 1, 4))
     wide = {
         "128 images of the greatest size": ONE | {"images": 128, "is_great": True},
-        "200 campaigns for 1,000 vehicles each":
-        ONE | {"vehicles": 1100, "campaigns": 200, "reach": MANY}
-    }
+        "200 campaigns for 1,000 vehicles each": ONE
+        | {"vehicles": 1100, "campaigns": 200, "reach": MANY}}
     for name, words in (FILES | wide).items():
         path = own / name
         assert trials.printed(program, path, [*prepared(**words), *first], 3600) is not None
@@ -496,9 +467,8 @@ def start(program, own, most=MOST):
 # where Debian has it, and how it gives memory back
 JEMALLOC = "/usr/lib/x86_64-linux-gnu/libjemalloc.so.2"
 PRELOADED = {
-    "LD_PRELOAD": JEMALLOC, "MALLOC_CONF":
-    "background_thread:true,dirty_decay_ms:1000,muzzy_decay_ms:0"
-}
+    "LD_PRELOAD": JEMALLOC,
+    "MALLOC_CONF": "background_thread:true,dirty_decay_ms:1000,muzzy_decay_ms:0"}
 
 
 def allocators_here():
@@ -519,10 +489,8 @@ def started(program, path, variables, script=()):
             re.search(name + r":\s+(\d+)",
                       open("/proc/%d/status" % it.pid, encoding="ascii").read())[1]) >> 10
 
-    with subprocess.Popen([program, "run", str(path)],
-                          stdin=subprocess.PIPE,
-                          stdout=subprocess.PIPE,
-                          env=os.environ | variables) as it:
+    with subprocess.Popen([program, "run", str(path)], stdin=subprocess.PIPE,
+                          stdout=subprocess.PIPE, env=os.environ | variables) as it:
         assert asked(it, ["x"]) == [b"refused 5 NotJson\n"]
         took, peak = processor(it.pid) / 1e6, status(it, "VmHWM")
         asked(it, script[:1])
@@ -564,8 +532,7 @@ def multiplied(path, vehicles, kept):
     subprocess.run(
         ["cc", "-O2", "-o",
          str(summing),
-         str(Path(__file__).resolve().parent / "sums.c")],
-        check=True)
+         str(Path(__file__).resolve().parent / "sums.c")], check=True)
     return subprocess.run([str(summing), str(path), str(size)], check=True)
 
 
@@ -620,8 +587,7 @@ def sums(program, own, most=10_000):
     files = with_and_without(path, own)
     script = list(manifests(100, lines, 1 + kept // 100))
     begun = [
-        counted(program, [], own, own / "told", trials.copied(it, own / "empty")) for it in files
-    ]
+        counted(program, [], own, own / "told", trials.copied(it, own / "empty")) for it in files]
     print("| a start over %d kept replies | %d | %d |" % (kept, *begun), flush=True)
     print("| a manifest of one ECU | %d | %d |" % tuple(alone(program, it, script) for it in files))
 
@@ -650,9 +616,8 @@ def kinds(number):
     bodies = [http_cases.json.loads(line)["body"].encode("ascii") for line in lines]
     gets = number * [b"GET /image/timestamp.json HTTP/1.1\r\nHost: d\r\n\r\n"]
     return {
-        "fresh manifests": (posts(bodies), lines), "repeats": (posts(bodies), lines), "fetches":
-        (gets, number * [fetch])
-    }
+        "fresh manifests": (posts(bodies), lines), "repeats": (posts(bodies), lines),
+        "fetches": (gets, number * [fetch])}
 
 
 def rates(program, own, number=2000):
@@ -680,8 +645,7 @@ class Directly:
         self.port = port
 
     def client(self):
-        return http_cases.http.client.HTTPConnection("127.0.0.1",
-                                                     self.port,
+        return http_cases.http.client.HTTPConnection("127.0.0.1", self.port,
                                                      timeout=proxy_cases.PATIENCE)
 
 
@@ -704,9 +668,9 @@ def proxied(program, own, number=600, clients=8):
             file.write(4096 * b"s")
             file.flush()
             os.fdatasync(file.fileno())
-        print("a write of 4,096 bytes that is synchronised: %.2f ms" %
-              ((time.perf_counter() - begun) * 1000 / 200),
-              flush=True)
+        print(
+            "a write of 4,096 bytes that is synchronised: %.2f ms" %
+            ((time.perf_counter() - begun) * 1000 / 200), flush=True)
     bodies = [json.loads(line)["body"].encode("ascii") for line in manifests(100, number, 1, 4)]
     secret = proxy_cases.certified(own)
     for name in ("directly", *filter(shutil.which, ("nginx", "haproxy"))):
@@ -753,8 +717,8 @@ def head(program, own):
     for name, pause in (("in one piece", None), ("a byte at a time", 0.001)):
         with http_cases.served([*callgrind(own / name), program], path,
                                1) as running, http_cases.connected(running) as client:
-            for piece in [whole] if pause is None else (whole[at:at + 1]
-                                                        for at in range(len(whole))):
+            for piece in [whole
+                          ] if pause is None else (whole[at:at + 1] for at in range(len(whole))):
                 client.sendall(piece)
                 time.sleep(pause or 0)
             client.shutdown(http_cases.socket.SHUT_WR)
@@ -810,10 +774,9 @@ def bodies(program, own):
         print("| %s | %d | %d |" % (name, *taken), flush=True)
 
 
-PARTS: tuple[Any, ...] = (
-    fleets, functions, malloc, commands, lines, growth, growth_counts, senders, loading, start,
-    millions, allocators, sums, http, proxied, head, bodies,
-)
+PARTS: tuple[Any,
+             ...] = (fleets, functions, malloc, commands, lines, growth, growth_counts, senders,
+                     loading, start, millions, allocators, sums, http, proxied, head, bodies)
 
 
 def main(words: arguments.Words = None) -> int:

@@ -22,16 +22,14 @@ def keys_of(db: sqlite3.Connection, root: int) -> Members:
         for role in ROLES:
             rows = db.execute(sql, (root, repository, role)).fetchall()
             made[repository][role] = {
-                "keys": [row["secret"].hex() for row in rows], "threshold": rows[0]["threshold"]
-            }
+                "keys": [row["secret"].hex() for row in rows], "threshold": rows[0]["threshold"]}
     return made
 
 
 def image_of(db: sqlite3.Connection, row: sqlite3.Row, schema: int) -> Members:
     made = {
-        "file": row["file"], "length": row["length"], "sha256": row["sha256"].hex(), "hardware":
-        json.loads(row["hardware"]), "release": row["release_count"]
-    }
+        "file": row["file"], "length": row["length"], "sha256": row["sha256"].hex(),
+        "hardware": json.loads(row["hardware"]), "release": row["release_count"]}
     made |= {name: told for name in ("needs", "conflicts") if (told := json.loads(row[name]))}
     second = db.execute("SELECT sha512 FROM image_sha512 WHERE file = ?",
                         (row["file"], )).fetchone() if schema > 2 else None
@@ -57,9 +55,8 @@ def of_vehicles(before: sqlite3.Connection,
                 after: sqlite3.Connection) -> Iterator[tuple[str, Members]]:
     for row in missing(before, after, "vehicle", "vehicle"):
         yield "add_vehicle", {
-            "vehicle": row["vehicle"], "primary": row["primary_ecu"], "ecus":
-            ecus_of(after, row["vehicle"])
-        }
+            "vehicle": row["vehicle"], "primary": row["primary_ecu"], "ecus": ecus_of(
+                after, row["vehicle"])}
     for (name, ) in before.execute("SELECT vehicle FROM vehicle ORDER BY rowid").fetchall():
         for old, new in zip(ecus_of(before, name), ecus_of(after, name)):
             if old["ecu"] != new["ecu"]:
@@ -70,14 +67,12 @@ def of_campaigns(before: sqlite3.Connection,
                  after: sqlite3.Connection) -> Iterator[tuple[str, Members]]:
     running = {
         row["name"]: bool(row["running"])
-        for row in before.execute("SELECT name, running FROM campaign")
-    }
+        for row in before.execute("SELECT name, running FROM campaign")}
     for row in after.execute("SELECT * FROM campaign ORDER BY rowid"):
         if row["name"] not in running:
             yield "open_campaign", {
-                "campaign": row["name"], "vehicles": json.loads(row["reach"]), "items":
-                json.loads(row["items"])
-            }
+                "campaign": row["name"], "vehicles": json.loads(row["reach"]),
+                "items": json.loads(row["items"])}
         if not row["running"] and running.get(row["name"], True):
             yield "close_campaign", {"campaign": row["name"]}
 
@@ -104,5 +99,5 @@ def lines(copy: Path, later: Path, now: int) -> Iterator[str]:
         versions = [fleet_tables.meta_of(it)["image_version"] for it in (before, after)]
         files = sum(do in ("rotate", "add_image") for do, _ in made)
         if versions[1] > versions[0] or files:
-            yield canonical(
-                {"at": now, "do": "refresh", "version": max(versions[1], versions[0] + files) + 1})
+            yield canonical({
+                "at": now, "do": "refresh", "version": max(versions[1], versions[0] + files) + 1})

@@ -33,13 +33,12 @@ def below(name: str, every: dict[str, list[str]]) -> set[str]:
 
 def part(name: str, version: str, more: Package) -> Package:
     usual = {
-        "downloadLocation": "NOASSERTION", "filesAnalyzed": False, "licenseConcluded":
-        "NOASSERTION", "licenseDeclared": "NOASSERTION", "copyrightText": "NOASSERTION"
-    }
+        "downloadLocation": "NOASSERTION", "filesAnalyzed": False,
+        "licenseConcluded": "NOASSERTION", "licenseDeclared": "NOASSERTION",
+        "copyrightText": "NOASSERTION"}
     return {
         "SPDXID": "SPDXRef-" + name.replace("_", "-"), "name": name, "versionInfo": version,
-        **usual, **more
-    }
+        **usual, **more}
 
 
 def spdx(crate: str, program: bytes, version: str, kit: str, made: int) -> str:
@@ -49,32 +48,25 @@ def spdx(crate: str, program: bytes, version: str, kit: str, made: int) -> str:
     digest = hashlib.sha256(program).hexdigest()
     whole = part(
         crate, version, {
-            "primaryPackagePurpose": "APPLICATION", "checksums":
-            [{"algorithm": "SHA256", "checksumValue": digest}]
-        })
+            "primaryPackagePurpose": "APPLICATION", "checksums": [{
+                "algorithm": "SHA256", "checksumValue": digest}]})
     parts = [
         part(name, version if name in every else kit,
-             {"primaryPackagePurpose": "LIBRARY", "supplier": "NOASSERTION"}) for name in named
-    ]
+             {"primaryPackagePurpose": "LIBRARY", "supplier": "NOASSERTION"}) for name in named]
     links = [{
-        "spdxElementId": whole["SPDXID"], "relationshipType": "STATIC_LINK", "relatedSpdxElement":
-        it["SPDXID"]
-    } for it in parts]
+        "spdxElementId": whole["SPDXID"], "relationshipType": "STATIC_LINK",
+        "relatedSpdxElement": it["SPDXID"]} for it in parts]
     head: dict[str, object] = {
-        "spdxVersion": "SPDX-2.3", "dataLicense": "CC0-1.0", "SPDXID": "SPDXRef-DOCUMENT", "name":
-        "%s-%s" % (crate, version)
-    }
+        "spdxVersion": "SPDX-2.3", "dataLicense": "CC0-1.0", "SPDXID": "SPDXRef-DOCUMENT",
+        "name": "%s-%s" % (crate, version)}
     head |= {"documentNamespace": "https://spdx.org/spdxdocs/%s-%s" % (crate, digest)}
     head |= {
         "creationInfo": {
-            "created": time.strftime("%Y-%m-%dT%H:%M:%SZ", time.gmtime(made)), "creators":
-            ["Tool: uptane_tools-package"]
-        }
-    }
+            "created": time.strftime("%Y-%m-%dT%H:%M:%SZ", time.gmtime(made)), "creators": [
+                "Tool: uptane_tools-package"]}}
     first = {
-        "spdxElementId": "SPDXRef-DOCUMENT", "relationshipType": "DESCRIBES", "relatedSpdxElement":
-        whole["SPDXID"]
-    }
+        "spdxElementId": "SPDXRef-DOCUMENT", "relationshipType": "DESCRIBES",
+        "relatedSpdxElement": whole["SPDXID"]}
     return json.dumps({**head, "packages": [whole, *parts], "relationships": [first, *links]},
                       indent=1) + "\n"
 

@@ -83,8 +83,8 @@ def listed(db):
     on and the words of its statement.
     """
     rows = db.execute("SELECT type, name, tbl_name, sql FROM sqlite_schema").fetchall()
-    return {(kind, name.lower()): (table.lower(), tokens(sql or ""))
-            for kind, name, table, sql in rows}
+    return {
+        (kind, name.lower()): (table.lower(), tokens(sql or "")) for kind, name, table, sql in rows}
 
 
 def parts(db, table):
@@ -96,8 +96,7 @@ def parts(db, table):
         if row[3] != "c":
             names = [
                 name or "?"
-                for name, in db.execute("SELECT name FROM pragma_index_info(?)", row[1:2])
-            ]
+                for name, in db.execute("SELECT name FROM pragma_index_info(?)", row[1:2])]
             said["key", ", ".join(names).lower()] = row[3]
     for row in db.execute("PRAGMA foreign_key_list(%s)" % table).fetchall():
         said["reference", "%s to %s" % (row[3], row[2])] = row[1:]
@@ -118,8 +117,8 @@ def named(db, here):
     if app != "uptane_desk":
         raise Other("meta names %r and not uptane_desk" % app)
     if schema not in LACKS:
-        raise Other("its schema is %r, and not one of %s" %
-                    (schema, ", ".join(map(str, sorted(LACKS)))))
+        raise Other(
+            "its schema is %r, and not one of %s" % (schema, ", ".join(map(str, sorted(LACKS)))))
     return schema, ["meta: its id is %r and not 1" % number] * (number != 1)
 
 
@@ -131,8 +130,7 @@ def differences(db, wanted, table, statement):
     found += ["the %s %s is too much" % it for it in here if it not in there]
     return [
         "table %s: %s" % (table, it)
-        for it in found or ["it is made by other words: " + " ".join(statement)]
-    ]
+        for it in found or ["it is made by other words: " + " ".join(statement)]]
 
 
 def compared(db, here, number):
@@ -168,9 +166,9 @@ def amiss(path):
     with opened(path) as db:
         here = listed(db)
         number, found = named(db, here)
-        return found + min((compared(db, here, it)
-                            for it in [number] * bool(number) or sorted(LACKS, reverse=True)),
-                           key=len)
+        return found + min(
+            (compared(db, here, it)
+             for it in [number] * bool(number) or sorted(LACKS, reverse=True)), key=len)
 
 
 def told(path, front):

@@ -33,10 +33,9 @@ import time
 from pathlib import Path
 
 from uptane_tools import TOP, arguments
-from uptane_tools.operate.formats import (
-    COUNT, FILE, HASH, IDENT, KEY, LAST_AT, LAST_MOMENT, LIST, MOST, NOTE, OBJECT, REPOSITORIES,
-    ROLES, SECOND_HASH, is_count, value_of,
-)
+from uptane_tools.operate.formats import (COUNT, FILE, HASH, IDENT, KEY, LAST_AT, LAST_MOMENT, LIST,
+                                          MOST, NOTE, OBJECT, REPOSITORIES, ROLES, SECOND_HASH,
+                                          is_count, value_of)
 
 PAGE = TOP / "docs" / "integrate" / "FORMATS.md"
 LONGEST, MOST_LINES, DAY = 2_097_152, 100_000, 86400
@@ -66,39 +65,36 @@ def distinct(values):
 KINDS = {
     "at": (COUNT, "the moment, in whole seconds since 1970"),
     "director": (OBJECT, "an object with root, targets, snapshot and timestamp"),
-    "vehicle": (IDENT, A_NAME),
-    "primary": (IDENT, A_NAME),
-    "ecu": (IDENT, A_NAME),
-    "old": (IDENT, A_NAME),
-    "campaign": (IDENT, A_NAME),
-    "key": (is_key, A_KEY),
-    "file": (FILE, A_FILE),
-    "length": (COUNT, A_COUNT),
-    "release": (COUNT, A_COUNT),
-    "version": (COUNT, A_COUNT),
-    "sha256": (HASH, "64 hexadecimal digits"),
-    "sha512": (SECOND_HASH, "128 hexadecimal digits"),
-    "hardware": (IDENT, A_NAME),
-    "hardware of add_image":
-    (lambda v: sized(IDENT, 1, 16)
-     (v) and distinct(v), "a list of 1 to 16 names, none twice, each of " + A_NAME),
-    "needs": (sized(OBJECT, 0, 16), 'a list of 0 to 16 {"hardware","release"}'),
-    "conflicts": (sized(FILE, 0, 16), "a list of 0 to 16 filenames, each of " + A_FILE),
-    "ecus": (sized(OBJECT, 1, 32), 'a list of 1 to 32 {"ecu","hardware","key"}'),
+    "vehicle": (IDENT, A_NAME), "primary": (IDENT, A_NAME), "ecu": (IDENT, A_NAME), "old": (IDENT,
+                                                                                            A_NAME),
+    "campaign": (IDENT, A_NAME), "key": (is_key,
+                                         A_KEY), "file": (FILE, A_FILE), "length": (COUNT, A_COUNT),
+    "release": (COUNT, A_COUNT), "version": (COUNT, A_COUNT), "sha256": (HASH,
+                                                                         "64 hexadecimal digits"),
+    "sha512": (SECOND_HASH,
+               "128 hexadecimal digits"), "hardware": (IDENT, A_NAME), "hardware of add_image": (
+                   lambda v: sized(IDENT, 1, 16)(v) and distinct(v),
+                   "a list of 1 to 16 names, none twice, each of " + A_NAME), "needs": (sized(
+                       OBJECT, 0,
+                       16), 'a list of 0 to 16 {"hardware","release"}'), "conflicts": (sized(
+                           FILE, 0,
+                           16), "a list of 0 to 16 filenames, each of " + A_FILE), "ecus": (sized(
+                               OBJECT, 1, 32), 'a list of 1 to 32 {"ecu","hardware","key"}'),
     "vehicles": (lambda v: v == "all" or sized(IDENT, 1, 1000)
-                 (v), '"all", or a list of 1 to 1,000 names'),
-    "items": (sized(OBJECT, 1, 16), 'a list of 1 to 16 {"hardware","file"}'),
-    "body": (lambda v: isinstance(v, str), "the text of a manifest"),
-    "repository": (lambda v: v in REPOSITORIES, "director or image"),
-    "counter": (COUNT, A_COUNT),
-    "counter of bench": (lambda v: is_count(v, 1), "a whole number from 1 to 2^53-1"),
-    "reports": (sized(OBJECT, 0, 64), "a list of 0 to 64 reports"),
-    "time": (lambda v: is_count(v, 0, LAST_MOMENT), "a moment, in whole seconds"),
-    "attack": (NOTE, "up to 256 bytes of printable ASCII"),
-    "keys": (lambda v: sized(is_key, 1, 4)
-             (v) and distinct([k.lower() for k in v]), "1 to 4 keys of 32 bytes, none twice"),
-    "threshold": (lambda v: is_count(v, 1, 4), "1 to the number of keys"),
-}
+                 (v), '"all", or a list of 1 to 1,000 names'), "items": (sized(
+                     OBJECT, 1, 16), 'a list of 1 to 16 {"hardware","file"}'),
+    "body": (lambda v: isinstance(v, str),
+             "the text of a manifest"), "repository": (lambda v: v in REPOSITORIES,
+                                                       "director or image"), "counter": (COUNT,
+                                                                                         A_COUNT),
+    "counter of bench": (lambda v: is_count(v, 1),
+                         "a whole number from 1 to 2^53-1"), "reports": (sized(
+                             OBJECT, 0, 64), "a list of 0 to 64 reports"),
+    "time": (lambda v: is_count(v, 0, LAST_MOMENT),
+             "a moment, in whole seconds"), "attack": (NOTE, "up to 256 bytes of printable ASCII"),
+    "keys": (lambda v: sized(is_key, 1, 4)(v) and distinct([k.lower() for k in v]),
+             "1 to 4 keys of 32 bytes, none twice"), "threshold": (lambda v: is_count(v, 1, 4),
+                                                                   "1 to the number of keys")}
 KINDS["image"] = KINDS["director"]
 OPTIONAL = {"needs", "conflicts", "attack", "sha512"}
 
@@ -114,14 +110,11 @@ def listed():
         return re.findall(r"`(\w+)`", text)
 
     words = {
-        word: named(members)
-        for those, members in rows for word in named(those) if members != "Members"
-    }
+        word: named(members) for those, members in rows for word in named(those)
+        if members != "Members"}
     inner = {
-        name: re.findall(r'"(\w+)"', members)
-        for name, members in re.findall(r"`(\w+)`(?:\s+is)?\s+a\s+list\s+of\s+`\{(.*?)\}`", page,
-                                        re.DOTALL)
-    }
+        name: re.findall(r'"(\w+)"', members) for name, members in re.findall(
+            r"`(\w+)`(?:\s+is)?\s+a\s+list\s+of\s+`\{(.*?)\}`", page, re.DOTALL)}
     return {word: members for word, members in words.items() if word != "do"}, inner
 
 
@@ -195,13 +188,13 @@ class Line:
         if self.members(told, ["keys", "threshold"], "role",
                         ", in " + where) and told["threshold"] > len(told["keys"]):
             self.fault("threshold", "%s, in %s" % (KINDS["threshold"][1], where))
-        return [key.lower() for key in told.get("keys", [])
-                if isinstance(key, str)] if isinstance(told.get("keys"), list) else []
+        return [key.lower() for key in told.get("keys", []) if isinstance(key, str)] if isinstance(
+            told.get("keys"), list) else []
 
     def together(self, asked):
         """What two members of a line say of one another."""
-        ecus = [it["ecu"] for it in asked.get("ecus", [])
-                if isinstance(it.get("ecu"), str)] if self.whole(asked, "ecus") else []
+        ecus = [it["ecu"] for it in asked.get("ecus", []) if isinstance(it.get("ecu"), str)
+                ] if self.whole(asked, "ecus") else []
         if asked["do"] == "add_vehicle" and ecus:
             if asked.get("primary") not in ecus:
                 self.fault("primary", "one of the vehicle's ECUs")
@@ -236,8 +229,8 @@ class Line:
             elif "" in parts or "." in parts:
                 self.look("file", "a part of its path is empty, or is a point")
         if word == "bench":
-            reports = [it.get("counter")
-                       for it in asked["reports"]] if self.whole(asked, "reports") else []
+            reports = [it.get("counter") for it in asked["reports"]] if self.whole(
+                asked, "reports") else []
             if any(map(ends, [asked.get("counter"), *reports])):
                 self.final(
                     "counter",
@@ -292,8 +285,8 @@ def checked(text, before, now, far):
     for name in repeated(text):
         line.look(name, "it stands twice, and the last one counts")
     known = WORDS[asked["do"]]
-    line.members({name: it
-                  for name, it in asked.items() if name != "do"}, ["at", *known], asked["do"])
+    line.members({name: it for name, it in asked.items() if name != "do"}, ["at", *known],
+                 asked["do"])
     line.inner(asked, known)
     if "director" in known:
         line.roles(asked)
@@ -323,8 +316,7 @@ def main(words: arguments.Words = None) -> int:
     parser.add_argument("script", nargs="?", type=Path)
     parser.add_argument("--now", type=int, default=None)
     parser.add_argument("--far", type=float, default=1, help="days from now that a moment may be")
-    parser.add_argument("--final",
-                        action="store_true",
+    parser.add_argument("--final", action="store_true",
                         help="what can't be undone is only to be looked at")
     given = parser.parse_args(words)
     try:

@@ -128,8 +128,8 @@ class Division:
     def of_vehicle(self, word, asked, line):
         vehicle, desk, ecus = asked.get("vehicle"), self.desk_of(asked.get("vehicle")), []
         if word == "add_vehicle":
-            ecus = [it.get("ecu") for it in asked.get("ecus") or []
-                    if isinstance(it, dict)] if isinstance(asked.get("ecus"), list) else []
+            ecus = [it.get("ecu") for it in asked.get("ecus") or [] if isinstance(it, dict)
+                    ] if isinstance(asked.get("ecus"), list) else []
             ecus = list(filter(is_name, ecus))
             if is_name(vehicle) and vehicle not in self.vehicles:
                 desk = next((self.ecus[it] for it in ecus if it in self.ecus), None) or min(
@@ -154,16 +154,16 @@ class Division:
         if not is_name(name) or not (named == "all"
                                      or isinstance(named, list) and all(map(is_name, named))):
             return {1: line}, {}
-        whole, before = canonical({"items": asked.get("items"), "vehicles":
-                                   named}), self.campaigns.get(name)
+        whole, before = canonical({"items": asked.get("items"),
+                                   "vehicles": named}), self.campaigns.get(name)
         if before and before[1] != whole:
             need(name in self.taken, "the campaign %s stands twice, with other members", name)
             # the name is taken: one desk that has it says so
             return {(before[0] or [1])[0]: line}, {}
         if named == "all":
             self.campaigns[name] = [[], whole]
-            return dict.fromkeys(
-                self.desks, line), {"every": True, "campaign": name, "value": self.campaigns[name]}
+            return dict.fromkeys(self.desks, line), {
+                "every": True, "campaign": name, "value": self.campaigns[name]}
         for vehicle in named:
             need(vehicle in self.vehicles, "%s is at no desk", vehicle)
         parts = {}
@@ -171,8 +171,7 @@ class Division:
             parts.setdefault(self.vehicles[vehicle], []).append(vehicle)
         parts = {
             desk: canonical(asked | {"vehicles": own}).encode("ascii")
-            for desk, own in sorted(parts.items())
-        } or {1: line}
+            for desk, own in sorted(parts.items())} or {1: line}
         self.campaigns[name] = [sorted(parts), whole]
         return parts, {"campaign": name, "value": self.campaigns[name]}
 
@@ -230,8 +229,7 @@ def joined(folder, pending):
     counts = Counter(desk for desks, _ in pending["lines"] for desk in desks)
     told = {
         desk: iter(answers_of(folder, desk, pending["lead"][str(desk)], counts[desk]))
-        for desk in range(1, pending["desks"] + 1)
-    }
+        for desk in range(1, pending["desks"] + 1)}
     for desks, takes in pending["lines"]:
         yield {desk: next(told[desk]) for desk in desks}, takes
 
@@ -260,8 +258,8 @@ def join(folder):
         same = len(set(told.values())) == 1
         agree = agree and same
         print(
-            next(iter(told.values())) if same else "differs: " + "; ".join("desk %d %s" % it
-                                                                           for it in told.items()))
+            next(iter(told.values())) if same else "differs: " +
+            "; ".join("desk %d %s" % it for it in told.items()))
     write(folder / "division.json", json.dumps(state, indent=0, sort_keys=True) + "\n")
     write(folder / "vehicles.map",
           "".join("%s desk%d\n" % it for it in sorted(state["vehicles"].items())))

@@ -50,17 +50,14 @@ def desk_of(name, path, now):
             its = vehicles if it["all"] else [by_name[one] for one in it.pop("reached")]
             it["moments"] = fleet_tables.taken_up(db, it, images, its) if it["running"] else []
         made = {
-            "name": name, "meta": dict(meta), "images": images, "vehicles":
-            [it | {"desk": name} for it in vehicles]
-        }
+            "name": name, "meta": dict(meta), "images": images, "vehicles": [
+                it | {"desk": name} for it in vehicles]}
         made |= {
-            "campaigns": campaigns, "files": list(fleet_tables.files_of(db)), "replaced":
-            list(fleet_tables.replaced_of(db, meta["schema"]))
-        }
+            "campaigns": campaigns, "files": list(fleet_tables.files_of(db)), "replaced": list(
+                fleet_tables.replaced_of(db, meta["schema"]))}
         made |= {
-            "newest": fleet_tables.newest(db), "size": fleet_tables.size_of(path), "day":
-            fleet_tables.kept_since(db, now - DAY)
-        }
+            "newest": fleet_tables.newest(db), "size": fleet_tables.size_of(path),
+            "day": fleet_tables.kept_since(db, now - DAY)}
         return made | {"kept": sum(it["version"] for it in vehicles)}
 
 
@@ -73,8 +70,7 @@ def campaigns_of(desks):
     for desk in desks:
         for it in desk["campaigns"]:
             whole = made.setdefault(it["name"],
-                                    it | {"running": False} | {name: it[name] * 0
-                                                               for name in SUMS})
+                                    it | {"running": False} | {name: it[name] * 0 for name in SUMS})
             whole["running"] |= it["running"]
             for name in SUMS:
                 whole[name] += it[name]
@@ -133,8 +129,7 @@ def table(name, head, rows, empty):
     made %= name, "".join("<th>%s</th>" % it for it in head)
     lines = [
         "<tr>%s</tr>" % "".join('<td data-head="%s">%s</td>' % it for it in zip(head, row))
-        for row in rows
-    ]
+        for row in rows]
     shown = len(lines) if len(lines) <= SHOWN + FEW else SHOWN
     first, more = made % "".join(lines[:shown]), lines[shown:]
     return first + ("<details><summary>%s more</summary>%s</details>" %
@@ -198,16 +193,14 @@ def rollout_rows(campaigns):
         if 1 not in its:
             continue
         files = "<br>".join(
-            code(file) for file in sorted({item["file"]
-                                           for it in every for item in it["items"]}))
+            code(file) for file in sorted({item["file"] for it in every for item in it["items"]}))
         state = '<span class="tag%s</span>' % (' well">running' if any(
             it["running"] for it in every) else '">stopped')
         rows = [
             "%d: %s of %s" %
             (number, grouped(sum(it["done"]
                                  for it in step)), many(sum(it["ecus"] for it in step), "ECU"))
-            for number, step in sorted(its.items())
-        ]
+            for number, step in sorted(its.items())]
         yield code(name), files, state, bar(sum(it["done"] for it in every),
                                             sum(it["ecus"] for it in every)), "<br>".join(rows)
 
@@ -227,12 +220,11 @@ def file_rows(desks, now):
         for it in desk["files"]:
             every.setdefault(it["file"], []).append(it | {"desk": desk["name"]})
     for name, its in sorted(every.items(), key=lambda pair: min(it["expires"] for it in pair[1])):
-        first, versions = min(its,
-                              key=lambda it: it["expires"]), sorted({it["version"]
-                                                                     for it in its})
+        first, versions = min(its, key=lambda it: it["expires"]), sorted({
+            it["version"] for it in its})
         state = state_of(first, now)
-        where = " at %s" % html.escape(first["desk"]) if any(it["expires"] > first["expires"]
-                                                             for it in its) else ""
+        where = " at %s" % html.escape(first["desk"]) if any(
+            it["expires"] > first["expires"] for it in its) else ""
         told = "%d" % versions[0] if len(versions) == 1 else "%d to %d" % (versions[0],
                                                                            versions[-1])
         yield code(name), told, date(
@@ -274,8 +266,8 @@ def release_rows(vehicles, images):
             key = ecu["release"], ecu["file"] or ""
             own[key] = own.get(key, 0) + 1
     for hardware, own in sorted(counts.items()):
-        for (release, file), number in sorted(own.items(),
-                                              key=lambda pair: (-pair[0][0], pair[0][1])):
+        for (release, file), number in sorted(own.items(), key=lambda pair:
+                                              (-pair[0][0], pair[0][1])):
             known = file in images and (release or not images[file]["release_count"])
             yield code(hardware), code(
                 file) if file else "nothing reported", release if known else (
@@ -310,8 +302,7 @@ def tiles(vehicles, desks, now):
         tile("attack", "report an attack",
              sum(any(e["attack"] for e in it["ecus"]) for it in vehicles), True),
         tile("silent", "silent for a week", sum(map(silent, vehicles)), True),
-        tile("never", "never seen", sum(it["seen"] is None for it in vehicles), False),
-    ]
+        tile("never", "never seen", sum(it["seen"] is None for it in vehicles), False)]
     files = [it for desk in desks for it in desk["files"]]
     gone = sum(it["expires"] <= now for it in files)
     if gone:
@@ -336,14 +327,10 @@ def packed(vehicles, campaigns):
             e["ecu"],
             place(e["hardware"]),
             place(e["file"] or ""),
-            place(e["assigned"]), e["attack"]
-        ] for e in it["ecus"]], it["desk"]
-    ] for it in vehicles]
+            place(e["assigned"]), e["attack"]] for e in it["ecus"]], it["desk"]] for it in vehicles]
     sets = {
-        "%s %s" % (word, it["name"]): [at[name] for name in it[kind]]
-        for it in campaigns if it["running"]
-        for word, kind in (("left", "left"), ("stuck", "withheld")) if it[kind]
-    }
+        "%s %s" % (word, it["name"]): [at[name] for name in it[kind]] for it in campaigns
+        if it["running"] for word, kind in (("left", "left"), ("stuck", "withheld")) if it[kind]}
     made = json.dumps({"words": list(words), "vehicles": rows, "sets": sets}, separators=(",", ":"))
     return made.replace("<", "\\u003c").replace(">", "\\u003e").replace("&", "\\u0026")
 
@@ -370,9 +357,7 @@ def heading(desks, images, now):
         "%s of %s images" % (grouped(len(images)), grouped(IMAGES)),
         "%s in %s, %s a day" % (many(sum(it["kept"] for it in desks), "kept reply").replace(
             "replys", "replies"), size(sum(it["size"] for it in desks)), size(grown)),
-        "schema %s" % " and ".join(map(str, sorted({it["meta"]["schema"]
-                                                    for it in desks})))
-    ]
+        "schema %s" % " and ".join(map(str, sorted({it["meta"]["schema"] for it in desks})))]
     return "<header><h1>Fleet</h1><p>%s</p></header>" % " &middot; ".join(filter(None, told))
 
 
@@ -381,8 +366,8 @@ def parts(desks, now):
     vehicles = sorted((it for desk in desks for it in desk["vehicles"]),
                       key=lambda it: it["vehicle"])
     campaigns, newest = campaigns_of(desks), max(it["newest"] for it in desks)
-    running, closed = ([it for it in campaigns if it["running"] == whether]
-                       for whether in (True, False))
+    running, closed = (
+        [it for it in campaigns if it["running"] == whether] for whether in (True, False))
     heads = ["Campaign", "Images", "For", "How far", "Over time", "Vehicles"]
     yield heading(desks, images, now)
     yield tiles(vehicles, desks, now)
@@ -402,17 +387,15 @@ def parts(desks, now):
         list(file_rows(desks, now)), "The repositories aren't founded.")
     if len(desks) > 1:
         heads = [
-            "Desk", "Vehicles", "Last manifest (UTC)", "In the last day", "Kept replies", "Size"
-        ]
+            "Desk", "Vehicles", "Last manifest (UTC)", "In the last day", "Kept replies", "Size"]
         yield "<h2>Desks</h2>" + table("desks", heads, list(desk_rows(desks)), "")
     yield "<h2>Releases</h2>" + table("releases", ["Hardware", "Reported", "Release", "ECUs"],
                                       list(release_rows(vehicles, images)),
                                       "There are no vehicles.")
     yield "<h2>Withheld plans</h2>" + table("withheld", ["Vehicle", "Cause", "Seen (UTC)"],
                                             list(withheld_rows(vehicles)), "None.")
-    yield "<h2>Attacks reported</h2>" + table("attacks",
-                                              ["Vehicle", "ECU", "Its note", "Seen (UTC)"],
-                                              list(attack_rows(vehicles)), "None.")
+    yield "<h2>Attacks reported</h2>" + table("attacks", [
+        "Vehicle", "ECU", "Its note", "Seen (UTC)"], list(attack_rows(vehicles)), "None.")
     replaced = list(replaced_rows(desks))
     yield "<h2>Replaced ECUs</h2>" + table(
         "replaced", ["Vehicle", "ECU", "Last version", "Last reported (UTC)"], replaced, "None.")

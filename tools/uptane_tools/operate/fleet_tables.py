@@ -77,8 +77,8 @@ def meta_of(db):
             return rows[0]
     except (sqlite3.Error, IndexError):
         pass
-    raise Other("it isn't a database of uptane_desk, of schema %d to %d" %
-                (SCHEMAS[0], SCHEMAS[-1]))
+    raise Other(
+        "it isn't a database of uptane_desk, of schema %d to %d" % (SCHEMAS[0], SCHEMAS[-1]))
 
 
 # ---- images and what ECUs have
@@ -88,8 +88,7 @@ def registered(db, schema):
     """The images, by filename. A table of second hashes is there from schema 3 on."""
     images = {
         row["file"]: dict(row) | {"hardware": json.loads(row["hardware"]), "sha512": None}
-        for row in db.execute("SELECT * FROM image")
-    }
+        for row in db.execute("SELECT * FROM image")}
     if schema >= 3:
         for row in db.execute("SELECT file, sha512 FROM image_sha512"):
             images[row["file"]]["sha512"] = row["sha512"].hex()
@@ -127,9 +126,8 @@ def ecus_of(db, images, schema):
     made = {}
     for row in db.execute("SELECT * FROM ecu ORDER BY vehicle, place"):
         one = {
-            "ecu": row["ecu"], "hardware": row["hardware"], "file": row["file"], "release":
-            release_of(images, row, schema)
-        }
+            "ecu": row["ecu"], "hardware": row["hardware"], "file": row["file"],
+            "release": release_of(images, row, schema)}
         made.setdefault(row["vehicle"], []).append(one | {"attack": attack_in(row["report"])})
     return made
 
@@ -141,9 +139,7 @@ def lasts_of(db):
     """Of each vehicle that has sent one: the moment of its last manifest, and its plan."""
     sql = "SELECT vehicle, moment, plan_text FROM vehicle JOIN kept USING (vehicle, version)"
     return {
-        row["vehicle"]: (row["moment"], json.loads(row["plan_text"]))
-        for row in db.execute(sql)
-    }
+        row["vehicle"]: (row["moment"], json.loads(row["plan_text"])) for row in db.execute(sql)}
 
 
 def cause_of(withheld):
@@ -164,8 +160,7 @@ def vehicles_of(db, ecus):
         assigned = {it["ecu"]: it["file"] for it in plan["assigned"]}
         own = [
             one | {"assigned": assigned.get(one["ecu"], "")}
-            for one in ecus.get(row["vehicle"], [])
-        ]
+            for one in ecus.get(row["vehicle"], [])]
         cause = plan["withheld"] or {}
         one = {"vehicle": row["vehicle"], "version": row["version"], "seen": seen, "ecus": own}
         made.append(one
@@ -221,20 +216,17 @@ def campaigns_of(db, images, vehicles):
         reach, items = json.loads(row["reach"]), json.loads(row["items"])
         reached = vehicles if reach == "all" else [by_name[name] for name in sorted(set(reach))]
         one = {
-            "name": row["name"], "running": bool(row["running"]), "all": reach == "all", "items":
-            items, "vehicles": len(reached)
-        }
+            "name": row["name"], "running": bool(row["running"]), "all": reach == "all",
+            "items": items, "vehicles": len(reached)}
         moves = list(moves_of(one, images, reached))
         left = {vehicle["vehicle"] for vehicle, _, has in moves if not has}
         withheld = {
-            vehicle["vehicle"]
-            for vehicle, ecu, has in moves if not has and vehicle["withheld_ecu"] == ecu["ecu"]
-        }
+            vehicle["vehicle"] for vehicle, ecu, has in moves
+            if not has and vehicle["withheld_ecu"] == ecu["ecu"]}
         one |= {"reached": [it["vehicle"] for it in reached]} if reach != "all" else {}
         one |= {
             "ecus": len(moves), "done": sum(has for _, _, has in moves), "left": sorted(left),
-            "withheld": sorted(withheld)
-        }
+            "withheld": sorted(withheld)}
         made.append(one)
     return made
 
@@ -247,8 +239,8 @@ def moment_in(text):
         datetime.strptime(text, "%Y-%m-%dT%H:%M:%SZ").replace(tzinfo=timezone.utc).timestamp())
 
 
-LIFE = {("image", "targets"): 90 * DAY, ("image", "snapshot"): 30 * DAY, ("image", "timestamp"):
-        DAY}
+LIFE = {("image", "targets"): 90 * DAY, ("image", "snapshot"): 30 * DAY,
+        ("image", "timestamp"): DAY}
 ANEW = {"root": "rotate"}
 
 
@@ -261,13 +253,11 @@ def files_of(db):
         signed = json.loads(row["body"])["signed"]
         life = LIFE.get((row["repository"], signed["type"]), 365 * DAY)
         one = {
-            "repository": row["repository"], "name": row["name"], "file":
-            "%s/%s" % (row["repository"], row["name"])
-        }
+            "repository": row["repository"], "name": row["name"],
+            "file": "%s/%s" % (row["repository"], row["name"])}
         yield one | {
             "version": signed["version"], "expires": moment_in(signed["expires"]), "life": life,
-            "by": ANEW.get(signed["type"], "refresh")
-        }
+            "by": ANEW.get(signed["type"], "refresh")}
 
 
 # ---- over time
@@ -329,8 +319,6 @@ def replaced_of(db, schema):
         return
     sql = "SELECT version, moment, signed FROM kept WHERE vehicle = ? ORDER BY version DESC"
     for row in db.execute("SELECT ecu, vehicle FROM retired ORDER BY rowid").fetchall():
-        found = next(
-            ((it[0], it[1])
-             for it in db.execute(sql, (row["vehicle"], )) if '"ecu":"%s"' % row["ecu"] in it[2]),
-            (None, None))
+        found = next(((it[0], it[1]) for it in db.execute(sql, (row["vehicle"], ))
+                      if '"ecu":"%s"' % row["ecu"] in it[2]), (None, None))
         yield {"vehicle": row["vehicle"], "ecu": row["ecu"], "version": found[0], "seen": found[1]}

@@ -52,10 +52,7 @@ def value_of(text):
         text = text.decode("utf-8") if isinstance(text, bytes) else text
         if nesting(text) > 127:
             raise ValueError
-        value = json.loads(text,
-                           parse_constant=finite,
-                           parse_float=finite,
-                           parse_int=whole,
+        value = json.loads(text, parse_constant=finite, parse_float=finite, parse_int=whole,
                            object_pairs_hook=members)
         json.dumps([value, dropped], ensure_ascii=False).encode("utf-8")
     except RecursionError:

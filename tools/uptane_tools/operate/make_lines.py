@@ -123,16 +123,13 @@ def known_keys(old):
     made = {
         key: "examples/%s, so it is published" % path.parent.name
         for path in sorted((TOP / "examples").glob("*/script"))
-        for key in re.findall('"([0-9a-f]{64})"', path.read_text(encoding="ascii"))
-    }
+        for key in re.findall('"([0-9a-f]{64})"', path.read_text(encoding="ascii"))}
     if old:
         with fleet_tables.opened(old) as db:
             fleet_tables.meta_of(db)
             made |= {
-                row[0].hex(): "%s" % old
-                for row in db.execute(
-                    "SELECT secret FROM role_key UNION SELECT public_key FROM ecu")
-            }
+                row[0].hex(): "%s" % old for row in db.execute(
+                    "SELECT secret FROM role_key UNION SELECT public_key FROM ecu")}
     return made
 
 
@@ -162,15 +159,12 @@ def new_keys(folder, asked, old):
     need(folder.is_dir(), "%s: there is no such folder", folder)
     thresholds = {name: int(number) for name, number in asked}
     told = {
-        it: {role: role_keys(folder, "%s-%s" % (it, role), thresholds)
-             for role in ROLES}
-        for it in REPOSITORIES
-    }
+        it: {role: role_keys(folder, "%s-%s" % (it, role), thresholds) for role in ROLES
+             } for it in REPOSITORIES}
     need(not thresholds, "there is no role %s", ", ".join(thresholds))
     known = {
-        "%s-%s-%d.key" % (it, role, number)
-        for it in REPOSITORIES for role in ROLES for number in range(1, 5)
-    }
+        "%s-%s-%d.key" % (it, role, number) for it in REPOSITORIES for role in ROLES
+        for number in range(1, 5)}
     for path in sorted(folder.glob("*.key")):
         need(path.name in known, "%s: no role has such a key", path)
     every = [key for roles in told.values() for role in roles.values() for key in role["keys"]]
@@ -263,8 +257,7 @@ def vehicles_in(path, old):
 
 def new_ecu(given):
     made = {
-        "vehicle": given.vehicle, "old": given.old, "ecu": given.ecu, "hardware": given.hardware
-    }
+        "vehicle": given.vehicle, "old": given.old, "ecu": given.ecu, "hardware": given.hardware}
     for member, name in made.items():
         need(IDENT(name), "%s: %s has 1 to 64 bytes of A-Z a-z 0-9 . _ -", name, member)
     need(given.old != given.ecu, "%s: the new ECU needs an identifier of its own", given.ecu)
@@ -328,12 +321,9 @@ def parser():
     words = top.add_subparsers(dest="do", required=True, metavar="WORD")
     made = {
         word: words.add_parser(word)
-        for word in ("found", "rotate", "add_image", "add_vehicle", "replace_ecu", "refresh")
-    }
+        for word in ("found", "rotate", "add_image", "add_vehicle", "replace_ecu", "refresh")}
     for one in made.values():
-        one.add_argument("--at",
-                         type=int,
-                         default=None,
+        one.add_argument("--at", type=int, default=None,
                          help="the moment, in seconds; now where it is left out")
     for word in ("found", "rotate", "add_vehicle", "replace_ecu"):
         made[word].add_argument("--old", type=Path, default=None, metavar="COPY", dest="old_file")

@@ -39,8 +39,7 @@ LIBRARY, DOCUMENTS, UNITS = Path("usr/lib/uptane_desk"), Path("usr/share/doc/upt
 SERVICE = TOP / "examples" / "service"
 # what belongs to whoever installs it
 CONFIGURED = {
-    "etc/uptane/settings": "settings", "etc/logrotate.d/uptane-desk": "uptane-desk.logrotate"
-}
+    "etc/uptane/settings": "settings", "etc/logrotate.d/uptane-desk": "uptane-desk.logrotate"}
 # how a program ends that `tools/run unproved` built
 LABEL = b"\nUNPROVED: "
 
@@ -102,9 +101,7 @@ fi
 
 
 def git(*words):
-    ran = subprocess.run(["git", "-C", str(TOP), *words],
-                         capture_output=True,
-                         text=True,
+    ran = subprocess.run(["git", "-C", str(TOP), *words], capture_output=True, text=True,
                          check=False)
     return ran.stdout.strip() if ran.returncode == 0 else ""
 
@@ -133,8 +130,7 @@ def parts(program):
     examples = [it for it in (TOP / "examples").rglob("*") if it.is_file() and it.suffix != ".pyc"]
     for path in sorted([
             *(TOP / "docs").rglob("*.md"), *examples,
-            *(TOP / it for it in ("README.md", "SECURITY.md", "CHANGELOG.md"))
-    ]):
+            *(TOP / it for it in ("README.md", "SECURITY.md", "CHANGELOG.md"))]):
         yield LIBRARY / path.relative_to(TOP), path, 0o755 if os.access(path, os.X_OK) else 0o644
     for name in ("README.md", "nginx.conf", "haproxy.cfg", "several/nginx.conf",
                  "several/haproxy.cfg", "alerts/uptane.yml"):
@@ -160,9 +156,7 @@ def copied(given, to, mode):
 
 def said(program):
     """What the program says of itself; nothing where it doesn't know the word."""
-    ran = subprocess.run([program.resolve(), "--version"],
-                         capture_output=True,
-                         text=True,
+    ran = subprocess.run([program.resolve(), "--version"], capture_output=True, text=True,
                          check=False)
     return ran.stdout.strip() if ran.returncode == 0 else ""
 
@@ -181,11 +175,9 @@ def manifest(listed, program):
                            or "unknown", ", and changes that are in no commit" if changed else ""),
         "# program %s%s, %s, %d bytes" %
         (program.name, ", built without a proof" if is_unproved(program) else "",
-         hashlib.sha256(program.read_bytes()).hexdigest(), program.stat().st_size)
-    ]
+         hashlib.sha256(program.read_bytes()).hexdigest(), program.stat().st_size)]
     sums = [
-        "%s  %s" % (hashlib.sha256(path.read_bytes()).hexdigest(), place) for place, path in listed
-    ]
+        "%s  %s" % (hashlib.sha256(path.read_bytes()).hexdigest(), place) for place, path in listed]
     return "\n".join(head + sums) + "\n"
 
 
@@ -206,14 +198,11 @@ def laid(program, folder, bench=False):
     kit = said(program).partition(", kit ")[2].partition(",")[0] or "NOASSERTION"
     bill.written(crate, program, version(program), kit, moment(),
                  folder / documents / (name + ".spdx.json"))
-    with open(folder / documents / "changelog.gz", "wb") as file, gzip.GzipFile("",
-                                                                                "wb",
-                                                                                9,
-                                                                                file,
-                                                                                mtime=0) as packed:
+    with open(folder / documents / "changelog.gz", "wb") as file, gzip.GzipFile(
+            "", "wb", 9, file, mtime=0) as packed:
         packed.write(changes(name, version(program)).encode("ascii"))
-    listed += [(documents / it, folder / documents / it)
-               for it in (name + ".spdx.json", "changelog.gz")]
+    listed += [
+        (documents / it, folder / documents / it) for it in (name + ".spdx.json", "changelog.gz")]
     (folder / library).mkdir(parents=True, exist_ok=True)
     (folder / library / "MANIFEST").write_text(manifest(listed, program), encoding="ascii")
 
@@ -257,9 +246,7 @@ def packed(program, to, bench=False):
         size = sum(path.stat().st_size for path in folder.rglob("*") if path.is_file()) >> 10
         control = folder / "DEBIAN"
         control.mkdir(mode=0o755)
-        machine = subprocess.run(["dpkg", "--print-architecture"],
-                                 capture_output=True,
-                                 text=True,
+        machine = subprocess.run(["dpkg", "--print-architecture"], capture_output=True, text=True,
                                  check=True).stdout.strip()
         proof = "UNPROVED" if is_unproved(program) else "proved"
         told = (BENCH if bench else CONTROL) % (version(program), machine, maintainer(), size,
@@ -276,9 +263,7 @@ def packed(program, to, bench=False):
         made = to / ("uptane-desk%s_%s_%s.deb" %
                      ("-bench" if bench else "", version(program), machine))
         words = ["dpkg-deb", "--root-owner-group", "-Zgzip", "--build", str(folder), str(made)]
-        subprocess.run(words,
-                       check=True,
-                       stdout=subprocess.DEVNULL,
+        subprocess.run(words, check=True, stdout=subprocess.DEVNULL,
                        env=os.environ | {"SOURCE_DATE_EPOCH": str(moment())})
     return made
 

@@ -63,8 +63,7 @@ def has_sums(data):
 def wrong_sums(data):
     """The numbers, from 1, of the pages whose sum is wrong."""
     return [
-        number for number, page in enumerate(pages(data), 1) if page[-RESERVED:] != sum_of(page)
-    ]
+        number for number, page in enumerate(pages(data), 1) if page[-RESERVED:] != sum_of(page)]
 
 
 def faults(path):

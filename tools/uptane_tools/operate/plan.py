@@ -116,8 +116,7 @@ class Desk:
         """The names of what it doesn't keep below its limit."""
         limits = {
             "start": self.start <= given.seconds, "memory": self.memory <= given.memory * 1e9,
-            "disk": self.disk <= given.disk * 1e9, "busy": self.busy <= 0.5
-        }
+            "disk": self.disk <= given.disk * 1e9, "busy": self.busy <= 0.5}
         return [name for name, holds in limits.items() if not holds]
 
 
@@ -128,8 +127,7 @@ def size(number: float) -> str:
 def rows(given: argparse.Namespace, numbers: list[int]) -> Iterator[list[str]]:
     yield [
         "desks", "replies each", "file", "start", "its peak", "stays", "away a day", "manifest",
-        "busy", "memory", "disk", "upgrade", "too much"
-    ]
+        "busy", "memory", "disk", "upgrade", "too much"]
     for desks in numbers:
         it = Desk(given, desks)
         yield [
@@ -144,15 +142,14 @@ def rows(given: argparse.Namespace, numbers: list[int]) -> Iterator[list[str]]:
             "%.0f%%" % (100 * it.busy),
             size(it.memory),
             size(it.disk),
-            "%.0f min" % it.upgrade, ", ".join(it.lacks(given)) or "-"
-        ]
+            "%.0f min" % it.upgrade, ", ".join(it.lacks(given)) or "-"]
 
 
 def printed(table: list[list[str]]) -> None:
     widths = [max(len(row[at]) for row in table) for at in range(len(table[0]))]
     for row in table:
-        print("  ".join(cell.rjust(width)
-                        for cell, width in zip(row[:-1], widths)) + "  " + row[-1])
+        print("  ".join(cell.rjust(width) for cell, width in zip(row[:-1], widths)) + "  " +
+              row[-1])
 
 
 def enough(given: argparse.Namespace) -> int | None:
@@ -169,9 +166,8 @@ def parsed(words: arguments.Words) -> argparse.Namespace:
     parser.add_argument("--names", type=int, default=20)
     usual = {
         "--manifests-a-day": 1, "--years": 10, "--seconds": 60, "--memory": 8, "--disk": 200,
-        "--busiest": 0.2, "--refreshes": 2, "--copies": 48, "--requests": 6, "--speed": 1, "--sync":
-        5
-    }
+        "--busiest": 0.2, "--refreshes": 2, "--copies": 48, "--requests": 6, "--speed": 1,
+        "--sync": 5}
     for name, value in usual.items():
         parser.add_argument(name, type=float, default=value)
     for name in ("--clones", "--one-hash"):

@@ -35,8 +35,7 @@ from uptane_tools.operate import again, check_file, copy_served, fleet_tables, r
 # what apply.sh and backup.sh take where the settings don't say
 USUAL = {
     "FOLDER": "/var/lib/uptane", "OWNER": "uptane", "PORT": "8080", "RUN": "/run", "DESKS": "",
-    "JOURNAL": "/var/log/uptane/journal", "PATIENCE": "600"
-}
+    "JOURNAL": "/var/log/uptane/journal", "PATIENCE": "600"}
 
 
 class Failed(Exception):
@@ -90,8 +89,7 @@ def told(copy: Path, later: Path, lines: Path | None) -> Iterator[str]:
         yield words % (name, back, time.strftime("%Y-%m-%d", time.gmtime(until)))
     if lines:
         made = list(again.lines(copy, later, int(time.time())))
-        with open(os.open(lines, os.O_WRONLY | os.O_CREAT | os.O_EXCL, 0o600),
-                  "w",
+        with open(os.open(lines, os.O_WRONLY | os.O_CREAT | os.O_EXCL, 0o600), "w",
                   encoding="ascii") as file:
             file.write("".join(line + "\n" for line in made))
         yield "%d lines to give again are in %s" % (len(made), lines)
@@ -141,11 +139,9 @@ def version(port: int, unit: str, patience: float) -> int:
 def noted(journal: Path, copy: Path, path: Path) -> None:
     """A line of the journal: a restore changes what was done."""
     entry = {
-        "given": time.strftime("%Y-%m-%dT%H:%M:%SZ", time.gmtime()), "who":
-        os.environ.get("SUDO_USER", "root"), "restored": str(path), "from": str(copy)
-    }
-    with open(os.open(journal, os.O_WRONLY | os.O_CREAT | os.O_APPEND, 0o640),
-              "w",
+        "given": time.strftime("%Y-%m-%dT%H:%M:%SZ", time.gmtime()), "who": os.environ.get(
+            "SUDO_USER", "root"), "restored": str(path), "from": str(copy)}
+    with open(os.open(journal, os.O_WRONLY | os.O_CREAT | os.O_APPEND, 0o640), "w",
               encoding="utf-8") as file:
         file.write(json.dumps(entry, sort_keys=True) + "\n")
 

@@ -27,9 +27,7 @@ from collections import Counter
 from pathlib import Path
 
 from uptane_tools import arguments
-from uptane_tools.operate import check_file
-from uptane_tools.operate import copy_served
-from uptane_tools.operate import fleet_tables
+from uptane_tools.operate import check_file, copy_served, fleet_tables
 
 # seconds that a start may take
 PATIENCE = 3600
@@ -65,8 +63,7 @@ def served(program, path):
     seconds until it listens.
     """
     port, begun = free_port(), time.monotonic()
-    with subprocess.Popen([program, "serve", path, str(port), "2"],
-                          stdout=subprocess.PIPE,
+    with subprocess.Popen([program, "serve", path, str(port), "2"], stdout=subprocess.PIPE,
                           stderr=subprocess.PIPE) as running:
         try:
             if running.stdout.readline() != b"listening %d\n" % port:
@@ -99,13 +96,11 @@ def state(path):
             return {row[0]: tuple(row)[1:] for row in db.execute(sql)}
 
         made = {
-            "root": meta["root"], "version": meta["image_version"], "newest":
-            fleet_tables.newest(db), "ecus": ecus_in(db)
-        }
+            "root": meta["root"], "version": meta["image_version"],
+            "newest": fleet_tables.newest(db), "ecus": ecus_in(db)}
         made |= {
-            "vehicles": names("SELECT vehicle, version, last_counter FROM vehicle"), "images":
-            names("SELECT file FROM image")
-        }
+            "vehicles": names("SELECT vehicle, version, last_counter FROM vehicle"),
+            "images": names("SELECT file FROM image")}
         return made | {"campaigns": names("SELECT name, running FROM campaign")}
 
 

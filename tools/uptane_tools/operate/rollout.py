@@ -61,8 +61,8 @@ def ordered(names: list[str], seed: str) -> list[str]:
     if wrong is not None or len(set(names)) < len(names) or not names:
         raise Wrong("%s is no name of a vehicle" %
                     wrong if wrong is not None else "names of vehicles, none twice")
-    return sorted(names,
-                  key=lambda it: hashlib.sha256(("%s/%s" % (seed, it)).encode("ascii")).digest())
+    return sorted(names, key=lambda it: hashlib.sha256(("%s/%s" %
+                                                        (seed, it)).encode("ascii")).digest())
 
 
 def parted(names: list[str], percents: list[float]) -> list[list[str]]:
@@ -88,8 +88,7 @@ def made(given: argparse.Namespace) -> dict[str, str]:
     """What each file of the folder holds."""
     items = [{"hardware": hardware, "file": file} for hardware, file in given.item]
     if not all(IDENT(it["hardware"]) and FILE(it["file"])
-               for it in items) or len({it["hardware"]
-                                        for it in items}) < len(items):
+               for it in items) or len({it["hardware"] for it in items}) < len(items):
         raise Wrong("an item is HARDWARE=FILE, each hardware once")
     at = int(time.time()) if given.at is None else given.at
     steps = parted(ordered(named(given.vehicles), given.seed or given.name), given.steps)
@@ -122,10 +121,7 @@ def main(words: arguments.Words = None) -> int:
     parser.add_argument("name")
     parser.add_argument("vehicles", type=Path)
     parser.add_argument("--item", type=pair, nargs="+", required=True, metavar="HARDWARE=FILE")
-    parser.add_argument("--steps",
-                        type=float,
-                        nargs="+",
-                        default=[1, 10, 50, 100],
+    parser.add_argument("--steps", type=float, nargs="+", default=[1, 10, 50, 100],
                         metavar="PERCENT")
     parser.add_argument("--seed", default="")
     parser.add_argument("--to", type=Path, required=True, metavar="FOLDER")

@@ -82,11 +82,10 @@ def amiss(name, script, now, others):
     if others:
         return [
             "others can read it, and a folder hides names alone: chmod 600 before it is dropped; "
-            "secrets in it are known now"
-        ]
+            "secrets in it are known now"]
     found = list(check_script.amiss(script, now))
-    return [it for it in found
-            if ": look: " not in it] if name.endswith(".looked.script") else found
+    return [it for it in found if ": look: " not in it
+            ] if name.endswith(".looked.script") else found
 
 
 def put(folder, name, text):
@@ -116,8 +115,7 @@ def take(spool, work, journal):
                 path.name.removesuffix(".script") + ".refused", "\n".join(found) + "\n")
             added(journal, [{
                 "given": stamp(), "who": who, "script": path.name, "sha256": one["sha256"],
-                "refused": [it[:LONGEST_ANSWER] for it in found]
-            }])
+                "refused": [it[:LONGEST_ANSWER] for it in found]}])
             print("spool: %s by %s: refused, see %s" % (path.name, who, spool / "answers"),
                   file=sys.stderr)
         else:
@@ -152,9 +150,8 @@ def scripts(work):
     last = work / "refresh.script"
     if last.exists():
         yield {
-            "name": "refresh", "who": "the timer", "sha256":
-            hashlib.sha256(last.read_bytes()).hexdigest()
-        }, lines_of(last)
+            "name": "refresh", "who": "the timer",
+            "sha256": hashlib.sha256(last.read_bytes()).hexdigest()}, lines_of(last)
 
 
 def whole(work, version):
@@ -166,9 +163,8 @@ def whole(work, version):
         named = [it["version"] for it in asked if it["do"] == "refresh"]
         above = max([version, *named]) + 1 + sum(it["do"] in MAKE_FILES for it in asked)
         line = {
-            "at": max([int(time.time()), *(it["at"] for it in asked)]), "do": "refresh", "version":
-            above
-        }
+            "at": max([int(time.time()), *(it["at"] for it in asked)]), "do": "refresh",
+            "version": above}
         (work / "refresh.script").write_text(
             json.dumps(line, sort_keys=True, separators=(",", ":")) + "\n", encoding="ascii")
     for _, lines in scripts(work):
@@ -186,20 +182,18 @@ def without_secrets(value, out):
     if isinstance(value, dict):
         return {
             name: "left out" if name in out else without_secrets(it, out)
-            for name, it in value.items()
-        }
+            for name, it in value.items()}
     return [without_secrets(it, out) for it in value] if isinstance(value, list) else value
 
 
 def entry(it, number, line, answer, now, public):
     made, asked = {
-        "given": now, "who": it["who"], "script": it["name"], "sha256": it["sha256"], "line": number
-    }, json.loads(line)
+        "given": now, "who": it["who"], "script": it["name"], "sha256": it["sha256"],
+        "line": number}, json.loads(line)
     out = [name for name in LEFT_OUT if not (public and name == "key" and asked["do"] in OF_ECUS)]
     return made | {
-        "asked": without_secrets(asked, out), "answer":
-        answer if answer is None else answer[:LONGEST_ANSWER]
-    }
+        "asked": without_secrets(asked, out),
+        "answer": answer if answer is None else answer[:LONGEST_ANSWER]}
 
 
 def added(journal, entries):
@@ -223,8 +217,7 @@ def keep(spool, work, journal, public):
         padded = own + [None] * (len(lines) - len(own))
         entries += [
             entry(it, place, *pair, now, public)
-            for place, pair in enumerate(zip(lines, padded), 1)
-        ]
+            for place, pair in enumerate(zip(lines, padded), 1)]
         if it["name"] == "refresh":
             short += own != ["done"]
             continue
@@ -235,9 +228,9 @@ def keep(spool, work, journal, public):
             held = spool / "held"
             held.mkdir(mode=0o700, exist_ok=True)
             shutil.copyfile(work / ("%04d.script" % number), held / it["name"])
-            print("spool: %s: %d of %d lines were answered; it is in %s" %
-                  (it["name"], len(own), len(lines), held),
-                  file=sys.stderr)
+            print(
+                "spool: %s: %d of %d lines were answered; it is in %s" %
+                (it["name"], len(own), len(lines), held), file=sys.stderr)
     added(journal, entries)
     return 1 if short else 0
 
@@ -247,9 +240,8 @@ def main(words: arguments.Words = None) -> int:
     parser = arguments.parser(__doc__)
     ways = parser.add_subparsers(dest="do", required=True)
     asked = {
-        "take": ["spool", "work", "journal"], "reads": ["work"], "whole": ["work"],
-        "keep": ["spool", "work", "journal"]
-    }
+        "take": ["spool", "work", "journal"], "reads": ["work"], "whole": ["work"], "keep": [
+            "spool", "work", "journal"]}
     for name, folders in asked.items():
         one = ways.add_parser(name)
         for folder in folders:

@@ -48,8 +48,8 @@ def table_of(statement):
 
 def statements(number):
     """The statements that make the tables of a schema."""
-    return [it.strip() for it in OLDER[number].split(";")
-            if it.strip()] if number in OLDER else schema()
+    return [it.strip() for it in OLDER[number].split(";") if it.strip()
+            ] if number in OLDER else schema()
 
 
 def made(db, number):

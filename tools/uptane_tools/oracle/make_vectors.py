@@ -20,9 +20,8 @@ from uptane_tools.oracle.vector_answers import answers
 from uptane_tools.oracle.vector_chains import INSTALLS, VEHICLE, bases, chains, contents
 from uptane_tools.oracle.vector_fleet import FIRST, NOW, SECOND, SETUP, key, public
 from uptane_tools.oracle.vector_manifests import delivered, replies
-from uptane_tools.oracle.vector_signatures import (
-    canonical_texts, encodings, envelopes, key_identifiers, signatures,
-)
+from uptane_tools.oracle.vector_signatures import (canonical_texts, encodings, envelopes,
+                                                   key_identifiers, signatures)
 
 FOLDER = TOP / "vectors"
 SHARED = ("canonical_texts.json", "key_identifiers.json", "answers.json")
@@ -53,8 +52,7 @@ def shared():
     """The files that are the same whatever the scheme."""
     yield SHARED[0], text(
         "texts of JSON values, each with its canonical text "
-        "or the refusal of a value that has none",
-        listed("cases", canonical_texts()))
+        "or the refusal of a value that has none", listed("cases", canonical_texts()))
     yield SHARED[1], text("public parts of keys, and the identifiers of these keys",
                           listed("cases", key_identifiers()))
     yield SHARED[2], text("answers to a manifest, and what a Primary does behind each",
@@ -77,12 +75,10 @@ def known_keys():
     """The repositories' keys by identifier, where the vehicle can't have them from the Root files.
     """
     secrets = {
-        it
-        for keys in (FIRST, SECOND) for roles in keys.values() for role in roles.values()
-        for it in role["keys"]
-    }
-    return {key_identifier(bytes.fromhex(it)): it
-            for it in sorted(secrets)} if SCHEME is HmacSha256 else {}
+        it for keys in (FIRST, SECOND) for roles in keys.values() for role in roles.values()
+        for it in role["keys"]}
+    return {key_identifier(bytes.fromhex(it)): it for it in sorted(secrets)
+            } if SCHEME is HmacSha256 else {}
 
 
 def of_the_scheme():
@@ -92,8 +88,7 @@ def of_the_scheme():
             "signatures, and envelopes round one payload: whether the key signed, or the refusal "
             "of one of another form", method, member("key", public(key(0xA4))), setup,
             listed("signatures", signatures()), listed("envelopes", envelopes()),
-            *([listed("encodings", encodings())] if SCHEME is Ed25519 else []))
-    ]
+            *([listed("encodings", encodings())] if SCHEME is Ed25519 else []))]
     contained.append(
         text(
             "bodies that are delivered one after another once the lines of setup were run, and "
@@ -103,9 +98,8 @@ def of_the_scheme():
             "manifests that are accepted one after another, each after its lines, and the replies "
             "to them", method, member("at", NOW), setup, listed("cases", replies())))
     vehicle = VEHICLE | {"role_keys": known_keys()}
-    known = {"vehicle": vehicle, "now": NOW
-             } | {"files of " + name: it.files
-                  for name, it in made.items()}
+    known = {"vehicle": vehicle, "now": NOW} | {
+        "files of " + name: it.files for name, it in made.items()}
     contained.append(
         text(
             "what a vehicle receives, and whether it may install what the reply assigns", method,
@@ -122,8 +116,7 @@ def names():
     """All files of the folder."""
     return {
         *SHARED,
-        *("%s/%s" % (it.method, name) for it in (HmacSha256, Ed25519) for name in OF_A_SCHEME)
-    }
+        *("%s/%s" % (it.method, name) for it in (HmacSha256, Ed25519) for name in OF_A_SCHEME)}
 
 
 def main(words: arguments.Words = None) -> int:

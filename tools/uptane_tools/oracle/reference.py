@@ -27,16 +27,13 @@ from datetime import datetime, timedelta
 from uptane_tools import arguments
 from uptane_tools.operate.formats import (
     COUNT, FILE, HASH, IDENT, KEY, KEYID, LAST_AT, LAST_MOMENT, LIST, METHODS, MOST, NOTE, OBJECT,
-    REPOSITORIES, ROLES, SECOND_HASH, SIG,
-)
-from uptane_tools.operate.formats import canonical, is_count, text, value_of
+    REPOSITORIES, ROLES, SECOND_HASH, SIG, canonical, is_count, text, value_of)
 from uptane_tools.operate.statements import LACKS, SCHEMA, schema, table_of
 from uptane_tools.oracle.schemes import TRIED as SCHEME, key_identifier
 
 DAYS = {
-    "director": {"root": 365, "targets": 7, "snapshot": 7, "timestamp": 7},
-    "image": {"root": 365, "targets": 90, "snapshot": 30, "timestamp": 1},
-}
+    "director": {"root": 365, "targets": 7, "snapshot": 7, "timestamp": 7}, "image": {
+        "root": 365, "targets": 90, "snapshot": 30, "timestamp": 1}}
 METHOD = SCHEME.method
 NAMES = dict(
     enumerate(
@@ -44,8 +41,8 @@ NAMES = dict(
         AlreadyFounded UnknownVehicle WrongPrimary BadManifestSignature Stale UnknownEcu
         DuplicateEcu MissingEcu BadReportSignature ReportReplayed ImageTaken
         RegisterFull VersionLimit VehicleTaken EcuTaken CampaignTaken UnknownCampaign
-        UnknownImage WrongHardware VersionNotGreater UnknownFile RootFull PrimaryFixed"""
-        .split(), 1))
+        UnknownImage WrongHardware VersionNotGreater UnknownFile RootFull PrimaryFixed""".split(),
+        1))
 
 
 class Refused(Exception):
@@ -134,8 +131,8 @@ def hashes(told):
 def signature(secret, signed):
     """The signature of a canonical text, as an envelope has it."""
     sig = SCHEME.sign(secret, signed.encode()).hex()
-    return canonical(
-        {"keyid": key_identifier(SCHEME.public_of(secret)), "method": METHOD, "sig": sig})
+    return canonical({
+        "keyid": key_identifier(SCHEME.public_of(secret)), "method": METHOD, "sig": sig})
 
 
 def sealed(secrets, signed):
@@ -202,8 +199,7 @@ def read_manifest(body):
         raise Refused(6)
     member(signed, "type", lambda v: v == "manifest")
     told = {
-        "vehicle": member(signed, "vehicle", IDENT), "primary": member(signed, "primary", IDENT)
-    }
+        "vehicle": member(signed, "vehicle", IDENT), "primary": member(signed, "primary", IDENT)}
     told["counter"] = member(signed, "counter", lambda v: is_count(v, 1))
     reports = member(signed, "reports", lambda v: isinstance(v, list) and len(v) <= 64)
     told["reports"] = list(each(reports, "reports", read_report))
@@ -228,8 +224,8 @@ def read_keys(line):
 
 
 def read_ecu(value):
-    return member(value, "ecu", IDENT), member(value, "hardware",
-                                               IDENT), bytes.fromhex(member(value, "key", KEY))
+    return member(value, "ecu", IDENT), member(value, "hardware", IDENT), bytes.fromhex(
+        member(value, "key", KEY))
 
 
 def read_vehicle(line):
@@ -244,8 +240,7 @@ def read_vehicle(line):
 
 def read_need(value):
     return {
-        "hardware": member(value, "hardware", IDENT), "release": member(value, "release", COUNT)
-    }
+        "hardware": member(value, "hardware", IDENT), "release": member(value, "release", COUNT)}
 
 
 def read_image(line):
@@ -341,8 +336,7 @@ def plan(images, items, ecus):
             if any(e["hardware"] == need["hardware"] and n < need["release"]
                    for e, n in zip(ecus, levels)):
                 return {
-                    "assigned": [], "withheld": {"ecu": ecu["ecu"], "hardware": need["hardware"]}
-                }
+                    "assigned": [], "withheld": {"ecu": ecu["ecu"], "hardware": need["hardware"]}}
         for conflict in image["conflicts"] if image else []:
             if conflict in files:
                 return {"assigned": [], "withheld": {"ecu": ecu["ecu"], "file": conflict}}
@@ -419,20 +413,17 @@ class Desk:
 
         def made(role, members):
             told = {
-                "expires": moment(at + 86400 * DAYS[repository][role]), "repository": repository
-            }
+                "expires": moment(at + 86400 * DAYS[repository][role]), "repository": repository}
             told |= {"type": role, "version": version}
             return sealed(self.keys(repository, role), canonical(told | members | more))
 
         snapshot = made("snapshot", {"meta": {"targets.json": {"version": version}}})
         entry = {
-            "hashes": {"sha256": hashlib.sha256(snapshot.encode()).hexdigest()}, "version": version
-        }
+            "hashes": {"sha256": hashlib.sha256(snapshot.encode()).hexdigest()}, "version": version}
         timestamp = made("timestamp", {"meta": {"snapshot.json": entry}})
         return {
-            "targets": made("targets", {"targets": targets}), "snapshot": snapshot, "timestamp":
-            timestamp
-        }
+            "targets": made("targets", {"targets": targets}), "snapshot": snapshot,
+            "timestamp": timestamp}
 
     def put_root(self, keys, at, root):
         """The keys and Root files of a new root version."""
@@ -450,21 +441,14 @@ class Desk:
             payload = {"expires": moment(at + 86400 * 365), "repository": repository}
             payload |= {"type": "root", "version": root}
             publics = {
-                role: list(map(SCHEME.public_of, keys[repository][role][0]))
-                for role in ROLES
-            }
+                role: list(map(SCHEME.public_of, keys[repository][role][0])) for role in ROLES}
             every = [public for role in ROLES for public in publics[role]]
             payload["keys"] = {
-                key_identifier(it): {"method": METHOD, "public": SCHEME.shown(it)}
-                for it in every
-            }
+                key_identifier(it): {"method": METHOD, "public": SCHEME.shown(it)} for it in every}
             payload["roles"] = {
                 role: {
-                    "keyids": list(map(key_identifier, publics[role])), "threshold":
-                    keys[repository][role][1]
-                }
-                for role in ROLES
-            }
+                    "keyids": list(map(key_identifier, publics[role])),
+                    "threshold": keys[repository][role][1]} for role in ROLES}
             body = sealed(signers, canonical(payload))
             self.put_file(repository, "%d.root.json" % root, body)
             self.put_file(repository, "root.json", body)
@@ -628,8 +612,8 @@ class Desk:
         return "done" if there[0] else "already"
 
     def fetch(self, line):
-        repository, name = member(line, "repository",
-                                  lambda v: v in REPOSITORIES), member(line, "file", FILE)
+        repository, name = member(line, "repository", lambda v: v in REPOSITORIES), member(
+            line, "file", FILE)
         self.in_range(line)
         self.founded()
         found = self.one("SELECT body FROM repo_file WHERE repository = ? AND name = ?", repository,
@@ -754,8 +738,7 @@ class Desk:
 
     WORDS = [
         "found", "rotate", "add_vehicle", "replace_ecu", "add_image", "refresh", "open_campaign",
-        "close_campaign", "deliver", "fetch", "bench", "show"
-    ]
+        "close_campaign", "deliver", "fetch", "bench", "show"]
 
     def answer(self, line):
         """What is printed for a line that has any byte."""
@@ -800,9 +783,7 @@ def main(words: arguments.Words = None) -> int:
     for name in ("run", "serve"):
         ways.add_parser(name).add_argument("file", metavar="FILE")
     ways.choices["serve"].add_argument("port", type=arguments.number(65_535), metavar="PORT")
-    ways.choices["serve"].add_argument("count",
-                                       type=arguments.number(9_999_999),
-                                       nargs="?",
+    ways.choices["serve"].add_argument("count", type=arguments.number(9_999_999), nargs="?",
                                        metavar="COUNT")
     told = asked.parse_args(words)
     os.umask(0o077)

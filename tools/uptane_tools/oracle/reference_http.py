@@ -26,19 +26,16 @@ FIELD = re.compile(rb"(" + TOKEN + rb"):([\t\x20-\x7e\x80-\xff]*)")
 
 PHRASES = {
     200: "OK", 400: "Bad Request", 403: "Forbidden", 404: "Not Found", 405: "Method Not Allowed",
-    409: "Conflict", 411: "Length Required", 413: "Payload Too Large", 501: "Not Implemented", 503:
-    "Service Unavailable"
-}
+    409: "Conflict", 411: "Length Required", 413: "Payload Too Large", 501: "Not Implemented",
+    503: "Service Unavailable"}
 # the status of each refusal; that of any other is 503
 STATUS = {
     4: 413, 5: 400, 6: 400, 7: 400, 10: 404, 11: 403, 12: 403, 13: 409, 14: 409, 15: 409, 16: 409,
-    17: 403, 18: 409, 29: 404
-}
+    17: 403, 18: 409, 29: 404}
 # what a check says, with its status and its error number
 CHECKS = {
     "bad request": (400, 0), "not found": (404, 0), "method not allowed": (405, 0),
-    "length required": (411, 0), "TooLarge": (413, 4), "not implemented": (501, 0)
-}
+    "length required": (411, 0), "TooLarge": (413, 4), "not implemented": (501, 0)}
 
 
 class BadRequest(Exception):
@@ -168,8 +165,7 @@ def response(status, body, asked):
     """The bytes of an answer."""
     lines = [
         "HTTP/1.1 %d %s" % (status, PHRASES[status]), "Content-Type: application/json",
-        "Content-Length: %d" % len(body)
-    ]
+        "Content-Length: %d" % len(body)]
     lines += ["Allow: " + asked.allow] * bool(asked.allow) + ["Connection: close"] * asked.last
     return "".join(line + "\r\n"
                    for line in lines).encode() + b"\r\n" + (b"" if asked.head else body.encode())
@@ -243,7 +239,6 @@ def serve(desk, port, count=None):
                 with peer:
                     cause = connection(desk, peer)
                 if cause:
-                    print("uptane_desk: connection %d: %s" % (number, cause),
-                          file=sys.stderr,
+                    print("uptane_desk: connection %d: %s" % (number, cause), file=sys.stderr,
                           flush=True)
     return 0

@@ -40,8 +40,7 @@ ANSWERS = [
     ("a report of an ECU that was replaced", 409, told(14, "UnknownEcu left"), "mend", 14),
     ("two reports of an ECU", 409, told(15, "DuplicateEcu left"), "mend", 15),
     ("no report of an ECU that was put in", 409, told(16, "MissingEcu left-2"), "mend", 16),
-    ("a report under another key", 403, told(17, "BadReportSignature left"), "mend", 17),
-]
+    ("a report under another key", 403, told(17, "BadReportSignature left"), "mend", 17)]
 
 
 def answers():

@@ -7,26 +7,9 @@ import json
 from uptane_tools.oracle import ed25519
 from uptane_tools.oracle.reference import METHOD, SCHEME, canonical, moment
 from uptane_tools.oracle.schemes import Ed25519, HmacSha256, key_identifier
-from uptane_tools.oracle.vector_fleet import (
-    CONTENT,
-    DAY,
-    ECUS,
-    FIRST,
-    NOW,
-    ROTATE,
-    SECOND,
-    SETUP,
-    UPDATE,
-    desk,
-    digest,
-    image_of,
-    key,
-    line,
-    manifest,
-    public,
-    reports_of,
-    signed_by,
-)
+from uptane_tools.oracle.vector_fleet import (CONTENT, DAY, ECUS, FIRST, NOW, ROTATE, SECOND, SETUP,
+                                              UPDATE, desk, digest, image_of, key, line, manifest,
+                                              public, reports_of, signed_by)
 
 # ---- chains: all that a vehicle gets, with one thing wrong
 
@@ -40,8 +23,8 @@ class Chain:
         with desk() as it:
 
             def delivered(vehicle, counter):
-                return line("deliver",
-                            body=manifest(vehicle, counter, reports_of(vehicle, counter)))
+                return line("deliver", body=manifest(vehicle, counter, reports_of(vehicle,
+                                                                                  counter)))
 
             self.lines = [*SETUP, *UPDATE,
                           delivered("VIN-1", 1),
@@ -52,12 +35,10 @@ class Chain:
             kept = it.one("SELECT reply FROM kept WHERE vehicle = 'VIN-1' ORDER BY version DESC")[0]
             self.files = {
                 "%s/%s" % (row[0], row[1]): row[2]
-                for row in it.all("SELECT repository, name, body FROM repo_file")
-            }
+                for row in it.all("SELECT repository, name, body FROM repo_file")}
         self.files = {
-            name: text
-            for name, text in sorted(self.files.items()) if not name.endswith("/root.json")
-        }
+            name: text for name, text in sorted(self.files.items())
+            if not name.endswith("/root.json")}
         self.files["reply"], self.old, self.keys = kept, old, SECOND if rotated else FIRST
 
     def reply(self, **members):
@@ -109,9 +90,8 @@ class Chain:
             told["timestamp"] = resigned(told["timestamp"], name(others[0]),
                                          self.keys["director"]["timestamp"]["keys"])
         found = self.image("timestamp", name(others[1])) if renamed else {}
-        return {"reply":
-                canonical(told).replace(texts[0],
-                                        others[0])}, {"image/snapshot.json": others[1]} | found
+        return {"reply": canonical(told).replace(
+            texts[0], others[0])}, {"image/snapshot.json": others[1]} | found
 
     def root(self, change, keys, repository="director", number=2):
         """The Root of this number after a change, signed by these keys. One that isn't there is
@@ -136,8 +116,7 @@ def resigned(envelope, change, keys):
 
 def named(snapshot):
     return {
-        "hashes": {"sha256": digest(canonical(snapshot))}, "version": snapshot["signed"]["version"]
-    }
+        "hashes": {"sha256": digest(canonical(snapshot))}, "version": snapshot["signed"]["version"]}
 
 
 def members(**more):
@@ -153,10 +132,9 @@ def of_role(role, secrets, threshold=1):
 
     def change(signed):
         own = {
-            key_identifier(bytes.fromhex(public(it))):
-            {"method": METHOD, "public": SCHEME.shown(bytes.fromhex(public(it)))}
-            for it in secrets
-        }
+            key_identifier(bytes.fromhex(public(it))): {
+                "method": METHOD, "public": SCHEME.shown(bytes.fromhex(public(it)))}
+            for it in secrets}
         signed["roles"][role] = {"keyids": [*own], "threshold": threshold}
         listed = {it for one in signed["roles"].values() for it in one["keyids"]}
         signed["keys"] = {name: it for name, it in (signed["keys"] | own).items() if name in listed}
@@ -209,18 +187,14 @@ def of_update(it):
     """
     yes, no, old = "accepted", "refused", "old"
     yield "none", "as it is", yes, {}, {}
-    yield "none", "the vehicle has verified these versions before", yes, {}, trusted("director",
-                                                                                     timestamp=1,
-                                                                                     snapshot=1,
-                                                                                     targets=1)
+    yield "none", "the vehicle has verified these versions before", yes, {}, trusted(
+        "director", timestamp=1, snapshot=1, targets=1)
     yield "none", "members that nobody knows", yes, it.director("targets", members(more=[1])), {}
     yield "freeze", "eight days later", old, {}, {"now": NOW + 8 * DAY}
     yield "freeze", "the second at which the Director's files expire", old, {}, {
-        "now": NOW + 7 * DAY
-    }
+        "now": NOW + 7 * DAY}
     yield "freeze", "two days later: the Image repository's Timestamp has expired", no, {}, {
-        "now": NOW + 2 * DAY
-    }
+        "now": NOW + 2 * DAY}
     yield "freeze", "the Director's Targets alone have expired", old, it.director(
         "targets", members(expires=moment(NOW))), {}
     yield "freeze", "the Director's Snapshot alone has expired", old, it.director(
@@ -236,8 +210,7 @@ def of_update(it):
         yield "rollback", "a greater version of the Director's %s was verified before" % role, no, {}, trusted("director", **{role: 2})
         yield "rollback", "a greater version of the Image repository's %s was verified before" % role, no, {}, trusted("image", **{role: 9})
     yield "rollback", "the gateway has a greater release", no, {}, {
-        "installed": {"gw": {"release": 3}}
-    }
+        "installed": {"gw": {"release": 3}}}
     yield "mix and match", "the Timestamp names another Snapshot", no, it.director(
         "snapshot", members(more=1), rehash=False), {}
     yield "mix and match", "the Timestamp names another version of the Snapshot", no, it.director(
@@ -268,8 +241,7 @@ def of_update(it):
     yield "arbitrary software", "the Image repository hasn't the image", no, it.director(
         "targets", target(file="gateway-9.bin")), {}
     yield "arbitrary software", "what is signed was changed", no, {
-        "reply": it.files["reply"].replace('"ecu":"gw"', '"ecu":"GW"')
-    }, {}
+        "reply": it.files["reply"].replace('"ecu":"gw"', '"ecu":"GW"')}, {}
     yield "arbitrary software", "Targets signed by the Timestamp's key", no, it.director(
         "targets", nothing, it.keys["director"]["timestamp"]["keys"]), {}
     yield "arbitrary software", "Targets signed by the Image repository's key", no, it.director(
@@ -281,12 +253,10 @@ def of_update(it):
     yield "arbitrary software", "the Director's Targets in place of the Image repository's", no, it.image(
         "targets", members(repository="director")), {}
     yield "arbitrary software", "the Image repository has no Targets", no, {
-        "image/targets.json": None
-    }, {}
+        "image/targets.json": None}, {}
     yield "wrong vehicle", "another vehicle's reply", no, {"reply": it.other}, {}
     yield "wrong vehicle", "the same under this vehicle's name", no, {
-        "reply": canonical(json.loads(it.other) | {"vehicle": "VIN-1"})
-    }, {}
+        "reply": canonical(json.loads(it.other) | {"vehicle": "VIN-1"})}, {}
     yield "wrong vehicle", "the reply alone names another vehicle", no, it.reply(
         vehicle="VIN-2"), {}
     yield "wrong vehicle", "the Timestamp is for another vehicle", no, it.director(
@@ -323,9 +293,8 @@ def signed_otherwise(it):
     no = "refused"
     for repository, roles in (("director", ("timestamp", "snapshot")),
                               ("image", ("timestamp", "snapshot", "targets"))):
-        of, whose = getattr(
-            it, repository), {"director": "the Director's", "image":
-                              "the Image repository's"}[repository]
+        of, whose = getattr(it, repository), {
+            "director": "the Director's", "image": "the Image repository's"}[repository]
         for role in roles:
             other = it.keys[repository]["targets" if role == "snapshot" else "snapshot"]["keys"]
             yield "arbitrary software", "%s %s signed by the key of another role" % (
@@ -343,11 +312,8 @@ def of_forms(it):
         yield "mix and match", ("%s Snapshot has white space, and the Timestamp the SHA-256 of the "
                                 "canonical text") % whose, no, it.spaced(False)[place], {}
     yield "none", "white space between the members of the reply", yes, {
-        "reply":
-        it.files["reply"].replace(',"snapshot":',
-                                  ' , "snapshot" : ').replace(',"targets":{"sig',
-                                                              '\n, "targets":{"sig')
-    }, {}
+        "reply": it.files["reply"].replace(',"snapshot":', ' , "snapshot" : ').replace(
+            ',"targets":{"sig', '\n, "targets":{"sig')}, {}
     yield "mix and match", "the reply names a later Root than is served", no, it.reply(root=2), {}
     empty = it.director("targets", members(targets=[]))
     yield "none", "nothing is assigned", yes, empty, {"installs": {}}
@@ -399,10 +365,8 @@ def of_root_keys(it):
     """A second Root that isn't of the form of a Root, though enough other keys sign all files."""
     no, roots = "refused", FIRST["director"]["root"]["keys"]
     spare = FIRST["director"]["targets"]["keys"][2]
-    told, signed = it.reply(root=2), it.director("targets",
-                                                 nothing,
-                                                 FIRST["director"]["targets"]["keys"][:2],
-                                                 root=2)
+    told, signed = it.reply(root=2), it.director("targets", nothing,
+                                                 FIRST["director"]["targets"]["keys"][:2], root=2)
     other_method = next(one.method for one in (HmacSha256, Ed25519) if one is not SCHEME)
     cases = [("a key of another method",
               of_key(spare, lambda name, it: (name, it | {"method": other_method})))]
@@ -414,12 +378,11 @@ def of_root_keys(it):
              of_key(spare, lambda name, it: (name, it | {"public": it["public"].upper()}))),
             ("a key of 31 bytes",
              of_key(
-                 spare, lambda name, it: (key_identifier(bytes.fromhex(it["public"][:62])), it |
-                                          {"public": it["public"][:62]}))),
+                 spare, lambda name, it: (key_identifier(bytes.fromhex(it["public"][:62])), it | {
+                     "public": it["public"][:62]}))),
             ("a key with y not below p",
              of_key(spare, lambda name, it:
-                    (key_identifier(point[1]), it | {"public": point[1].hex()}))),
-        ]
+                    (key_identifier(point[1]), it | {"public": point[1].hex()})))]
     for name, change in cases:
         yield "arbitrary software", "a Root with %s, though enough others sign" % name, no, it.root(
             change, roots) | signed, {}
@@ -450,16 +413,13 @@ def of_root_keys(it):
     last = it.root(nothing, roots, number=2)["director/2.root.json"]
     third = canonical(resigned(json.loads(last), members(version=3), roots))
     yield "none", "two new Roots", "accepted", {
-        "director/2.root.json": last, "director/3.root.json": third
-    } | it.reply(root=3), {}
+        "director/2.root.json": last, "director/3.root.json": third} | it.reply(root=3), {}
     yield "too few signatures", ("the first of two new Roots has a threshold above the number of "
                                  "the role's keys"), no, it.root(above, roots) | {
-                                     "director/3.root.json": third
-                                 } | it.reply(root=3), {}
+                                     "director/3.root.json": third} | it.reply(root=3), {}
     passed = it.root(members(expires=moment(NOW)), roots)
     yield "none", "the first of two new Roots has expired, and the latest hasn't", "accepted", passed | {
-        "director/3.root.json": third
-    } | it.reply(root=3), {}
+        "director/3.root.json": third} | it.reply(root=3), {}
     yield "none", "the trusted Root has expired, and the latest hasn't", "accepted", it.root(
         members(expires=moment(NOW)), roots, number=1) | {"director/2.root.json": last} | told, {}
     own = FIRST["image"]["root"]["keys"]
@@ -468,8 +428,8 @@ def of_root_keys(it):
         members(expires=moment(NOW)), own, "image", 1) | again, {}
     later = canonical(resigned(json.loads(again["image/2.root.json"]), members(version=3), own))
     yield "none", ("the first of two new Roots of the Image repository has expired, and the latest "
-                   "hasn't"), "accepted", it.root(members(expires=moment(NOW)), own,
-                                                  "image") | {"image/3.root.json": later}, {}
+                   "hasn't"), "accepted", it.root(members(expires=moment(NOW)), own, "image") | {
+                       "image/3.root.json": later}, {}
 
 
 def of_image_rotation(it):
@@ -482,19 +442,19 @@ def of_image_rotation(it):
 
     yield "none", "versions of the Image repository's files whose keys were replaced are forgotten", yes, {}, trusted("image", timestamp=99, snapshot=99)
     yield "none", "so is that of its Targets", yes, {}, trusted("image", targets=99)
-    yield "freeze", "the Image repository's new Root is kept back", no, {"image/2.root.json":
-                                                                         None}, {}
+    yield "freeze", "the Image repository's new Root is kept back", no, {
+        "image/2.root.json": None}, {}
     for name, keys in (("that the old keys didn't sign",
                         second), ("that its own keys didn't sign",
                                   first), ("by one of two old keys", second + first[:1]),
                        ("by one of its own two keys", second[:1] + first)):
         yield "too few signatures", "the Image repository's Root " + name, no, root(nothing,
                                                                                     keys), {}
-    for attack, name, more in [("rollback", "of a later version", {"version": 3}),
-                               ("rollback", "of version 1", {"version": 1}),
-                               ("arbitrary software", "of the Director", {"repository":
-                                                                          "director"}),
-                               ("arbitrary software", "of another type", {"type": "targets"})]:
+    for attack, name, more in [
+        ("rollback", "of a later version", {"version": 3}),
+        ("rollback", "of version 1", {"version": 1}),
+        ("arbitrary software", "of the Director", {"repository": "director"}),
+        ("arbitrary software", "of another type", {"type": "targets"})]:
         yield attack, "a Root %s in place of the Image repository's" % name, no, root(
             members(**more), second + first), {}
     yield "freeze", "the Image repository's new Root has expired", no, root(
@@ -558,21 +518,15 @@ def two_names(it, own, before):
 
 
 VEHICLE = {
-    "vehicle":
-    "VIN-1",
-    "primary":
-    "gw",
-    "ecus": [{
-        "ecu": ecu, "hardware": kind, "installed":
-        image_of("gateway-1.bin" if kind == "GW" else "brake-1.bin") | {"release": 1}
-    } for ecu, (kind, _) in ECUS["VIN-1"].items()],
-}
+    "vehicle": "VIN-1", "primary": "gw", "ecus": [{
+        "ecu": ecu, "hardware": kind,
+        "installed": image_of("gateway-1.bin" if kind == "GW" else "brake-1.bin") | {"release": 1}}
+                                                  for ecu, (kind, _) in ECUS["VIN-1"].items()]}
 INSTALLS = {"gw": "gateway-2.bin", "left": "brake-2.bin", "right": "brake-2.bin"}
 
 CASES = {
-    "update": (of_update, signed_otherwise, of_forms, of_new_roots, of_root_keys), "rotation":
-    (of_rotation, of_image_rotation)
-}
+    "update": (of_update, signed_otherwise, of_forms, of_new_roots, of_root_keys),
+    "rotation": (of_rotation, of_image_rotation)}
 
 
 def bases():
@@ -584,9 +538,8 @@ def chains(made, more_cases):
     `verification` computes.
     """
     for base, it in made.items():
-        for attack, name, verdict, replaced, more in (one
-                                                      for cases in (*CASES[base], *more_cases[base])
-                                                      for one in cases(it)):
+        for attack, name, verdict, replaced, more in (
+                one for cases in (*CASES[base], *more_cases[base]) for one in cases(it)):
             assert not replaced or any(
                 it.files.get(file) != text for file, text in replaced.items()), name
             yield {"base": base, "attack": attack, "name": name, "verdict": verdict
@@ -598,29 +551,23 @@ def contents():
     told, content = image_of(name), CONTENT[name]
     yield {"name": "the image", "target": told, "content": content, "verdict": "accepted"}
     yield {
-        "name": "one byte more: endless data", "target": told, "content": content + "!", "verdict":
-        "refused"
-    }
+        "name": "one byte more: endless data", "target": told, "content": content + "!",
+        "verdict": "refused"}
     yield {"name": "one byte less", "target": told, "content": content[:-1], "verdict": "refused"}
     yield {
-        "name": "another byte", "target": told, "content": content.replace("2", "3", 1), "verdict":
-        "refused"
-    }
+        "name": "another byte", "target": told, "content": content.replace("2", "3", 1),
+        "verdict": "refused"}
     yield {
-        "name": "another length, and the right hashes", "target": told | {"length": 1}, "content":
-        content, "verdict": "refused"
-    }
+        "name": "another length, and the right hashes", "target": told | {"length": 1},
+        "content": content, "verdict": "refused"}
     yield {
-        "name": "another SHA-256", "target":
-        told | {"hashes": told["hashes"] | {"sha256": 64 * "0"}}, "content": content, "verdict":
-        "refused"
-    }
+        "name": "another SHA-256",
+        "target": told | {"hashes": told["hashes"] | {"sha256": 64 * "0"}}, "content": content,
+        "verdict": "refused"}
     yield {
-        "name": "another SHA-512", "target":
-        told | {"hashes": told["hashes"] | {"sha512": 128 * "0"}}, "content": content, "verdict":
-        "refused"
-    }
+        "name": "another SHA-512",
+        "target": told | {"hashes": told["hashes"] | {"sha512": 128 * "0"}}, "content": content,
+        "verdict": "refused"}
     yield {
         "name": "no SHA-512", "target": told | {"hashes": {"sha256": told["hashes"]["sha256"]}},
-        "content": content, "verdict": "accepted"
-    }
+        "content": content, "verdict": "accepted"}

@@ -48,27 +48,23 @@ def role_keys(start):
     found = {}
     for repository, first in (("director", start), ("image", start + 4)):
         found[repository] = {
-            role: {"keys": [key(first + place)], "threshold": 1}
-            for place, role in enumerate(ROLES)
+            role: {"keys": [key(first + place)], "threshold": 1} for place, role in enumerate(ROLES)
         }
         found[repository]["root"] = {"keys": [key(first), key(first + 0x10)], "threshold": 2}
     found["director"]["targets"] = {
         "keys": [key(start + 1), key(start + 0x11),
-                 key(start + 0x21)], "threshold": 2
-    }
+                 key(start + 0x21)], "threshold": 2}
     return found
 
 
 FIRST, SECOND = role_keys(0x01), role_keys(0x51)
 ECUS = {
     "VIN-1": {"gw": ("GW", key(0xA1)), "left": ("BR", key(0xA2)), "right": ("BR", key(0xA3))},
-    "VIN-2": {"solo": ("GW", key(0xA4))}
-}
+    "VIN-2": {"solo": ("GW", key(0xA4))}}
 PRIMARY = {"VIN-1": "gw", "VIN-2": "solo"}
 CONTENT = {
     name: name + " content"
-    for name in ("gateway-1.bin", "brake-1.bin", "gateway-2.bin", "brake-2.bin")
-}
+    for name in ("gateway-1.bin", "brake-1.bin", "gateway-2.bin", "brake-2.bin")}
 BOTH = {"gateway-1.bin", "gateway-2.bin"}
 
 
@@ -76,48 +72,37 @@ def image_of(name):
     """What a report says of an image: those of the gateway have two hashes."""
     hashes = {
         kind: digest(CONTENT[name], kind)
-        for kind in (("sha256", "sha512") if name in BOTH else ("sha256", ))
-    }
+        for kind in (("sha256", "sha512") if name in BOTH else ("sha256", ))}
     return {"file": name, "length": len(CONTENT[name]), "hashes": hashes}
 
 
 def add_image(name):
     told = image_of(name)
     hardware = "GW" if name in BOTH else "BR"
-    return line("add_image",
-                file=name,
-                length=told["length"],
-                **told["hashes"],
-                hardware=[hardware],
-                release=int(name[-5]))
+    return line("add_image", file=name, length=told["length"], **told["hashes"], hardware=[
+        hardware], release=int(name[-5]))
 
 
 FOUND = line("found", **FIRST)
 VEHICLES = [
-    line("add_vehicle",
-         vehicle=name,
-         primary=PRIMARY[name],
-         ecus=[{"ecu": ecu, "hardware": kind, "key": public(secret)}
-               for ecu, (kind, secret) in ecus.items()]) for name, ecus in ECUS.items()
-]
+    line(
+        "add_vehicle", vehicle=name, primary=PRIMARY[name],
+        ecus=[{"ecu": ecu, "hardware": kind, "key": public(secret)}
+              for ecu, (kind, secret) in ecus.items()]) for name, ecus in ECUS.items()]
 SETUP = [FOUND, *VEHICLES, add_image("gateway-1.bin"), add_image("brake-1.bin")]
 UPDATE = [
     add_image("gateway-2.bin"),
     add_image("brake-2.bin"),
-    line("open_campaign",
-         campaign="spring",
-         vehicles="all",
-         items=[{"hardware": "GW", "file": "gateway-2.bin"},
-                {"hardware": "BR", "file": "brake-2.bin"}])
-]
+    line(
+        "open_campaign", campaign="spring", vehicles="all", items=[{
+            "hardware": "GW", "file": "gateway-2.bin"}, {"hardware": "BR", "file": "brake-2.bin"}])]
 ROTATE = line("rotate", **SECOND)
 
 
 def report(ecu, secret, counter, image, /, **more):
     payload = {
-        "attack": "", "counter": counter, "ecu": ecu, "image": image, "time": moment(NOW), "type":
-        "report"
-    }
+        "attack": "", "counter": counter, "ecu": ecu, "image": image, "time": moment(NOW),
+        "type": "report"}
     return signed_by([secret], payload | more)
 
 
@@ -126,16 +111,14 @@ def reports_of(vehicle, counter, images=None):
     first = {"GW": "gateway-1.bin", "BR": "brake-1.bin"}
     return [
         report(ecu, secret, counter, image_of((images or {}).get(ecu, first[kind])))
-        for ecu, (kind, secret) in ECUS[vehicle].items()
-    ]
+        for ecu, (kind, secret) in ECUS[vehicle].items()]
 
 
 def payload_of(vehicle, counter, reports, /, **more):
     """A manifest's payload, canonical; the reports stand in it as they are."""
     told = {
         "counter": counter, "primary": PRIMARY[vehicle], "reports": "@", "type": "manifest",
-        "vehicle": vehicle
-    } | more
+        "vehicle": vehicle} | more
     return canonical(told).replace('"@"', "[%s]" % ",".join(reports))
 
 

@@ -5,12 +5,10 @@ import json
 from uptane_tools.oracle import ed25519
 from uptane_tools.oracle.reference import SCHEME, canonical, moment
 from uptane_tools.oracle.schemes import Ed25519, HmacSha256, key_identifier
-from uptane_tools.oracle.vector_chains import (
-    members, nothing, of_key, of_role, resigned, target, trusted,
-)
-from uptane_tools.oracle.vector_fleet import (
-    DAY, FIRST, NOW, SECOND, digest, image_of, public, unhex,
-)
+from uptane_tools.oracle.vector_chains import (members, nothing, of_key, of_role, resigned, target,
+                                               trusted)
+from uptane_tools.oracle.vector_fleet import (DAY, FIRST, NOW, SECOND, digest, image_of, public,
+                                              unhex)
 
 YES, NO, OLD = "accepted", "refused", "old"
 GATEWAY = "gateway-2.bin"
@@ -23,9 +21,7 @@ def spliced(it, *roles):
     """The reply with these files of another vehicle's, as the Director signed them."""
     other = json.loads(it.other)
     return {
-        "reply": canonical(json.loads(it.files["reply"]) | {role: other[role]
-                                                            for role in roles})
-    }
+        "reply": canonical(json.loads(it.files["reply"]) | {role: other[role] for role in roles})}
 
 
 def of_splices(it):
@@ -98,30 +94,34 @@ def of_images(it):
     two = image_of(GATEWAY)["hashes"]
     first, second = {"sha256": two["sha256"]}, two["sha512"]
     kind = "arbitrary software"
-    for name, verdict, more in [
-        ("a filename of 128 characters", YES, {"file": 128 * "g"}),
-        ("a filename of 129 characters", NO, {"file": 129 * "g"}),
-        ("an empty filename", NO, {"file": ""}),
-        ("a filename with a space", NO, {"file": "gateway 2.bin"}),
-        ("a SHA-256 in upper case", NO, {"hashes": two | {"sha256": two["sha256"].upper()}}),
-        ("a SHA-256 of 63 digits", NO, {"hashes": two | {"sha256": two["sha256"][1:]}}),
-        ("no SHA-256", NO, {"hashes": {"sha512": second}}),
-        ("a SHA-512 in upper case, which counts as none", YES,
-         {"hashes": first | {"sha512": second.upper()}}),
-        ("a hash of a function that nobody knows", YES, {"hashes": two | {"md5": "00"}}),
-        ("a length that is a text", NO, {"length": "21"}),
-        ("a length of 2^53", NO, {"length": 2**53}),
-        ("a length below 0", NO, {"length": -1}),
-        ("a length with a fraction", NO, {"length": 21.5}),
-        ("a release that is a text", NO, {"release": "2"}),
-        ("no hardware", NO, {"hardware": []}),
-        ("hardware that is a text", NO, {"hardware": "GW"}),
-        ("hardware twice", NO, {"hardware": ["GW", "GW"]}),
-        ("the ECU's hardware as the second", YES, {"hardware": ["BR", "GW"]}),
-        ("16 kinds of hardware", YES, {"hardware": ["GW", *map(str, range(15))]}),
-        ("17 kinds of hardware", NO, {"hardware": ["GW", *map(str, range(16))]}),
-        ("an ECU whose name has 65 characters", NO, {"ecu": 65 * "g"}),
-    ]:
+    for name, verdict, more in [("a filename of 128 characters", YES, {"file": 128 * "g"}),
+                                ("a filename of 129 characters", NO, {"file": 129 * "g"}),
+                                ("an empty filename", NO, {"file": ""}),
+                                ("a filename with a space", NO, {"file": "gateway 2.bin"}),
+                                ("a SHA-256 in upper case", NO, {
+                                    "hashes": two | {"sha256": two["sha256"].upper()}}),
+                                ("a SHA-256 of 63 digits", NO, {
+                                    "hashes": two | {"sha256": two["sha256"][1:]}}),
+                                ("no SHA-256", NO, {"hashes": {"sha512": second}}),
+                                ("a SHA-512 in upper case, which counts as none", YES, {
+                                    "hashes": first | {"sha512": second.upper()}}),
+                                ("a hash of a function that nobody knows", YES, {
+                                    "hashes": two | {"md5": "00"}}),
+                                ("a length that is a text", NO, {"length": "21"}),
+                                ("a length of 2^53", NO, {"length": 2**53}),
+                                ("a length below 0", NO, {"length": -1}),
+                                ("a length with a fraction", NO, {"length": 21.5}),
+                                ("a release that is a text", NO, {"release": "2"}),
+                                ("no hardware", NO, {"hardware": []}),
+                                ("hardware that is a text", NO, {"hardware": "GW"}),
+                                ("hardware twice", NO, {"hardware": ["GW", "GW"]}),
+                                ("the ECU's hardware as the second", YES, {
+                                    "hardware": ["BR", "GW"]}),
+                                ("16 kinds of hardware", YES, {
+                                    "hardware": ["GW", *map(str, range(15))]}),
+                                ("17 kinds of hardware", NO, {
+                                    "hardware": ["GW", *map(str, range(16))]}),
+                                ("an ECU whose name has 65 characters", NO, {"ecu": 65 * "g"})]:
         more_of = {"installs": INSTALLED
                    | {"gw": more["file"]}} if verdict == YES and "file" in more else {}
         attack = kind if verdict == NO else "none"
@@ -177,8 +177,7 @@ def of_files(it):
     own = json.loads(it.files["reply"])["targets"]["signed"]
     for name, verdict, first, last in [
         ("the last of which is signed", YES, own | {"version": 9}, own),
-        ("the first of which is signed", NO, own, own | {"more": 1})
-    ]:
+        ("the first of which is signed", NO, own, own | {"more": 1})]:
         two = '"signed":%s,"signed":%s' % (canonical(first), canonical(last))
         replaced = {"reply": it.files["reply"].replace('"signed":' + canonical(own), two)}
         yield (kind if verdict == NO else
@@ -186,8 +185,7 @@ def of_files(it):
     twice = it.files["reply"].replace(
         '{"root":1,', '{"targets":%s,"root":1,' % canonical(json.loads(it.other)["targets"]))
     yield "none", "a reply with two members `targets`, the last of which is the vehicle's", YES, {
-        "reply": twice
-    }, {}
+        "reply": twice}, {}
     for name in ("vehicle", "root", "version", *ROLES):
         lacks = json.loads(it.files["reply"])
         del lacks[name]
@@ -214,8 +212,7 @@ def of_signatures(it):
 
     def signed(*signatures):
         return {
-            "reply": canonical(told | {"targets": told["targets"] | {"signatures": [*signatures]}})
-        }
+            "reply": canonical(told | {"targets": told["targets"] | {"signatures": [*signatures]}})}
 
     strange = own[0] | {"keyid": 64 * "0"}
     kind = "too few signatures"
@@ -223,8 +220,8 @@ def of_signatures(it):
     yield "none", "eight signatures, six of them of strangers", YES, signed(*own,
                                                                             *6 * [strange]), {}
     yield "arbitrary software", "nine signatures", NO, signed(*own, *7 * [strange]), {}
-    yield "none", "signatures in upper case", YES, signed(*(one | {"sig": one["sig"].upper()}
-                                                            for one in own)), {}
+    yield "none", "signatures in upper case", YES, signed(
+        *(one | {"sig": one["sig"].upper()} for one in own)), {}
     yield kind, "an identifier in upper case", NO, signed(
         own[0], own[1] | {"keyid": own[1]["keyid"].upper()}), {}
     yield kind, "a signature that names another method", NO, signed(own[0],
@@ -236,9 +233,8 @@ def of_signatures(it):
     if SCHEME is Ed25519:
         text = canonical(told["targets"]["signed"]).encode()
         by_public = [{
-            "keyid": key_identifier(it), "method": HmacSha256.method, "sig":
-            HmacSha256.sign(it, text).hex()
-        } for it in unhex(map(public, FIRST["director"]["targets"]["keys"]))]
+            "keyid": key_identifier(it), "method": HmacSha256.method, "sig": HmacSha256.sign(
+                it, text).hex()} for it in unhex(map(public, FIRST["director"]["targets"]["keys"]))]
         name = "tags of HMAC-SHA-256 under the public keys, which anyone can make"
         yield "arbitrary software", name, NO, signed(*by_public[:2]), {}
 
@@ -254,18 +250,15 @@ def of_ecus(it):
     name = "the reply is from before an ECU was replaced, which it names"
     yield "none", name, OLD, {}, {"replaced": {"left": "left-2"}}
     name = "an ECU was replaced, and the reply names one that the vehicle never had"
-    yield "wrong ECU", name, NO, it.director("targets",
-                                             target(ecu="solo")), {"replaced": {"left": "left-2"}}
+    yield "wrong ECU", name, NO, it.director("targets", target(ecu="solo")), {
+        "replaced": {"left": "left-2"}}
     empty = it.director("targets", members(targets=[]))
     yield "none", "an ECU was replaced, and nothing is assigned", YES, empty, {
-        "installs": {}, "replaced": {"left": "left-2"}
-    }
+        "installs": {}, "replaced": {"left": "left-2"}}
     yield "none", "nothing is assigned, a second before the files expire", YES, empty, {
-        "installs": {}, "now": NOW + 7 * DAY - 1
-    }
+        "installs": {}, "now": NOW + 7 * DAY - 1}
     yield "none", "a second before the Image repository's Timestamp expires", YES, {}, {
-        "now": NOW + DAY - 1
-    }
+        "now": NOW + DAY - 1}
     yield "freeze", "the second at which it expires", NO, {}, {"now": NOW + DAY}
 
 
@@ -308,8 +301,8 @@ def of_forgetting(it):
         name = "%s new Root has another key of the Timestamp, and its Targets have expired"
         late = own("targets", members(expires=moment(NOW)), **more)
         if repository == "director":
-            signed = json.loads(
-                late["reply"]) | {"timestamp": json.loads(change["reply"])["timestamp"]}
+            signed = json.loads(late["reply"]) | {
+                "timestamp": json.loads(change["reply"])["timestamp"]}
             late = {"reply": canonical(signed)}
         verdict = OLD if repository == "director" else NO
         yield "freeze", name % whose, verdict, change | late, greater(timestamp=99)
@@ -353,7 +346,5 @@ def of_more_roots(it):
 
 
 CASES = {
-    "update":
-    (of_splices, of_images, of_files, of_signatures, of_ecus, of_forgetting, of_more_roots),
-    "rotation": (),
-}
+    "update": (of_splices, of_images, of_files, of_signatures, of_ecus, of_forgetting,
+               of_more_roots), "rotation": ()}

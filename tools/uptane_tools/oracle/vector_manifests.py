@@ -3,21 +3,9 @@ import json
 
 from uptane_tools.oracle import reference_http
 from uptane_tools.oracle.reference import canonical
-from uptane_tools.oracle.vector_fleet import (
-    ROTATE,
-    SETUP,
-    UPDATE,
-    desk,
-    digest,
-    image_of,
-    key,
-    line,
-    manifest,
-    payload_of,
-    report,
-    reports_of,
-    signed_by,
-)
+from uptane_tools.oracle.vector_fleet import (ROTATE, SETUP, UPDATE, desk, digest, image_of, key,
+                                              line, manifest, payload_of, report, reports_of,
+                                              signed_by)
 
 # ---- manifests: one after another, from where the setup ends
 
@@ -76,8 +64,7 @@ def manifests():
         yield "a report without " + name, of_report(changed_report(name))
     for name in ("file", "length", "hashes"):
         yield "an image without " + name, of_report(
-            one(image={it: image[it]
-                       for it in image if it != name}))
+            one(image={it: image[it] for it in image if it != name}))
     yield "a time without seconds", of_report(one(time="2026-01-01T00:00Z"))
     yield "a time with a fraction", of_report(one(time="2026-01-01T00:00:00.5Z"))
     yield "a day that isn't there", of_report(one(time="2026-02-29T00:00:00Z"))
@@ -128,9 +115,8 @@ def respelt(text):
     """The same value, spelt otherwise: other white space, and the members in another order."""
 
     def turned(value):
-        return ({name: turned(value[name])
-                 for name in sorted(value, reverse=True)} if isinstance(value, dict) else
-                (list(map(turned, value)) if isinstance(value, list) else value))
+        return ({name: turned(value[name]) for name in sorted(value, reverse=True)} if isinstance(
+            value, dict) else (list(map(turned, value)) if isinstance(value, list) else value))
 
     return json.dumps(turned(json.loads(text)), indent=1)
 
@@ -148,37 +134,27 @@ def delivered():
                                                503) if printed.startswith("refused") else 200
             long = len(body) > 262144
             yield {
-                "name": name, **({"spaces": len(body)} if long else {"body": body}), "printed":
-                printed, "status": status
-            }
+                "name": name,
+                **({"spaces": len(body)} if long else {"body": body}), "printed": printed,
+                "status": status}
 
 
 # ---- replies: what an accepted manifest is answered, byte for byte
 
 
 def replies():
-    steps = [
-        ("nothing is assigned", [], "VIN-1", 1, None),
-        ("three images, one of them with two hashes", UPDATE, "VIN-1", 2, None),
-        ("one ECU has its image", [], "VIN-1", 3, {"gw": "gateway-2.bin"}),
-        ("a need that isn't met: nothing is assigned", [
-            line("add_image",
-                 file="gateway-3.bin",
-                 length=3,
-                 sha256=digest("abc"),
-                 hardware=["GW"],
-                 release=3,
-                 needs=[{"hardware": "BR", "release": 9}]),
-            line("open_campaign",
-                 campaign="summer",
-                 vehicles=["VIN-1"],
-                 items=[{"hardware": "GW", "file": "gateway-3.bin"}])
-        ], "VIN-1", 4, None),
-        ("another vehicle", [], "VIN-2", 1, None),
-        ("after a rotation: root version 2", [ROTATE], "VIN-2", 2, None),
-        ("a repeat of a manifest before it: the kept reply, of root version 1", [], "VIN-2", 1,
-         None),
-    ]
+    steps = [("nothing is assigned", [], "VIN-1", 1, None),
+             ("three images, one of them with two hashes", UPDATE, "VIN-1", 2, None),
+             ("one ECU has its image", [], "VIN-1", 3, {"gw": "gateway-2.bin"}),
+             ("a need that isn't met: nothing is assigned", [
+                 line("add_image", file="gateway-3.bin", length=3, sha256=digest("abc"), hardware=[
+                     "GW"], release=3, needs=[{"hardware": "BR", "release": 9}]),
+                 line("open_campaign", campaign="summer", vehicles=["VIN-1"], items=[{
+                     "hardware": "GW", "file": "gateway-3.bin"}])], "VIN-1", 4, None),
+             ("another vehicle", [], "VIN-2", 1, None),
+             ("after a rotation: root version 2", [ROTATE], "VIN-2", 2, None),
+             ("a repeat of a manifest before it: the kept reply, of root version 1", [], "VIN-2", 1,
+              None)]
     with desk() as it:
         for given in SETUP:
             assert it.answer(given) == "done"

@@ -85,7 +85,7 @@ def head(told, kind):
     return {
         "repository": repository,
         "version": count(told, "version", 1),
-        "expires": int(at.timestamp()),
+        "expires": int(at.timestamp())
     }
 
 

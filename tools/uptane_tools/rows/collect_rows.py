@@ -6,15 +6,14 @@ the first row, and those that are wrong on purpose.
 import json
 import sqlite3
 from uptane_tools import TOP
-from uptane_tools.trial import each_line
 from uptane_tools.oracle import reference
+from uptane_tools.trial import each_line
 
 ROWS = TOP / "rows"
 # sections that aren't carried out by calls: one has too many lines to open files before each,
 # another lines that no text holds
 APART = [
-    each_line.STOPS, each_line.WRONG, "campaign of 16 items for 1000 vehicles", each_line.NO_TEXT
-]
+    each_line.STOPS, each_line.WRONG, "campaign of 16 items for 1000 vehicles", each_line.NO_TEXT]
 
 
 def lines_of(path):
@@ -94,8 +93,8 @@ def row_of_section(words, rows):
 
 def rows():
     yield from (row_of(script.parent) for script in sorted(ROWS.glob("*/script")))
-    yield from (row_of_section(*section) for section in each_line.sections()
-                if section[0] not in APART)
+    yield from (
+        row_of_section(*section) for section in each_line.sections() if section[0] not in APART)
 
 
 def controls():
@@ -104,15 +103,12 @@ def controls():
     """
     found, vehicle, manifest = (step[0] for step in row_of(ROWS / "first_manifest").steps)
     started = ["> " + found, "< done", "> " + vehicle, "< done"]
-    wrong = [
-        ["answer", "@ hmac-sha256", "> " + found, "< already"],
-        [
-            "text", "@ hmac-sha256", *started, "> " + manifest, "< reply V1 version 1 targets 0",
-            "= {}"
-        ],
-        ["number", "@ hmac-sha256", "? nope", "? nope", "! refused 5 NotJson"],
-        ["scheme", "@ none"],
-    ]
+    wrong = [["answer", "@ hmac-sha256", "> " + found, "< already"],
+             [
+                 "text", "@ hmac-sha256", *started, "> " + manifest,
+                 "< reply V1 version 1 targets 0", "= {}"],
+             ["number", "@ hmac-sha256", "? nope", "? nope", "! refused 5 NotJson"],
+             ["scheme", "@ none"]]
     return "".join("row control of " + "\n".join(row) + "\n" for row in wrong)
 
 
@@ -139,8 +135,7 @@ def seen():
     return "\n".join([
         tells("control of answer", answer, answer, answer),
         tells("control of text", "3", reply, reply),
-        tells("control of number", number, "0", number),
-        "control of scheme: no such scheme",
+        tells("control of number", number, "0", number), "control of scheme: no such scheme"
     ]) + "\n"
 
 

@@ -15,21 +15,8 @@ import random
 import subprocess
 
 from uptane_tools import arguments
-from uptane_tools.oracle.ed25519 import (
-    BASE,
-    ORDER,
-    P,
-    add,
-    encode,
-    decode,
-    digest,
-    multiple,
-    number,
-    public_of,
-    sign,
-    vectors,
-    verify,
-)
+from uptane_tools.oracle.ed25519 import (BASE, ORDER, P, add, decode, digest, encode, multiple,
+                                         number, public_of, sign, vectors, verify)
 
 
 def little(count):
@@ -128,8 +115,8 @@ def unwritten(message, signature):
     with its sign, no root.
     """
     kinds = [little(y) for y in range(P, 2**255)] + [little(y | 1 << 255) for y in range(P, 2**255)]
-    kinds += [little(1 | 1 << 255), little(P - 1 | 1 << 255)
-              ] + [little(y) for y in range(2, 30) if decode(little(y)) is None]
+    kinds += [little(1 | 1 << 255), little(P - 1 | 1 << 255)] + [
+        little(y) for y in range(2, 30) if decode(little(y)) is None]
     for data in kinds:
         yield data, message, little(1) + little(0)
         yield data, message, data + little(0)
@@ -141,13 +128,11 @@ def sections():
     secrets = [vector[0] for vector in known]
     yield "key", [
         key_row(data)
-        for data in secrets + [b"", b"\x07" * 31, b"\x07" * 33, b"\0" * 32, b"\xff" * 32]
-    ]
+        for data in secrets + [b"", b"\x07" * 31, b"\x07" * 33, b"\0" * 32, b"\xff" * 32]]
     messages = [
-        b"\0" * length for length in (0, 1, 47, 48, 63, 64, 79, 80, 111, 112, 127, 128, 239, 240)
-    ]
-    yield "signature", [signature_row(vector[0], vector[2])
-                        for vector in known] + [signature_row(secrets[1], one) for one in messages]
+        b"\0" * length for length in (0, 1, 47, 48, 63, 64, 79, 80, 111, 112, 127, 128, 239, 240)]
+    yield "signature", [signature_row(vector[0], vector[2]) for vector in known] + [
+        signature_row(secrets[1], one) for one in messages]
     triples = [(vector[1], vector[2], vector[3]) for vector in known]
     rows = list(triples)
     for triple in (triples[2], triples[4]):
@@ -156,8 +141,7 @@ def sections():
         rows += [*sizes(*triple), *later(*triple)]
     rows += [
         *small(b""), *small(b"metadata"), *mixed(secrets[0], b"metadata"),
-        *unwritten(b"metadata", triples[0][2])
-    ]
+        *unwritten(b"metadata", triples[0][2])]
     yield "verified", [verified_row(*row) for row in rows]
 
 
@@ -189,10 +173,7 @@ def compare(program, parts):
     """What the program tells of the rows: how many of each section are answered as they want,
     and those that aren't.
     """
-    told = subprocess.run([program],
-                          input=stdin(parts),
-                          capture_output=True,
-                          text=True,
+    told = subprocess.run([program], input=stdin(parts), capture_output=True, text=True,
                           check=False).stdout
     asked = sum(len(rows) for _, rows in parts)
     right = sum(
@@ -212,8 +193,8 @@ def texts():
 
 def first():
     """The same without what is changed in signatures: the vectors of the RFC alone."""
-    parts = [(call, rows[:len(vectors())] if call == "verified" else rows)
-             for call, rows in sections()]
+    parts = [
+        (call, rows[:len(vectors())] if call == "verified" else rows) for call, rows in sections()]
     return stdin(parts), stdout(parts)
 
 

@@ -10,23 +10,19 @@ from uptane_tools.rows import row_texts
 EXAMPLE = {"README.md", "script", "printed"}
 PRIMARY = {
     "primary.py", "envelopes.py", "forms.py", "verify.py", "ed25519.py", "director-secrets.json",
-    "manifest-input.json", "manifest.json", "reply.json", "vehicle.json", "ed25519"
-}
+    "manifest-input.json", "manifest.json", "reply.json", "vehicle.json", "ed25519"}
 ED25519 = {
-    "director-root.json", "manifest-input.json", "manifest.json", "reply.json", "vehicle.json"
-}
+    "director-root.json", "manifest-input.json", "manifest.json", "reply.json", "vehicle.json"}
 SERVICE = {
     "README.md", "nginx.conf", "haproxy.cfg", "settings", "apply.sh", "backup.sh", "before.sh",
     "listening.sh", "maintainer", "setup.sh", "several", "alerts", "watch.sh",
-    "uptane-desk.logrotate"
-}
+    "uptane-desk.logrotate"}
 SERVICE |= {
     "uptane-desk%s" % it
     for it in (".service", "-refresh.service", "-refresh.timer", "-backup.service", "-backup.timer",
-               "-failed@.service", "-now.path", "-now.service", "-watch.service", "-watch.timer")
-}
-SEVERAL, ALERTS = {"nginx.conf", "haproxy.cfg",
-                   "uptane-desk@.service"}, {"uptane.yml", "uptane_test.yml"}
+               "-failed@.service", "-now.path", "-now.service", "-watch.service", "-watch.timer")}
+SEVERAL, ALERTS = {"nginx.conf", "haproxy.cfg", "uptane-desk@.service"}, {
+    "uptane.yml", "uptane_test.yml"}
 ROW = {"script", "printed"}
 
 
@@ -83,9 +79,9 @@ def gaps():
     examples, rows = TOP / "examples", TOP / "rows"
     yield from apart("examples", listed(examples / "README.md"), folders(examples))
     for name in sorted(folders(examples)):
-        yield from apart("examples/" + name,
-                         {"primary": PRIMARY, "primary_node": {"primary.mjs"}, "service":
-                          SERVICE}.get(name, EXAMPLE),
+        yield from apart("examples/" + name, {
+            "primary": PRIMARY, "primary_node": {"primary.mjs"}, "service": SERVICE}.get(
+                name, EXAMPLE),
                          names(examples / name) - {"under"})
     yield from apart("examples/primary/ed25519", ED25519, names(examples / "primary" / "ed25519"))
     yield from apart("examples/service/several", SEVERAL, names(examples / "service" / "several"))

@@ -17,9 +17,8 @@ ROLES = ["root", "targets", "snapshot", "timestamp"]
 # after it, then come those of the Image repository
 FIRST = {1: 0x01, 2: 0x51}
 DAYS = {
-    "director": {"root": 365, "targets": 7, "snapshot": 7, "timestamp": 7},
-    "image": {"root": 365, "targets": 90, "snapshot": 30, "timestamp": 1},
-}
+    "director": {"root": 365, "targets": 7, "snapshot": 7, "timestamp": 7}, "image": {
+        "root": 365, "targets": 90, "snapshot": 30, "timestamp": 1}}
 NOTHING = hashlib.sha256(b"").hexdigest()
 ABC = hashlib.sha256(b"abc").hexdigest()
 BOTH = {"sha256": ABC, "sha512": hashlib.sha512(b"abc").hexdigest()}
@@ -45,76 +44,70 @@ A7_FOR_31 = [A7 | {"ecu": "E%d" % number} for number in range(1, 32)]
 
 # each reply of a row: the vehicle, its version, the root version, and the targets
 REPLIES = {
-    "first_manifest": [("V1", 1, 1, [])],
-    "first_manifest_under_a_second_scheme": [("V2", 1, 1, [])],
-    "changed_signature": [("V1", 1, 1, [])],
-    "greatest_counts":
-    2 * [("V1", 1, 1, [])],
-    "withheld_for_a_conflict": [("V2", 1, 1, [])],
-    "withheld_for_a_need": [("V2", 1, 1, []), ("V2", 2, 1, [P_FOR_P2, S_FOR_S2])],
-    "repeat_when_expired": [("V1", 1, 1, []), ("V1", 1, 1, []), ("V1", 2, 1, [])],
-    "older_counter": [("V1", 1, 1, []), ("V1", 2, 1, []), ("V1", 2, 1, [])],
-    "same_counter_other_manifest": [("V1", 1, 1, []), ("V1", 2, 1, []), ("V1", 2, 1, [])],
-    "repeat_in_another_spelling":
-    3 * [("V1", 1, 1, [])],
-    "replayed_reports": [("V2", 1, 1, []), ("V2", 2, 1, []), ("V2", 3, 1, [])],
-    "equal_and_greater_releases": [("V2", 1, 1, []), ("V2", 2, 1, [A_FOR_S2])],
-    "tie_by_the_least_filename": [("V2", 1, 1, [A7_FOR_S2])],
-    "campaigns_by_vehicle": [("V2", 1, 1, [P_FOR_P2, S_FOR_S2]), ("V3", 1, 1, [P_FOR_P3,
-                                                                               A7_FOR_S3]),
-                             ("V4", 1, 1, [S_FOR_S4]), ("V1", 1, 1, [A_FOR_S1]),
-                             ("V1", 2, 1, [S_FOR_S1])],
-    "kept_reply_after_a_rotation": [("V2", 1, 1, [A_FOR_S2]), ("V2", 2, 2, []),
-                                    ("V2", 1, 1, [A_FOR_S2])],
-    "commands_between_manifests": [("V2", 1, 1, []), ("V2", 2, 1, []), ("V2", 3, 1, [A_FOR_S2]),
-                                   ("V2", 4, 1, [S_FOR_S2]), ("V2", 5, 1, [A_FOR_S2]),
-                                   ("V2", 6, 2, [A_FOR_S2]), ("V2", 3, 1, [A_FOR_S2]),
-                                   ("V2", 7, 2, []), ("V2", 8, 2, [S_FOR_S3]), ("V1", 1, 2, []),
-                                   ("V2", 9, 2, [S_FOR_S3]), ("V2", 10, 2, []),
-                                   ("V2", 8, 2, [S_FOR_S3])],
-    "manifests_in_a_row": [("V2", 1, 1, [P_FOR_P2, A_FOR_S2]), ("V2", 1, 1, [P_FOR_P2, A_FOR_S2]),
-                           ("V1", 1, 1, []), ("V2", 2, 1, []), ("V2", 3, 1, [A_FOR_S2]),
-                           ("V2", 1, 1, [P_FOR_P2, A_FOR_S2])],
-    "root_signed_by_the_old_key_too": [("V1", 1, 1, []), ("V1", 2, 2, [])],
-    "each_command_under_a_second_scheme": [("V2", 1, 1, [A_FOR_S2]), ("V2", 2, 2, []),
-                                           ("V2", 1, 1, [A_FOR_S2])],
-    "report_of_an_attack": [("V1", 1, 1, []), ("V1", 2, 1, []), ("V1", 1, 1, []), ("V1", 3, 1, [])],
-    "vehicles_in_turn": [("V1", 1, 1, []), ("V2", 1, 1, [S_FOR_S2]), ("V1", 2, 1, []),
-                         ("V2", 2, 1, [S_FOR_S2]), ("V1", 1, 1, [])],
-    "vehicles_in_another_turn": [("V2", 1, 1, [S_FOR_S2]), ("V1", 1, 1, []),
-                                 ("V2", 2, 1, [S_FOR_S2]), ("V1", 2, 1, []), ("V1", 1, 1, [])],
-    "replaced_ecu": [("V2", 1, 1, []), ("V2", 2, 1, []), ("V2", 1, 1, [])],
-    "replaced_ecu_under_a_second_scheme": [("V2", 1, 1, []), ("V2", 2, 1, []), ("V2", 1, 1, [])],
-    "replaced_ecu_of_a_campaign": [("V2", 1, 1, [A_FOR_S2]), ("V2", 2, 1, [A_FOR_S3]),
-                                   ("V2", 1, 1, [A_FOR_S2]), ("V2", 3, 1, [A_FOR_S4])],
-    "second_hash": [("V2", 1, 1, [BOTH_FOR_S2]), ("V2", 2, 1, [BOTH_FOR_S2]), ("V2", 3, 1, []),
-                    ("V2", 4, 1, []), ("V2", 1, 1, [BOTH_FOR_S2])],
-    "second_hash_under_a_second_scheme": [("V2", 1, 1, [BOTH_FOR_S2]), ("V2", 2, 1, [BOTH_FOR_S2]),
-                                          ("V2", 3, 1, []), ("V2", 4, 1, []),
-                                          ("V2", 1, 1, [BOTH_FOR_S2])],
-    "second_hash_in_other_spellings":
-    [("V2", version, 1, [BOTH_FOR_S2] if version in (2, 11, 12) else [])
-     for version in [*range(1, 15), 13]],
-    "vehicle_of_32_ecus":
-    2 * [("V32", 1, 1, A7_FOR_31)],
-    "vehicle_of_32_ecus_under_a_second_scheme":
-    2 * [("V32", 1, 1, A7_FOR_31)],
-}
+    "first_manifest": [("V1", 1, 1, [])], "first_manifest_under_a_second_scheme": [
+        ("V2", 1, 1, [])], "changed_signature": [("V1", 1, 1, [])], "greatest_counts": 2 * [
+            ("V1", 1, 1, [])], "withheld_for_a_conflict": [
+                ("V2", 1, 1, [])], "withheld_for_a_need": [("V2", 1, 1, []),
+                                                           ("V2", 2, 1, [P_FOR_P2, S_FOR_S2])],
+    "repeat_when_expired": [
+        ("V1", 1, 1, []), ("V1", 1, 1, []), ("V1", 2, 1, [])], "older_counter": [
+            ("V1", 1, 1, []), ("V1", 2, 1, []), ("V1", 2, 1, [])], "same_counter_other_manifest": [
+                ("V1", 1, 1, []), ("V1", 2, 1, []), ("V1", 2, 1, [])],
+    "repeat_in_another_spelling": 3 * [("V1", 1, 1, [])], "replayed_reports": [
+        ("V2", 1, 1, []), ("V2", 2, 1, []), ("V2", 3, 1, [])], "equal_and_greater_releases": [
+            ("V2", 1, 1, []), ("V2", 2, 1, [A_FOR_S2])], "tie_by_the_least_filename": [
+                ("V2", 1, 1, [A7_FOR_S2])], "campaigns_by_vehicle": [("V2", 1, 1, [
+                    P_FOR_P2, S_FOR_S2]), ("V3", 1, 1, [P_FOR_P3, A7_FOR_S3]),
+                                                                     ("V4", 1, 1, [S_FOR_S4]),
+                                                                     ("V1", 1, 1, [A_FOR_S1]),
+                                                                     ("V1", 2, 1, [S_FOR_S1])],
+    "kept_reply_after_a_rotation": [("V2", 1, 1, [
+        A_FOR_S2]), ("V2", 2, 2, []), ("V2", 1, 1, [A_FOR_S2])], "commands_between_manifests": [
+            ("V2", 1, 1, []), ("V2", 2, 1, []), ("V2", 3, 1, [A_FOR_S2]), ("V2", 4, 1, [S_FOR_S2]),
+            ("V2", 5, 1, [A_FOR_S2]), ("V2", 6, 2, [A_FOR_S2]), ("V2", 3, 1, [A_FOR_S2]),
+            ("V2", 7, 2, []), ("V2", 8, 2, [S_FOR_S3]), ("V1", 1, 2, []), ("V2", 9, 2, [S_FOR_S3]),
+            ("V2", 10, 2, []), ("V2", 8, 2, [S_FOR_S3])], "manifests_in_a_row": [
+                ("V2", 1, 1, [P_FOR_P2, A_FOR_S2]), ("V2", 1, 1, [P_FOR_P2, A_FOR_S2]),
+                ("V1", 1, 1, []), ("V2", 2, 1, []), ("V2", 3, 1, [A_FOR_S2]),
+                ("V2", 1, 1, [P_FOR_P2, A_FOR_S2])], "root_signed_by_the_old_key_too": [
+                    ("V1", 1, 1, []), ("V1", 2, 2, [])], "each_command_under_a_second_scheme": [
+                        ("V2", 1, 1, [A_FOR_S2]), ("V2", 2, 2, []), ("V2", 1, 1, [
+                            A_FOR_S2])], "report_of_an_attack": [
+                                ("V1", 1, 1, []), ("V1", 2, 1, []), ("V1", 1, 1, []),
+                                ("V1", 3, 1, [])], "vehicles_in_turn": [
+                                    ("V1", 1, 1, []), ("V2", 1, 1, [S_FOR_S2]), ("V1", 2, 1, []),
+                                    ("V2", 2, 1, [
+                                        S_FOR_S2]), ("V1", 1, 1, [])], "vehicles_in_another_turn": [
+                                            ("V2", 1, 1, [S_FOR_S2]), ("V1", 1, 1, []),
+                                            ("V2", 2, 1, [S_FOR_S2]), ("V1", 2, 1, []),
+                                            ("V1", 1, 1, [])], "replaced_ecu": [("V2", 1, 1, []),
+                                                                                ("V2", 2, 1, []),
+                                                                                ("V2", 1, 1, [])],
+    "replaced_ecu_under_a_second_scheme": [
+        ("V2", 1, 1, []), ("V2", 2, 1, []), ("V2", 1, 1, [])], "replaced_ecu_of_a_campaign": [
+            ("V2", 1, 1, [A_FOR_S2]), ("V2", 2, 1, [A_FOR_S3]), ("V2", 1, 1, [A_FOR_S2]),
+            ("V2", 3, 1, [A_FOR_S4])], "second_hash": [
+                ("V2", 1, 1, [BOTH_FOR_S2]), ("V2", 2, 1, [BOTH_FOR_S2]), ("V2", 3,
+                                                                           1, []), ("V2", 4, 1, []),
+                ("V2", 1, 1, [BOTH_FOR_S2])], "second_hash_under_a_second_scheme": [
+                    ("V2", 1, 1, [BOTH_FOR_S2]), ("V2", 2, 1, [BOTH_FOR_S2]), ("V2", 3, 1, []),
+                    ("V2", 4, 1, []), ("V2", 1, 1, [BOTH_FOR_S2])
+                ], "second_hash_in_other_spellings": [
+                    ("V2", version, 1, [BOTH_FOR_S2] if version in (2, 11, 12) else [])
+                    for version in [*range(1, 15), 13]], "vehicle_of_32_ecus": 2 * [
+                        ("V32", 1, 1, A7_FOR_31)], "vehicle_of_32_ecus_under_a_second_scheme": 2 * [
+                            ("V32", 1, 1, A7_FOR_31)]}
 
 # each fetched file of a row: a repository's Root with its version and how many hours after the
 # founding it was made, or a role's file of the Image repository with the root version, those hours,
 # its own version, and the targets
 FILES = {
-    "files_of_the_image_repository":
-    [(role, 1, 0, 2, [Z]) for role in ROLES[1:]] + [("image", 1, 0)],
-    "root_signed_by_the_old_key_too": [("director", 2, 0)],
-    "commands_between_manifests": [("timestamp", 2, 0, 40, [A, S])],
-    "second_hash_in_the_files": [(role, 1, 0, 3, [A_OF_BOTH, Z]) for role in ROLES[1:]],
-    "each_command_under_a_second_scheme":
-    [(role, 1, 1, 9, [A, Z]) for role in ROLES[1:]] + [("director", 2, 2),
-                                                       ("image", 2, 2)] + [(role, 2, 2, 10, [A, Z])
-                                                                           for role in ROLES[1:]],
-}
+    "files_of_the_image_repository": [(role, 1, 0, 2, [Z]) for role in ROLES[1:]] + [
+        ("image", 1, 0)], "root_signed_by_the_old_key_too": [("director", 2, 0)],
+    "commands_between_manifests": [("timestamp", 2, 0, 40, [A, S])], "second_hash_in_the_files": [
+        (role, 1, 0, 3, [A_OF_BOTH, Z]) for role in ROLES[1:]],
+    "each_command_under_a_second_scheme": [(role, 1, 1, 9, [A, Z]) for role in ROLES[1:]] + [
+        ("director", 2, 2), ("image", 2, 2)] + [(role, 2, 2, 10, [A, Z]) for role in ROLES[1:]]}
 
 
 def canonical(value):
@@ -161,8 +154,8 @@ def keyid_of(scheme, secret):
 
 def envelope(scheme, secrets, payload):
     signed = canonical(payload)
-    tags = [(keyid_of(scheme, it), scheme.method, scheme.tag(it, signed.encode()))
-            for it in secrets]
+    tags = [
+        (keyid_of(scheme, it), scheme.method, scheme.tag(it, signed.encode())) for it in secrets]
     signatures = ",".join('{"keyid":"%s","method":"%s","sig":"%s"}' % tag for tag in tags)
     return '{"signatures":[%s],"signed":%s}' % (signatures, signed)
 
@@ -178,35 +171,26 @@ def role_texts(scheme, repository, root, hours, version, targets, more):
     def text(role, members):
         payload = {
             "expires": expiry(repository, role, hours), "repository": repository, "type": role,
-            "version": version
-        } | members | more
+            "version": version} | members | more
         return envelope(scheme, [secret_of(repository, role, root)], payload)
 
     snapshot = text("snapshot", {"meta": {"targets.json": {"version": version}}})
     entry = {
-        "hashes": {"sha256": hashlib.sha256(snapshot.encode()).hexdigest()}, "version": version
-    }
+        "hashes": {"sha256": hashlib.sha256(snapshot.encode()).hexdigest()}, "version": version}
     return {
-        "targets": text("targets", {"targets": targets}),
-        "snapshot": snapshot,
-        "timestamp": text("timestamp", {"meta": {"snapshot.json": entry}}),
-    }
+        "targets": text("targets", {"targets": targets}), "snapshot": snapshot, "timestamp": text(
+            "timestamp", {"meta": {"snapshot.json": entry}})}
 
 
 def root_text(scheme, repository, root, hours):
     """A Root file, which the root key before it signs too."""
     keyids = {role: keyid_of(scheme, secret_of(repository, role, root)) for role in ROLES}
     payload = {
-        "expires": expiry(repository, "root", hours),
-        "keys":
-        {keyid: {"method": scheme.method, "public": scheme.shown}
-         for keyid in keyids.values()},
-        "repository": repository,
-        "roles": {role: {"keyids": [keyid], "threshold": 1}
-                  for role, keyid in keyids.items()},
-        "type": "root",
-        "version": root,
-    }
+        "expires": expiry(repository, "root", hours), "keys": {
+            keyid: {"method": scheme.method, "public": scheme.shown} for keyid in keyids.values()
+        }, "repository": repository, "roles": {
+            role: {"keyids": [keyid], "threshold": 1} for role, keyid in keyids.items()},
+        "type": "root", "version": root}
     return envelope(scheme, [secret_of(repository, "root", it) for it in (root, root - 1) if it],
                     payload)
 

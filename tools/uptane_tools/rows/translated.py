@@ -13,7 +13,7 @@ import sys
 
 from uptane_tools import arguments
 from uptane_tools.operate.formats import HASH, LIST, OBJECT, canonical, value_of
-from uptane_tools.oracle.schemes import SCHEMES, HmacSha256, key_identifier
+from uptane_tools.oracle.schemes import HmacSha256, SCHEMES, key_identifier
 
 
 def read(text):
@@ -52,13 +52,9 @@ class Translation:
     def __init__(self, lines, old, new):
         named = [it for line in map(read, lines) for it in secrets_in(line, old) if HASH(it)]
         self.old, self.new, self.secrets = old, new, {
-            old.public_of(it): it
-            for it in map(bytes.fromhex, named)
-        }
+            old.public_of(it): it for it in map(bytes.fromhex, named)}
         self.by_identifier = {
-            key_identifier(public): secret
-            for public, secret in self.secrets.items()
-        }
+            key_identifier(public): secret for public, secret in self.secrets.items()}
 
     def line(self, line):
         told = read(line)
@@ -79,8 +75,7 @@ class Translation:
         if not is_envelope(before):
             return text
         reports = [
-            it["signed"]["reports"] for it in (before, after) if LIST(it["signed"].get("reports"))
-        ]
+            it["signed"]["reports"] for it in (before, after) if LIST(it["signed"].get("reports"))]
         pairs = [(before, after), *zip(*reports)]
         for envelope, made in reversed([pair for pair in pairs if is_envelope(pair[0])]):
             signed = canonical(envelope["signed"]).encode()
@@ -120,8 +115,8 @@ def under(folder, method):
     printed = text("printed").split("\n")[:-1]
     if own == method:
         return text("script").split("\n"), printed
-    return translated(text("script").split("\n"), own,
-                      method), [None if it.startswith("file ") else it for it in printed]
+    return translated(text("script").split("\n"), own, method), [
+        None if it.startswith("file ") else it for it in printed]
 
 
 def are_as(wanted, printed):

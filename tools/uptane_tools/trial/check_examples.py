@@ -16,17 +16,14 @@ from pathlib import Path
 
 from uptane_tools import arguments
 from uptane_tools.measure import fleet
-from uptane_tools.trial import program_cases
 from uptane_tools.oracle import reference
-from uptane_tools.trial import trials
 from uptane_tools.rows import translated
 from uptane_tools.rows.check_rows import EXAMPLES, PRIMARY, ROWS, ran, read
+from uptane_tools.trial import program_cases, trials
 
 
 def printed(program, script, path=":memory:"):
-    done = subprocess.run([program, "run", path],
-                          input=script.encode(),
-                          capture_output=True,
+    done = subprocess.run([program, "run", path], input=script.encode(), capture_output=True,
                           check=False)
     if done.returncode or done.stderr:
         return "status %d: %s" % (done.returncode, done.stderr.decode())
@@ -62,8 +59,7 @@ def limits(program):
         more = trials.printed(program, folder / "most",
                               [image % (1024, 64 * "0"), rotate, image % (3, 64 * "0")])
         yield "images and root versions at their limits", well and more == [
-            "refused 20 RegisterFull", "refused 30 RootFull", "already"
-        ]
+            "refused 20 RegisterFull", "refused 30 RootFull", "already"]
     body = '{"at":1767225600,"body":"%s","do":"deliver"}\n'
     bodies = body % (262144 * " ") + body % (262145 * " ")
     yield "bodies at their limit", printed(program,
@@ -86,8 +82,8 @@ def primaries(program, rows):
     given, reply = (read(PRIMARY / name) for name in ("manifest-input.json", "reply.json"))
     # the bench line of the first path builds the same manifest: delivered again it is a repeat, and
     # the version stays
-    again = read(EXAMPLES / "first_path" / "script") + ran(
-        PRIMARY / "primary.py", "line", "1767225600", given=given)[1]
+    again = read(EXAMPLES / "first_path" / "script") + ran(PRIMARY / "primary.py", "line",
+                                                           "1767225600", given=given)[1]
     wanted = ["done", "done"] + 2 * ["reply V1 version 1 targets 0"] + [""]
     yield "the Primary's manifest is the bench line's", printed(program, again) == "\n".join(wanted)
     if rows:
@@ -95,8 +91,7 @@ def primaries(program, rows):
         had, of_changed = first_reply(rows, given, reply), first_reply(rows, given, broken)
         scripts_run = ["reply in %s: script 3, by bytes 3, run " % it for it in ("memory", "files")]
         yield "the desk answers the reply that the page shows", had == [
-            it + "4, calls 4, in turns 4" for it in scripts_run
-        ]
+            it + "4, calls 4, in turns 4" for it in scripts_run]
         differs = [line.startswith(it + "DIFFERS: ") for line, it in zip(of_changed, scripts_run)]
         yield "the desk doesn't answer a changed reply", differs == [True, True]
 
@@ -110,18 +105,15 @@ def primary_of_ed25519(program):
     tool, broken = PRIMARY / "primary.py", reply.replace('"version":1}', '"version":2}', 1)
     yield "the Primary builds the manifest that the page shows", ran(tool, "build",
                                                                      given=given) == (0, body)
-    yield "the Primary checks the reply that the page shows", ran(tool,
-                                                                  "check",
-                                                                  folder / "director-root.json",
-                                                                  given=reply)[0] == 0
+    yield "the Primary checks the reply that the page shows", ran(
+        tool, "check", folder / "director-root.json", given=reply)[0] == 0
     yield "the Primary refuses a changed reply", broken != reply and ran(
         tool, "check", folder / "director-root.json", given=broken)[0] == 1
     first = read(EXAMPLES / "first_path_ed25519" / "script").split("\n")
     script = [
         *first[:2],
         ran(tool, "line", "1767225600", given=given)[1].strip(), first[2],
-        fleet.line("fetch", repository="director", file="root.json")
-    ]
+        fleet.line("fetch", repository="director", file="root.json")]
     with trials.folder() as own:
         wanted = ["done", "done", *2 * ["reply V1 version 1 targets 0"], "file " + root.strip()]
         yield "the program takes it as the bench line's", trials.printed(

@@ -22,10 +22,9 @@ import time
 from contextlib import closing
 
 from uptane_tools import arguments
-from uptane_tools.operate import copy_served
-from uptane_tools.trial import http_cases
 from uptane_tools.measure import http_fleet
-from uptane_tools.trial import trials
+from uptane_tools.operate import copy_served
+from uptane_tools.trial import http_cases, trials
 
 
 class Posting:
@@ -70,8 +69,8 @@ def is_taken(program, path, answered):
     some = answered[-40:]
     with http_cases.served(program, path, 1) as running:
         told = http_fleet.posted(running, [body for body, _ in some])
-        return told == b"".join(http_cases.answer(b"200 OK", reply)
-                                for _, reply in some) and http_cases.ended(running)
+        return told == b"".join(
+            http_cases.answer(b"200 OK", reply) for _, reply in some) and http_cases.ended(running)
 
 
 def under_load(program, own, copies, number):
@@ -179,9 +178,8 @@ def cloned(program, own):
             told = re.fullmatch(
                 r"(\d+) bytes (%s); the program stood still for (\d\.\d{3}) seconds" % how,
                 "".join(out))
-            well = told and int(
-                told[1]) == path.stat().st_size and float(told[3]) < 5 and trials.rows(
-                    to / "copy") == trials.rows(path)
+            well = told and int(told[1]) == path.stat().st_size and float(
+                told[3]) < 5 and trials.rows(to / "copy") == trials.rows(path)
             yield "a copy" if to == own else "a copy that is a clone", status == 0 and bool(well)
         if not folder:
             print("no filesystem that clones can be mounted here, so no clone is tried")

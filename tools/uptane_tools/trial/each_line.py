@@ -24,11 +24,10 @@ import re
 import sqlite3
 
 from uptane_tools import TOP, arguments
-from uptane_tools.trial import http_cases
 from uptane_tools.oracle import reference
-from uptane_tools.rows import translated
-from uptane_tools.trial import trials
 from uptane_tools.oracle.schemes import HmacSha256
+from uptane_tools.rows import translated
+from uptane_tools.trial import http_cases, trials
 
 ROWS = TOP / "rows" / "each_answer"
 AT = 1767225600
@@ -159,8 +158,8 @@ class Desk(reference.Desk):
     def told(self, text):
         lines = script(text)
         if lines:
-            return told(
-                [self.answer(line if isinstance(line, bytes) else line.encode()) for line in lines])
+            return told([
+                self.answer(line if isinstance(line, bytes) else line.encode()) for line in lines])
         return "".join(short(self.body(body)) for body in bodies(text)) or "no hex"
 
 

@@ -34,8 +34,7 @@ def is_new(program: Path) -> bool:
     """Whether the program is younger than all that it is built from."""
     sources = [
         it for part in ("src", "specs", "proofs") for it in TOP.glob(f"crates/*/{part}/**/*")
-        if it.is_file()
-    ]
+        if it.is_file()]
     return program.exists() and program.stat().st_mtime > max(it.stat().st_mtime for it in sources)
 
 
@@ -45,10 +44,7 @@ def answers(program: Path) -> str:
         path.unlink()
     script = (TOP / "examples" / "first_path_ed25519" /
               "script").read_text(encoding="ascii").replace(AT, str(int(time.time())))
-    return subprocess.run([program, "run", DATABASE],
-                          input=script,
-                          capture_output=True,
-                          text=True,
+    return subprocess.run([program, "run", DATABASE], input=script, capture_output=True, text=True,
                           check=True).stdout
 
 

@@ -20,9 +20,8 @@ from uptane_tools.trial import trials
 
 PICTURE = trials.TOP / "docs" / "fleet_page.png"
 FLEET = {
-    "vehicles": 40, "ecus": 3, "rounds": 6, "images": 12, "campaigns": 5, "seed": 7, "from_round":
-    0, "repeats": 0.1, "replaced": 0.1, "second_hashes": 0.5, "deliver": False
-}
+    "vehicles": 40, "ecus": 3, "rounds": 6, "images": 12, "campaigns": 5, "seed": 7,
+    "from_round": 0, "repeats": 0.1, "replaced": 0.1, "second_hashes": 0.5, "deliver": False}
 SIZE = "1180,900"
 # half an hour after the last round
 NOW = fleet.START + 6 * 3600 + 1800
@@ -46,20 +45,14 @@ def made(browser):
             answers = [desk.answer(line) for line in with_attacks(fleet.script(**FLEET))]
         made = subprocess.run(
             [sys.executable, trials.RUN, "fleet_page", own / "desk.db", "--now",
-             str(NOW)],
-            capture_output=True,
-            check=True)
+             str(NOW)], capture_output=True, check=True)
         (own / "fleet.html").write_bytes(made.stdout)
         words = [
             browser, "--headless", "--no-sandbox", "--disable-gpu", "--hide-scrollbars",
-            "--window-size=" + SIZE
-        ]
+            "--window-size=" + SIZE]
         subprocess.run(
             [*words, "--screenshot=%s" % (own / "fleet.png"),
-             str(own / "fleet.html")],
-            capture_output=True,
-            check=True,
-            timeout=120)
+             str(own / "fleet.html")], capture_output=True, check=True, timeout=120)
         PICTURE.write_bytes((own / "fleet.png").read_bytes())
     print("%s: %d lines, of which %d were refused" % (PICTURE.relative_to(
         trials.TOP), len(answers), sum(it.startswith("refused") for it in answers)))

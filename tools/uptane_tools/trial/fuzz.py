@@ -22,10 +22,9 @@ import sys
 
 from uptane_tools import arguments
 from uptane_tools.measure import fleet
+from uptane_tools.oracle.reference import (Refused, canonical, depth, is_plain, moment, read_json,
+                                           signature)
 from uptane_tools.trial import trials
-from uptane_tools.oracle.reference import (
-    Refused, canonical, depth, is_plain, moment, read_json, signature,
-)
 
 START = fleet.START
 MOST = 2**53 - 1
@@ -33,8 +32,7 @@ KINDS = ["HP", "HS", "HT"]
 WORDS = [
     "%d" % MOST,
     "%d" % (MOST + 1), "-1", "1.0", "1e3", "1e999", '""', "null", "true", "[]", "{}", '"all"', "00",
-    '"\\u00e9"', '"\\ud800"', '"' + 65 * "a" + '"', "[[[[[[[[[[[[[[[[[[[]]]]]]]]]]]]]]]]]]]"
-]
+    '"\\u00e9"', '"\\ud800"', '"' + 65 * "a" + '"', "[[[[[[[[[[[[[[[[[[[]]]]]]]]]]]]]]]]]]]"]
 
 
 class Script:
@@ -62,17 +60,15 @@ class Script:
         while self.some(0.3):
             role = keys[self.rng.choice(["director", "image"])][self.rng.choice(fleet.ROLES)]
             role["keys"] += [
-                fleet.key(self.rng.randrange(256)) for _ in range(self.rng.randrange(4))
-            ]
+                fleet.key(self.rng.randrange(256)) for _ in range(self.rng.randrange(4))]
             role["threshold"] = self.rng.randint(0 if self.some(0.1) else 1, len(role["keys"]))
         return keys
 
     def first_ecus(self, number):
         """The ECUs with which a vehicle is added: always the same ones."""
         return [{
-            "ecu": "E%d%d" % (number, i), "hardware": KINDS[min(i, 2)], "key":
-            fleet.key(16 * number + i + 1)
-        } for i in range(1 + number % 4)]
+            "ecu": "E%d%d" % (number, i), "hardware": KINDS[min(i, 2)],
+            "key": fleet.key(16 * number + i + 1)} for i in range(1 + number % 4)]
 
     def ecus(self, number):
         """The ECUs of a vehicle with the replacements that were asked."""
@@ -99,8 +95,7 @@ class Script:
                 len(ecus) - 1),
             len(ecus) - 1)
         old, new = ecus[place]["ecu"], {
-            "ecu": "R%d" % len(self.lines), "hardware": ecus[place]["hardware"]
-        }
+            "ecu": "R%d" % len(self.lines), "hardware": ecus[place]["hardware"]}
         new["key"] = fleet.key(rng.randrange(256))
         known = self.retired + [it["ecu"] for it in self.ecus(rng.randrange(6))]
         if self.some(0.15):
@@ -146,9 +141,8 @@ class Script:
     def malformed(self, hash):
         """What is no second hash: too short, too long, of other digits, of another kind."""
         return self.rng.choice([
-            hash[:-1], hash + "0", hash[1:] + "g", hash[:64], "", "x", None, 7, True, [hash],
-            {"sha512": hash}
-        ])
+            hash[:-1], hash + "0", hash[1:] + "g", hash[:64], "", "x", None, 7, True, [hash], {
+                "sha512": hash}])
 
     def second_hash(self):
         """A campaign for an image that has a second hash, and a manifest whose ECUs report that
@@ -189,8 +183,7 @@ class Script:
         if self.some(0.05):
             items[0]["hardware"] = rng.choice(KINDS)
         reach = "all" if number % 2 else [
-            "V%d" % rng.randrange(5) for _ in range(rng.randint(1, 3))
-        ]
+            "V%d" % rng.randrange(5) for _ in range(rng.randint(1, 3))]
         self.opened.append("C%d" % number)
         self.add("open_campaign", campaign="C%d" % number, vehicles=reach, items=items)
 
@@ -234,12 +227,12 @@ class Script:
         self.counters[vehicle] = max(last, counter)
         reports = [self.report(ecu) for ecu in ecus]
         told = {
-            "vehicle": vehicle, "primary": ecus[0]["ecu"], "key": ecus[0]["key"], "counter": counter
-        }
+            "vehicle": vehicle, "primary": ecus[0]["ecu"], "key": ecus[0]["key"],
+            "counter": counter}
         told["reports"] = reports
         if self.some(0.12):
-            wrong = rng.choice(
-                ["primary", "key", "report", "missing", "twice", "unknown", "retired", "order"])
+            wrong = rng.choice([
+                "primary", "key", "report", "missing", "twice", "unknown", "retired", "order"])
             if wrong == "primary":
                 told["primary"] = ecus[-1]["ecu"]
             elif wrong == "key":
@@ -271,8 +264,7 @@ class Script:
         if self.some(0.3):
             reports = [
                 report | {"sha512": self.malformed(fleet.second("malformed"))}
-                for report in told["reports"]
-            ]
+                for report in told["reports"]]
             told = told | {"reports": reports}
         body = fleet.body(told)
         how = rng.choice(["as it is"] * 4 + ["spelled", "signatures", "members", "damaged", "word"])
@@ -296,9 +288,8 @@ class Script:
         """An image of a greater release than all before."""
         self.news += 1
         image = {
-            "file": "n/%d.bin" % self.news, "length": self.news, "sha256":
-            fleet.digest("new %d" % self.news)
-        }
+            "file": "n/%d.bin" % self.news, "length": self.news,
+            "sha256": fleet.digest("new %d" % self.news)}
         return image | {"hardware": [kind], "release": 1000 + self.news}
 
     def register(self, image):
@@ -328,12 +319,9 @@ class Script:
         commands = {
             "close": lambda: self.add("close_campaign", campaign=name),
             "open": lambda: self.offer("N" + name, reach, newer),
-            "image": lambda: self.register(newer),
-            "rotate": self.rotate,
+            "image": lambda: self.register(newer), "rotate": self.rotate,
             "refresh": lambda: self.add("refresh", version=rng.choice([20, 60, 100, 200])),
-            "vehicle": self.add_vehicle,
-            "replace": self.replace_ecu,
-        }
+            "vehicle": self.add_vehicle, "replace": self.replace_ecu}
         how = rng.choice(list(commands))
         for image in [offered, newer] if how == "open" else [offered]:
             self.register(image)
@@ -347,8 +335,7 @@ class Script:
     def fetch(self):
         name = self.rng.choice([
             "root.json", "1.root.json", "2.root.json", "01.root.json", "targets.json",
-            "snapshot.json", "timestamp.json", "no"
-        ])
+            "snapshot.json", "timestamp.json", "no"])
         self.add("fetch", repository=self.rng.choice(["director", "image"]), file=name)
 
     def show(self):
@@ -364,8 +351,7 @@ class Script:
     WEIGHTS = {
         "add_vehicle": 8, "replace_ecu": 5, "add_image": 8, "second_hash": 4, "open_campaign": 6,
         "close_campaign": 3, "bench": 30, "deliver": 16, "between": 8, "fetch": 5, "show": 6,
-        "refresh": 1
-    }
+        "refresh": 1}
 
     def step(self):
         rng = self.rng
@@ -404,15 +390,14 @@ class Bodies:
 
     def __init__(self, seed):
         self.rng = random.Random("bodies %d" % seed)
-        self.ecus = [("E%d" % i, KINDS[i], fleet.key(17 * (i + 1)))
-                     for i in range(self.rng.randint(1, 3))]
+        self.ecus = [
+            ("E%d" % i, KINDS[i], fleet.key(17 * (i + 1))) for i in range(self.rng.randint(1, 3))]
 
     def image(self):
         words = "image %d" % self.rng.randrange(3)
         told = {
-            "file": words.replace(" ", "/") + ".bin", "length":
-            self.rng.choice([0, 7, len(words), 10**9, MOST])
-        }
+            "file": words.replace(" ", "/") + ".bin", "length": self.rng.choice([
+                0, 7, len(words), 10**9, MOST])}
         told["hashes"] = {"sha256": fleet.digest(words)}
         if self.rng.random() < 0.5:
             told["hashes"]["sha512"] = fleet.second(words)
@@ -425,8 +410,7 @@ class Bodies:
         return canonical(
             told | {
                 "time": moment(START + rng.choice([0, 1, 59, 86399, 253402300799 -
-                                                   START])), "type": "report"
-            })
+                                                   START])), "type": "report"})
 
     def body(self, counter):
         """It may be without reports; each ECU's counter is the manifest's."""
@@ -492,34 +476,32 @@ def exchanged(members):
 CHANGES = {
     DIGITS: [
         str.upper, lambda it: it[:-1] + it[-1].upper(), lambda it: it[1:], lambda it: it[:-2],
-        lambda it: it + "0", lambda it: it[:-1] + "g", lambda it: ""
-    ],
-    COUNT: [
-        lambda it: "0" + it, lambda it: "00", lambda it: "0", lambda it: "", lambda it: "-" + it,
-        lambda it: "+" + it, lambda it: it + ".0", lambda it: it + "e0", lambda it: '"%s"' % it,
-        lambda it: str(MOST), lambda it: str(MOST + 1), lambda it: str(2**64 + 1),
-        lambda it: 40 * "1"
-    ],
-    TEXT: [
-        lambda it: "", lambda it: it + " ", lambda it: it + "\x7f", lambda it: it + "\x1f",
-        lambda it: it + "\u00e9", lambda it: it + '\\"', lambda it: it + "\\/",
-        lambda it: it + 257 * "x", lambda it: it.ljust(64, "x"), lambda it: it.ljust(65, "x"),
-        lambda it: it.ljust(128, "x"), lambda it: it.ljust(129, "x"),
-        lambda it: "".join("\\u%04x" % ord(c) for c in it)
-    ],
-    MEMBER + ",": [lambda it: "", lambda it: it + it, lambda it: it + '"more":1,'],
-    "," + MEMBER: [lambda it: "", lambda it: it + it, lambda it: it + ',"zz":null'],
-    MEMBER + "," + MEMBER: [exchanged],
-    r"[:,\[\]{}]": [lambda it: "", lambda it: it + " ", lambda it: it + "\n", lambda it: it + it],
-    r"[0-9]{2}Z": [lambda it: "60Z", lambda it: "00Z", lambda it: it[:-1] + "z"],
-    r"-[0-9]{2}T": [lambda it: "-31T", lambda it: "-32T", lambda it: "-00T"],
-    r'"[0-9]{4}-': [lambda it: '"1969-'],
-    SIGNATURE: [lambda it: it + "," + it, lambda it: ",".join(9 * [it]), lambda it: ""],
-    r'"sha512":"[^"]*"': [lambda it: '"sha512":7', lambda it: it + ',"sha513":"00"'],
-    r'"sha256":"[^"]*"': [lambda it: it + ',"md5":"00"'],
-    r"\Z": [lambda it: " ", lambda it: "\n", lambda it: "}", lambda it: "\x00", lambda it: "{}"],
-    r"\A": [lambda it: " ", lambda it: "\ufeff"],
-}
+        lambda it: it + "0", lambda it: it[:-1] + "g", lambda it: ""], COUNT: [
+            lambda it: "0" + it, lambda it: "00", lambda it: "0", lambda it: "",
+            lambda it: "-" + it, lambda it: "+" + it, lambda it: it + ".0", lambda it: it + "e0",
+            lambda it: '"%s"' % it, lambda it: str(MOST), lambda it: str(MOST + 1),
+            lambda it: str(2**64 + 1), lambda it: 40 * "1"], TEXT: [
+                lambda it: "", lambda it: it + " ", lambda it: it + "\x7f", lambda it: it + "\x1f",
+                lambda it: it + "\u00e9", lambda it: it + '\\"', lambda it: it + "\\/",
+                lambda it: it + 257 * "x", lambda it: it.ljust(64, "x"),
+                lambda it: it.ljust(65, "x"), lambda it: it.ljust(128, "x"),
+                lambda it: it.ljust(129, "x"), lambda it: "".join("\\u%04x" % ord(c) for c in it)],
+    MEMBER + ",": [lambda it: "", lambda it: it + it, lambda it: it + '"more":1,'], "," + MEMBER: [
+        lambda it: "", lambda it: it + it, lambda it: it + ',"zz":null'], MEMBER + "," + MEMBER: [
+            exchanged], r"[:,\[\]{}]": [
+                lambda it: "", lambda it: it + " ", lambda it: it + "\n",
+                lambda it: it + it], r"[0-9]{2}Z": [
+                    lambda it: "60Z", lambda it: "00Z", lambda it: it[:-1] + "z"], r"-[0-9]{2}T": [
+                        lambda it: "-31T", lambda it: "-32T", lambda it: "-00T"], r'"[0-9]{4}-': [
+                            lambda it: '"1969-'], SIGNATURE: [
+                                lambda it: it + "," + it, lambda it: ",".join(9 * [it]),
+                                lambda it: ""], r'"sha512":"[^"]*"': [
+                                    lambda it: '"sha512":7',
+                                    lambda it: it + ',"sha513":"00"'], r'"sha256":"[^"]*"': [
+                                        lambda it: it + ',"md5":"00"'], r"\Z": [
+                                            lambda it: " ", lambda it: "\n", lambda it: "}",
+                                            lambda it: "\x00", lambda it: "{}"], r"\A": [
+                                                lambda it: " ", lambda it: "\ufeff"]}
 
 
 def changed(rng, text):
@@ -533,8 +515,8 @@ def changed(rng, text):
 def damaged(rng, line):
     """One byte is changed, taken out or put in, or the line is cut there."""
     at = rng.randrange(len(line) + 1)
-    byte = bytes(
-        [rng.choice(b'"{}[],:0189aeE\\ x\n') if rng.random() < 0.7 else rng.randrange(256)])
+    byte = bytes([
+        rng.choice(b'"{}[],:0189aeE\\ x\n') if rng.random() < 0.7 else rng.randrange(256)])
     before, here, after = line[:at], line[at:at + 1], line[at + 1:]
     return rng.choice([before + byte + after, before + after, before + byte + here + after, before])
 

@@ -27,11 +27,8 @@ from contextlib import closing
 
 from uptane_tools import arguments
 from uptane_tools.measure import fleet
-from uptane_tools.trial import fuzz
-from uptane_tools.trial import http_cases
-from uptane_tools.oracle import reference
-from uptane_tools.oracle import reference_http
-from uptane_tools.trial import trials
+from uptane_tools.oracle import reference, reference_http
+from uptane_tools.trial import fuzz, http_cases, trials
 
 
 class Request:
@@ -39,14 +36,7 @@ class Request:
     or a file.
     """
 
-    def __init__(self,
-                 method,
-                 target,
-                 fields,
-                 body=b"",
-                 version="1.1",
-                 check=None,
-                 asks=None,
+    def __init__(self, method, target, fields, body=b"", version="1.1", check=None, asks=None,
                  ends=False):
         lines = ["%s %s HTTP/%s" % (method, target, version), *fields]
         self.sent = "".join(line + "\r\n" for line in lines).encode() + b"\r\n" + body
@@ -103,8 +93,7 @@ class Stream:
         where = self.rng.choice(["director", "image"])
         names = [
             "root.json", "1.root.json", "2.root.json", "targets.json", "snapshot.json",
-            "timestamp.json", "no"
-        ]
+            "timestamp.json", "no"]
         name = self.rng.choice(names)
         return Request("GET", "/%s/%s" % (where, name), self.fields(), asks=(where, name), **more)
 
@@ -113,40 +102,28 @@ class Stream:
         return self.rng.choice([
             lambda: Request("GET", "/nowhere", self.fields(), check=("not found", None)),
             lambda: Request("PUT", "/image/a%20b", self.fields(), check=("not found", None)),
-            lambda: Request(
-                "HEAD", "/image/root.json", self.fields(), check=("method not allowed", "GET")),
-            lambda: Request(
+            lambda: Request("HEAD", "/image/root.json", self.fields(
+            ), check=("method not allowed", "GET")), lambda: Request(
                 "DELETE", "/image/root.json", self.fields(), check=("method not allowed", "GET")),
-            lambda: Request(
-                "GET", "/director/manifest", self.fields(), check=("method not allowed", "POST")),
-        ])()
+            lambda: Request("GET", "/director/manifest", self.fields(), check=("method not allowed",
+                                                                               "POST"))])()
 
     def last(self):
         """A request that ends the stream."""
         return self.rng.choice([
             lambda: Request("GET", "/image/root.json", [], check=("bad request", None)),
-            lambda: Request(
-                "GET", "/image/root.json", ["Host: d", "Host: d"], check=("bad request", None)),
-            lambda: Request(
-                "POST", "/director/manifest", self.fields(), check=("length required", None)),
-            lambda: Request("POST",
-                            "/director/manifest",
-                            self.fields("Content-Length: x"),
-                            check=("bad request", None)),
-            lambda: Request("POST",
-                            "/director/manifest",
-                            self.fields("Content-Length: %d" % (reference_http.MOST_BODY + 1)),
-                            check=("TooLarge", None)),
-            lambda: Request("POST",
-                            "/director/manifest",
-                            self.fields("Transfer-Encoding: chunked"),
+            lambda: Request("GET", "/image/root.json", [
+                "Host: d", "Host: d"], check=("bad request", None)), lambda: Request(
+                    "POST", "/director/manifest", self.fields(), check=("length required", None)),
+            lambda: Request("POST", "/director/manifest", self.fields("Content-Length: x"), check=(
+                "bad request", None)),
+            lambda: Request("POST", "/director/manifest",
+                            self.fields("Content-Length: %d" %
+                                        (reference_http.MOST_BODY + 1)), check=("TooLarge", None)),
+            lambda: Request("POST", "/director/manifest", self.fields("Transfer-Encoding: chunked"),
                             check=("not implemented", None)),
-            lambda: self.fetch(version="1.0"),
-            lambda: Request("GET",
-                            "/image/root.json", ["Host: d", "Connection: a, Close"],
-                            asks=("image", "root.json"),
-                            ends=True),
-        ])()
+            lambda: self.fetch(version="1.0"), lambda: Request("GET", "/image/root.json", [
+                "Host: d", "Connection: a, Close"], asks=("image", "root.json"), ends=True)])()
 
     def between(self):
         """The lines of operators, with manifests among them: some replace ECUs, others change
@@ -156,8 +133,7 @@ class Stream:
         script.lines.clear()
         kinds = [
             script.replace_ecu, script.between, script.open_campaign, script.close_campaign,
-            script.rotate, script.refresh
-        ]
+            script.rotate, script.refresh]
         for _ in range(self.rng.randint(0, 4)):
             self.rng.choices(kinds, [6, 4, 2, 2, 1, 1])[0]()
         return [line.decode() for line in script.lines]
@@ -218,15 +194,13 @@ def by_script(program, before, path, commands, moments):
     after the lines that filled it.
     """
     lines = [line_of(asks, moments) for asks, _ in commands]
-    told, whole = trials.printed(program, path,
-                                 lines), trials.printed(program, ":memory:", before + lines)
+    told, whole = trials.printed(program, path, lines), trials.printed(
+        program, ":memory:", before + lines)
     if told is None or whole is None or whole[len(whole) - len(lines):] != told:
         return "a script over memory"
     with trials.read(path) as db:
         replies = {
-            row[:2]: row[2]
-            for row in db.execute("SELECT vehicle, version, reply FROM kept")
-        }
+            row[:2]: row[2] for row in db.execute("SELECT vehicle, version, reply FROM kept")}
     for line, (asks, answer) in zip(told, commands, strict=True):
         if not printed_as(line, asks, answer, replies):
             return "a script over a file: %s\n  over HTTP: %r" % (line[:300], answer[:300])

@@ -24,32 +24,23 @@ FOUND = fleet.line("found", **fleet.key_set(1))
 VEHICLE = fleet.line("add_vehicle", vehicle="v", primary="p", ecus=[ECU])
 FETCHES = [
     fleet.line("fetch", repository=name, file=file) for name in ("director", "image")
-    for file in ("root.json", "1.root.json", "2.root.json")
-]
+    for file in ("root.json", "1.root.json", "2.root.json")]
 
 
 def image(file, **told):
-    return fleet.line("add_image",
-                      file=file,
-                      hardware=["HP"],
+    return fleet.line("add_image", file=file, hardware=["HP"],
                       **{"length": 3, "release": 1, "sha256": fleet.digest(file)} | told)
 
 
 def campaign(name, vehicles, file="new"):
-    return fleet.line("open_campaign",
-                      campaign=name,
-                      vehicles=vehicles,
-                      items=[{"hardware": "HP", "file": file}])
+    return fleet.line("open_campaign", campaign=name, vehicles=vehicles, items=[{
+        "hardware": "HP", "file": file}])
 
 
 def manifest(counter, installed=fleet.FACTORY):
     report = {"ecu": "p", "key": ECU["key"], "counter": counter, "time": fleet.START, **installed}
-    return fleet.line("bench",
-                      vehicle="v",
-                      primary="p",
-                      key=ECU["key"],
-                      counter=counter,
-                      reports=[report])
+    return fleet.line("bench", vehicle="v", primary="p", key=ECU["key"], counter=counter, reports=[
+        report])
 
 
 def shown():
@@ -78,8 +69,7 @@ def manifests(program, own):
     script = [
         FOUND,
         image("new"), VEHICLE,
-        campaign("all", "all"), *map(manifest, range(1, MANIFESTS + 1)), *shown()
-    ]
+        campaign("all", "all"), *map(manifest, range(1, MANIFESTS + 1)), *shown()]
     yield "%d manifests of one vehicle" % MANIFESTS, is_answered(program, own, script)
 
 
@@ -88,9 +78,8 @@ def keys(first):
 
     def roles(start):
         return {
-            role: {"keys": [fleet.key(start + 4 * i + j) for j in range(4)], "threshold": 4}
-            for i, role in enumerate(fleet.ROLES)
-        }
+            role: {"keys": [fleet.key(start + 4 * i + j) for j in range(4)
+                            ], "threshold": 4} for i, role in enumerate(fleet.ROLES)}
 
     return {"director": roles(first), "image": roles(first + 16)}
 
@@ -100,8 +89,7 @@ def signatures(program, own):
         fleet.line("found", **keys(1)),
         image("new"), VEHICLE,
         fleet.line("rotate", **keys(101)),
-        campaign("all", "all"), *shown(), *FETCHES
-    ]
+        campaign("all", "all"), *shown(), *FETCHES]
     yield "four keys of each role, and four others", is_answered(program, own, script)
 
 
@@ -113,8 +101,7 @@ def counts(program, own):
         image("new", **greatest), VEHICLE,
         campaign("all", "all"),
         manifest(GREATEST - 1),
-        manifest(GREATEST, reported), *shown()
-    ]
+        manifest(GREATEST, reported), *shown()]
     yield "the greatest length, release and counters", is_answered(program, own, script)
 
 

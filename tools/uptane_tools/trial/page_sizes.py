@@ -10,9 +10,7 @@ has at most 1,200 words, the page of proofs 8,000, that on working 2,000, a crat
 import re
 
 from uptane_tools import arguments
-from uptane_tools.trial import pages
-from uptane_tools.trial import theorem
-from uptane_tools.trial import trials
+from uptane_tools.trial import pages, theorem, trials
 from uptane_tools.trial.trials import TOP
 
 LIMITS = {"README.md": 1200, "docs/trust/PROOFS.md": 8000, "docs/develop/WORKING.md": 2000}
@@ -26,8 +24,7 @@ def words_of(text):
 def cases():
     sizes = {
         str(page.relative_to(TOP)): words_of(page.read_text(encoding="utf-8"))
-        for page in pages.pages()
-    }
+        for page in pages.pages()}
     for page, count in sorted(sizes.items(), key=lambda it: -it[1]):
         limit = LIMITS.get(page, OF_A_CRATE if page.startswith("crates/") else OF_ALL)
         if page in LIMITS or page.startswith("docs/") or count > limit:

@@ -24,10 +24,8 @@ import time
 
 from uptane_tools import arguments
 from uptane_tools.measure import fleet
-from uptane_tools.trial import http_cases
 from uptane_tools.oracle import reference
-from uptane_tools.trial import small_primary
-from uptane_tools.trial import trials
+from uptane_tools.trial import http_cases, small_primary, trials
 
 HERE = trials.TOP / "examples" / "primary"
 NOW = int(time.time())
@@ -37,18 +35,15 @@ PRIMARY = ("import sys; sys.path.insert(0, %r); import primary; primary.WAITS = 
            "sys.exit(primary.main(sys.argv[1:]))") % str(HERE)
 ECUS = [("gw", "GW"), ("left", "BR"), ("right", "BR")]
 CONTENT = {
-    name: name.encode()
-    for name in ("gateway-1.bin", "gateway-2.bin", "brake-1.bin", "brake-2.bin")
+    name: name.encode() for name in ("gateway-1.bin", "gateway-2.bin", "brake-1.bin", "brake-2.bin")
 }
 FIRST, SECOND = 1, 101
 INSTALLED = [
-    "gw installed gateway-2.bin", "left installed brake-2.bin", "right installed brake-2.bin"
-]
+    "gw installed gateway-2.bin", "left installed brake-2.bin", "right installed brake-2.bin"]
 # the small Primaries: how a round of each is begun
 SMALL = {
-    "Python": [sys.executable, "-c", PRIMARY], "JavaScript":
-    ["node", str(trials.TOP / "examples" / "primary_node" / "primary.mjs")]
-}
+    "Python": [sys.executable, "-c", PRIMARY], "JavaScript": [
+        "node", str(trials.TOP / "examples" / "primary_node" / "primary.mjs")]}
 
 
 def keys(start):
@@ -57,16 +52,14 @@ def keys(start):
     for repository, at in (("director", start), ("image", start + 10)):
         sets[repository] = {
             role: {"keys": [fleet.key(at + i)], "threshold": 1}
-            for i, role in enumerate(fleet.ROLES)
-        }
+            for i, role in enumerate(fleet.ROLES)}
         sets[repository]["root"] = {"keys": [fleet.key(at), fleet.key(at + 8)], "threshold": 2}
     return sets
 
 
 def secrets(start):
     return [
-        key for roles in keys(start).values() for role in roles.values() for key in role["keys"]
-    ]
+        key for roles in keys(start).values() for role in roles.values() for key in role["keys"]]
 
 
 def ecu_key(number):
@@ -83,12 +76,8 @@ def hashes(name):
 def image(name, at):
     kind, release = name.split("-")
     told = {"length": len(CONTENT[name]), **hashes(name)}
-    return fleet.line("add_image",
-                      at,
-                      file=name,
-                      hardware=["GW" if kind == "gateway" else "BR"],
-                      release=int(release[0]),
-                      **told)
+    return fleet.line("add_image", at, file=name, hardware=["GW" if kind == "gateway" else "BR"],
+                      release=int(release[0]), **told)
 
 
 def beginning(at):
@@ -97,8 +86,7 @@ def beginning(at):
     return [
         fleet.line("found", at, **keys(FIRST)), vehicle,
         image("gateway-1.bin", at),
-        image("brake-1.bin", at)
-    ]
+        image("brake-1.bin", at)]
 
 
 def update(at):
@@ -106,8 +94,7 @@ def update(at):
     return [
         image("gateway-2.bin", at),
         image("brake-2.bin", at),
-        fleet.line("open_campaign", at, campaign="spring", vehicles="all", items=items)
-    ]
+        fleet.line("open_campaign", at, campaign="spring", vehicles="all", items=items)]
 
 
 def vehicle_of(roots):
@@ -118,14 +105,12 @@ def vehicle_of(roots):
     for i, (ecu, kind) in enumerate(ECUS):
         name = "gateway-1.bin" if kind == "GW" else "brake-1.bin"
         has = {"file": name, "length": len(CONTENT[name]), **hashes(name), "release": 1}
-        ecus.append(
-            {"ecu": ecu, "hardware": kind, "secret": ecu_key(i), "counter": 0, "installed": has})
+        ecus.append({
+            "ecu": ecu, "hardware": kind, "secret": ecu_key(i), "counter": 0, "installed": has})
     told = {
-        "vehicle": "VIN-1", "primary": "gw", "counter": 0, "ecus": ecus, "method": reference.METHOD
-    }
+        "vehicle": "VIN-1", "primary": "gw", "counter": 0, "ecus": ecus, "method": reference.METHOD}
     told |= {} if reference.METHOD == "ed25519" else {
-        "role_secrets": secrets(FIRST) + secrets(SECOND)
-    }
+        "role_secrets": secrets(FIRST) + secrets(SECOND)}
     return told | {repository: {"root": root, "versions": {}} for repository, root in roots.items()}
 
 
@@ -158,8 +143,7 @@ class Vehicle:
             *self.words, "round",
             "http://127.0.0.1:%d" % port,
             str(self.file),
-            str(self.images)
-        ]
+            str(self.images)]
         ran = subprocess.run(words, capture_output=True, check=False, timeout=http_cases.PATIENCE)
         return ran.returncode, ran.stdout.decode("ascii").splitlines(), ran.stderr.decode("ascii")
 
@@ -203,8 +187,9 @@ def rounds(program, own):
     (vehicle.images / "brake-2.bin").write_bytes(b"brake-3.bin")
     status, out, err = with_service(program, path, vehicle)
     wanted = 1, [], "primary: brake-2.bin has another SHA-256\n"
-    yield "a round with a wrong image installs none", (
-        status, out, err) == wanted and vehicle.releases() == [1, 1, 1]
+    yield "a round with a wrong image installs none", (status, out,
+                                                       err) == wanted and vehicle.releases() == [
+                                                           1, 1, 1]
     yield "which is an attack, to be reported", vehicle.attack(
     ) == "brake-2.bin has another SHA-256"
     vehicle.put("brake-2.bin")
@@ -220,24 +205,24 @@ def rounds(program, own):
     yield "a rotation", trials.printed(program, path,
                                        [fleet.line("rotate", NOW, **keys(SECOND))]) == ["done"]
     again = "again with a new manifest: the reply is of Root version 1, and the latest is 2"
-    yield "a kept reply of an older root", with_service(
-        program, path, vehicle) == (0, [again, "verified: version 6, targets 0"], "")
+    yield "a kept reply of an older root", with_service(program, path, vehicle) == (0, [
+        again, "verified: version 6, targets 0"], "")
     known = vehicle.told()
     yield "the new root is trusted", known["director"]["root"]["signed"]["version"] == 2
     yield "a manifest that was accepted eight days ago", lost(program, path, vehicle,
                                                               NOW - 8 * DAY)[1]
     again = "again with a new manifest: director timestamp has expired"
-    yield "a kept reply that has expired", with_service(
-        program, path, vehicle) == (0, [again, "verified: version 8, targets 0"], "")
+    yield "a kept reply that has expired", with_service(program, path, vehicle) == (0, [
+        again, "verified: version 8, targets 0"], "")
     vehicle.file.write_text(json.dumps(vehicle.told() | {"counter": 1}), encoding="ascii")
-    yield "a counter that was lost", with_service(
-        program, path, vehicle)[:2] == (0, ["verified: version 9, targets 0"])
+    yield "a counter that was lost", with_service(program, path, vehicle)[:2] == (0, [
+        "verified: version 9, targets 0"])
     yield "each round is a manifest", trials.rows(path)["vehicle"] == [("VIN-1", "gw", 9, 9)]
     known = vehicle.told()
     known["ecus"][1]["counter"] = 1
     vehicle.file.write_text(json.dumps(known), encoding="ascii")
-    yield "a report's counter that was lost", with_service(
-        program, path, vehicle)[:2] == (0, ["verified: version 10, targets 0"])
+    yield "a report's counter that was lost", with_service(program, path, vehicle)[:2] == (0, [
+        "verified: version 10, targets 0"])
     for counter in (NOW + 10 * DAY, 1):
         known = vehicle.told()
         known["ecus"][2]["counter"] = counter
@@ -264,8 +249,7 @@ def replaced(program, path, vehicle):
     told = vehicle.told()
     new = told["ecus"][1] | {
         "ecu": "left-2", "secret": ecu_key(9), "counter": 0, "installed": vehicle_of(
-            {})["ecus"][1]["installed"]
-    }
+            {})["ecus"][1]["installed"]}
     vehicle.file.write_text(json.dumps(told | {"ecus": [told["ecus"][0], new, told["ecus"][2]]}),
                             encoding="ascii")
     wanted = 0, ["left-2 installed brake-2.bin", "verified: version 13, targets 1"], ""
@@ -286,8 +270,8 @@ def locked(program, own, small):
     told = json.loads(primary_made(fresh))
     vehicle.file.write_text(json.dumps(told), encoding="ascii")
     yield "%s: a manifest whose answer is lost" % small, trials.printed(
-        program, path,
-        [fleet.line("deliver", NOW, body=told["pending"])]) == ["reply VIN-1 version 1 targets 3"]
+        program, path, [fleet.line("deliver", NOW, body=told["pending"])]) == [
+            "reply VIN-1 version 1 targets 3"]
     trials.printed(program, path, [replacement()])
     new = told["ecus"][1] | {"ecu": "left-2", "secret": ecu_key(9), "counter": 0}
     known = told | {"ecus": [told["ecus"][0], new, told["ecus"][2]]}
@@ -305,13 +289,13 @@ def locked(program, own, small):
     trials.copied(own / "replaced", path)
     vehicle.file.write_text(json.dumps(known | {"replaced": ["left"]}), encoding="ascii")
     wanted = 0, [
-        "again with a new manifest: left was replaced", *installed, "verified: version 2, targets 3"
-    ], ""
+        "again with a new manifest: left was replaced", *installed,
+        "verified: version 2, targets 3"], ""
     yield "%s: a kept reply for an ECU that was replaced" % small, with_service(
         program, path, vehicle) == wanted
     for version in (3, 4):
-        yield "%s: a round more" % small, with_service(
-            program, path, vehicle)[:2] == (0, ["verified: version %d, targets 0" % version])
+        yield "%s: a round more" % small, with_service(program, path, vehicle)[:2] == (0, [
+            "verified: version %d, targets 0" % version])
     trials.copied(own / "replaced", path)
     for version in (2, 3):
         status, out, err = with_service(program, path, vehicle)
@@ -327,14 +311,11 @@ def locked(program, own, small):
 AHEAD = {
     "Python": [
         sys.executable, "-c",
-        "import time; now = time.time; time.time = lambda: now() + 8 * 86400; " + PRIMARY
-    ],
+        "import time; now = time.time; time.time = lambda: now() + 8 * 86400; " + PRIMARY],
     "JavaScript": [
         "node", "--import",
         "data:text/javascript,const now = Date.now; Date.now = () => now() + 691200000",
-        *SMALL["JavaScript"][1:]
-    ],
-}
+        *SMALL["JavaScript"][1:]]}
 
 
 def strange(program, own, small):
@@ -347,12 +328,10 @@ def strange(program, own, small):
     status, out, err = with_service(program, path, vehicle)
     again, told = ["again with a new manifest: director timestamp has expired"
                    ], "primary: the service's replies stay old, or the clock is wrong"
-    yield "%s: a clock that is eight days ahead" % small, (status,
-                                                           out) == (1,
-                                                                    again) and err.startswith(told)
+    yield "%s: a clock that is eight days ahead" % small, (status, out) == (
+        1, again) and err.startswith(told)
     yield "%s: after two manifests the round ends" % small, trials.rows(path)["vehicle"] == [
-        ("VIN-1", "gw", 2, 2)
-    ] and vehicle.attack() != ""
+        ("VIN-1", "gw", 2, 2)] and vehicle.attack() != ""
     vehicle.words = SMALL[small]
     vehicle.file.write_text(json.dumps(first), encoding="ascii")
     with endless() as port:
@@ -403,33 +382,25 @@ def by_the_page(program, own, primary=None):
     (own / "bin").mkdir()
     (own / "bin" / "uptane_desk").symlink_to(program)
     if reference.METHOD == "ed25519":
-        page = page.replace("first_path/",
-                            "first_path_ed25519/").replace("primary/vehicle.json",
-                                                           "primary/ed25519/vehicle.json")
+        page = page.replace("first_path/", "first_path_ed25519/").replace(
+            "primary/vehicle.json", "primary/ed25519/vehicle.json")
     (own / "empty").mkdir()
     commands = "".join(re.findall(r"^    (.*\n)", page, re.MULTILINE)).replace(
         "8080", str(http_cases.free_port())).replace("sleep 1", "sleep 3")
     commands = commands.replace("python3 $REPO/examples/primary/primary.py",
                                 primary) if primary else commands
     found = os.environ | {
-        "PATH": "%s:%s" % (own / "bin", os.environ["PATH"]), "REPO": str(trials.TOP)
-    }
-    ran = subprocess.run(["bash", "-c", commands],
-                         cwd=own / "empty",
-                         env=found,
-                         capture_output=True,
-                         check=False,
-                         timeout=120)
+        "PATH": "%s:%s" % (own / "bin", os.environ["PATH"]), "REPO": str(trials.TOP)}
+    ran = subprocess.run(["bash", "-c", commands], cwd=own / "empty", env=found,
+                         capture_output=True, check=False, timeout=120)
     told = [
         line for line in ran.stdout.decode("ascii").splitlines() if not line.startswith("listening")
     ]
     first = [
         "done", "done", "reply V1 version 1 targets 0",
-        "trusted: root version 1 of both repositories", "verified: version 2, targets 0"
-    ]
+        "trusted: root version 1 of both repositories", "verified: version 2, targets 0"]
     second = [
-        "done", "done", "P1 installed gateway-1.bin", "verified: version 3, targets 1", "done"
-    ]
+        "done", "done", "P1 installed gateway-1.bin", "verified: version 3, targets 1", "done"]
     yield "the page's commands%s" % (" with `%s`" % primary if primary else
                                      ""), told == first + second and b"Traceback" not in ran.stderr
 
@@ -441,11 +412,8 @@ def words():
              (["check", "nowhere"], http_cases.REPLY, 1),
              (["round", "http://127.0.0.1:1", "nowhere"], b"", 1), (["walk"], b"", 2)]
     for given, text, status in tried:
-        ran = subprocess.run([sys.executable, "-c", PRIMARY, *given],
-                             input=text,
-                             capture_output=True,
-                             check=False,
-                             timeout=http_cases.PATIENCE)
+        ran = subprocess.run([sys.executable, "-c", PRIMARY, *given], input=text,
+                             capture_output=True, check=False, timeout=http_cases.PATIENCE)
         told = ran.stderr.decode("ascii")
         yield "the words " + given[0], ran.returncode == status and "Traceback" not in told and (
             status == 2 or told.count("\n") == 1)

@@ -25,12 +25,11 @@ from concurrent.futures import ThreadPoolExecutor
 from pathlib import Path
 
 from uptane_tools import arguments
-from uptane_tools.trial import http_cases
-from uptane_tools.trial import trials
+from uptane_tools.trial import http_cases, trials
 
 GIVEN = trials.TOP / "examples" / "service"
-MANIFEST, REPLY = ((trials.MESSAGES / name).read_bytes().strip()
-                   for name in ("manifest.json", "reply.json"))
+MANIFEST, REPLY = (
+    (trials.MESSAGES / name).read_bytes().strip() for name in ("manifest.json", "reply.json"))
 STRANGERS, AT_ONCE, ROUNDS, PATIENCE, SLOWEST, HUNDRED = 40, 300, 20, 60, 10, 100
 
 
@@ -48,8 +47,7 @@ class Proxy:
         path = self.own / (self.name + ".conf")
         path.write_text(text, "ascii")
         return ["nginx", "-p", str(self.own), "-c", str(path)] if self.name == "nginx" else [
-            "haproxy", "-db", "-f", str(path)
-        ]
+            "haproxy", "-db", "-f", str(path)]
 
     def changed(self, text):
         """The configuration with other addresses, paths and user."""
@@ -106,13 +104,11 @@ def certified(own):
         return False
     words = [
         "openssl", "req", "-x509", "-newkey", "rsa:2048", "-nodes", "-days", "2", "-subj",
-        "/CN=desk.example"
-    ]
+        "/CN=desk.example"]
     words += [
         "-addext", "subjectAltName=DNS:desk.example", "-keyout",
         str(own / "key.pem"), "-out",
-        str(own / "certificate.pem")
-    ]
+        str(own / "certificate.pem")]
     subprocess.run(words, check=True, capture_output=True)
     (own / "both.pem").write_bytes((own / "certificate.pem").read_bytes() +
                                    (own / "key.pem").read_bytes())
@@ -198,12 +194,8 @@ def passes(proxy, root):
         asked(proxy, *words) == [wanted] for *words, wanted in exchanges(root))
     kept = asked(proxy, "GET", "/image/root.json", times=5)
     yield name + ": a client keeps its connection", kept == 5 * [(200, root)]
-    chunks = asked(proxy,
-                   "POST",
-                   "/director/manifest",
-                   iter([MANIFEST[:100], MANIFEST[100:]]),
-                   encode_chunked=True,
-                   headers={"Transfer-Encoding": "chunked"})
+    chunks = asked(proxy, "POST", "/director/manifest", iter([MANIFEST[:100], MANIFEST[100:]]),
+                   encode_chunked=True, headers={"Transfer-Encoding": "chunked"})
     unchunked = {"nginx": (200, REPLY), "haproxy": (501, b'{"error":0,"text":"not implemented"}')}
     yield name + ": a body in chunks", chunks == [unchunked[name]]
     with Strangers(proxy) as strangers, ThreadPoolExecutor(8) as pool:
@@ -220,9 +212,9 @@ def passes(proxy, root):
         told = list(
             pool.map(lambda _: timed(proxy, "POST", "/director/manifest", MANIFEST),
                      range(AT_ONCE)))
-        print("%s: %d at once, the slowest took %.2f seconds" %
-              (name, AT_ONCE, max(after for _, after in told)),
-              flush=True)
+        print(
+            "%s: %d at once, the slowest took %.2f seconds" %
+            (name, AT_ONCE, max(after for _, after in told)), flush=True)
         yield name + ": many at once", all(came == [(200, REPLY)] for came, _ in told)
 
 
@@ -236,13 +228,10 @@ def limited(proxy):
     with ThreadPoolExecutor(8) as pool:
         told = [
             it for its in pool.map(lambda _: asked(proxy, "POST", target % "VIN-2", MANIFEST),
-                                   range(150)) for it in its
-        ]
+                                   range(150)) for it in its]
     answered = sum(it == (200, REPLY) for it in told)
     yield name + ": one that asks without end is told so", 20 <= answered <= 100 and {
-        status
-        for status, _ in told
-    } == {200, 429}
+        status for status, _ in told} == {200, 429}
     yield name + ": others are answered as before", asked(
         proxy, "POST", target % "VIN-3", MANIFEST) == asked(proxy, "POST", "/director/manifest",
                                                             MANIFEST) == [(200, REPLY)]
@@ -253,11 +242,9 @@ def listed(proxy, log):
     lines = (proxy.own / "access.log").read_text("ascii") if log is None else log()
     found = {
         it: set(re.findall(r"vehicle=%s .*status=(\d+)" % it, lines))
-        for it in ("VIN-1", "VIN-2", "VIN-3")
-    }
+        for it in ("VIN-1", "VIN-2", "VIN-3")}
     yield proxy.name + ": the log has each vehicle", found == {
-        "VIN-1": {"200"}, "VIN-2": {"200", "429"}, "VIN-3": {"200"}
-    } or print(found)
+        "VIN-1": {"200"}, "VIN-2": {"200", "429"}, "VIN-3": {"200"}} or print(found)
 
 
 @contextlib.contextmanager
@@ -300,13 +287,11 @@ def proxied(program, own, name, secret):
                 yield name + ": no service is the proxy's own answer", status == 502
             waits = [
                 pool.submit(asked, proxy, "GET", "/image/root.json")
-                for _ in range(10 if name == "haproxy" else 0)
-            ]
+                for _ in range(10 if name == "haproxy" else 0)]
             time.sleep(1)
             again = begun(up, words)
-            yield name + ": a service that is started again", asked(proxy, "GET",
-                                                                    "/image/root.json") == [(200,
-                                                                                             root)]
+            yield name + ": a service that is started again", asked(
+                proxy, "GET", "/image/root.json") == [(200, root)]
             yield from over_a_restart(proxy, pool, again, words, up, waits,
                                       root) if name == "haproxy" else ()
 
@@ -321,11 +306,10 @@ def begun(up, words):
 
 def over_a_restart(proxy, pool, running, words, up, waits, root):
     """While the service starts anew, requests wait in HAProxy's queue: none is refused."""
-    yield "haproxy: ten that came before it was there", all(it.result() == [(200, root)]
-                                                            for it in waits)
+    yield "haproxy: ten that came before it was there", all(
+        it.result() == [(200, root)] for it in waits)
     sent = [
-        pool.submit(asked, proxy, "POST", "/director/manifest", MANIFEST) for _ in range(HUNDRED)
-    ]
+        pool.submit(asked, proxy, "POST", "/director/manifest", MANIFEST) for _ in range(HUNDRED)]
     while not any(it.done() for it in sent):
         time.sleep(0.001)
     running.kill()
@@ -351,10 +335,7 @@ def units(program, own):
         names.append(own / path.name.replace("@.", "@1."))
         names[-1].write_text(text.replace("/usr/lib/uptane_desk/", str(GIVEN) + "/"), "ascii")
     ran = subprocess.run(["systemd-analyze", "verify", "--man=no", *map(str, names)],
-                         capture_output=True,
-                         text=True,
-                         check=False,
-                         timeout=60)
+                         capture_output=True, text=True, check=False, timeout=60)
     own_lines = [line for line in ran.stderr.splitlines() if "uptane-desk" in line]
     print("".join(line + "\n" for line in own_lines), end="")
     yield "systemd verifies the units", len(names) == 11 and ran.returncode == 0 and not own_lines
@@ -365,8 +346,7 @@ def shells():
     yield "a shell reads the scripts", len(scripts) == 6 and all(
         subprocess.run(["sh", "-n", str(it)], check=False).returncode == 0 for it in scripts)
     if shutil.which("shellcheck"):
-        ran = subprocess.run(["shellcheck", "-s", "sh", *map(str, scripts)],
-                             capture_output=True,
+        ran = subprocess.run(["shellcheck", "-s", "sh", *map(str, scripts)], capture_output=True,
                              check=False)
         print(ran.stdout.decode("utf-8"), end="")
         yield "shellcheck finds nothing in them", ran.returncode == 0

@@ -20,12 +20,8 @@ from concurrent.futures import ThreadPoolExecutor
 from pathlib import Path
 
 from uptane_tools import arguments
-from uptane_tools.measure import fleet
-from uptane_tools.trial import http_cases
-from uptane_tools.measure import http_fleet
-from uptane_tools.trial import proxy_cases
-from uptane_tools.measure import speed
-from uptane_tools.trial import trials
+from uptane_tools.measure import fleet, http_fleet, speed
+from uptane_tools.trial import http_cases, proxy_cases, trials
 
 DESKS, MORE = 4, 6
 SEVERAL = trials.TOP / "examples" / "service" / "several"
@@ -50,11 +46,9 @@ class Desks:
 
     def answer(self, desk):
         """Gives a desk its script, and keeps its answers."""
-        with open(self.folder / ("desk%d.script" % desk),
-                  "rb") as given, open(self.folder / ("desk%d.answers" % desk), "wb") as told:
-            return subprocess.run([self.program, "run", self.path(desk)],
-                                  stdin=given,
-                                  stdout=told,
+        with open(self.folder / ("desk%d.script" % desk), "rb") as given, open(
+                self.folder / ("desk%d.answers" % desk), "wb") as told:
+            return subprocess.run([self.program, "run", self.path(desk)], stdin=given, stdout=told,
                                   check=False).returncode == 0
 
     def ran(self, script, desks):
@@ -93,25 +87,21 @@ def scripts(program, own):
     rows, one = desks.rows(), trials.rows(own / "one")
     yield "vehicles, ECUs and kept replies are those of one desk", all(
         united(rows, table) == one[table] for table in BY_VEHICLE)
-    yield "so are keys, files and images, at each", all(it[table] == one[table] for table in FOR_ALL
-                                                        for it in rows)
+    yield "so are keys, files and images, at each", all(
+        it[table] == one[table] for table in FOR_ALL for it in rows)
     load = [len(it["vehicle"]) for it in rows]
     yield "each has its share of the vehicles", max(load[:DESKS]) - min(load[:DESKS]) <= 1 and sum(
         load) == 30
     modes = {
-        path.name: path.stat().st_mode & 0o777
-        for path in desks.folder.iterdir() if not path.name.endswith(".answers")
-    }
+        path.name: path.stat().st_mode & 0o777 for path in desks.folder.iterdir()
+        if not path.name.endswith(".answers")}
     yield "what is kept is its owner's alone", set(modes) == {
-        "division.json", "every.script", "vehicles.map"
-    } and set(modes.values()) == {0o600}
+        "division.json", "every.script", "vehicles.map"} and set(modes.values()) == {0o600}
     yield from afterwards(program, own, desks, lines)
 
 
 def vehicle(name, *ecus):
-    return fleet.line("add_vehicle",
-                      vehicle=name,
-                      primary=ecus[0],
+    return fleet.line("add_vehicle", vehicle=name, primary=ecus[0],
                       ecus=[{"ecu": ecu, "hardware": "HP", "key": fleet.key(9)} for ecu in ecus])
 
 
@@ -136,8 +126,7 @@ def afterwards(program, own, desks, lines):
         campaign("few", [first]),
         campaign("few", [first]),
         campaign("every", "all"),
-        fleet.line("close_campaign", campaign="none")
-    ]
+        fleet.line("close_campaign", campaign="none")]
     wanted = trials.printed(program, own / "one", told)
     yield "names that are taken at another desk", desks.ran(told,
                                                             MORE) == wanted and len(set(wanted)) > 6
@@ -148,31 +137,24 @@ def afterwards(program, own, desks, lines):
         fleet.line("close_campaign", campaign="few"),
         fleet.line("close_campaign", campaign="few"),
         fleet.line("close_campaign", campaign="every"),
-        campaign("few", [first]), lines[0]
-    ]
+        campaign("few", [first]), lines[0]]
     wanted = trials.printed(program, own / "one", told)
     yield "and campaigns", desks.ran(told, MORE) == wanted and len(set(wanted)) == 4
     before = {path.name: path.read_bytes() for path in desks.folder.iterdir()}
-    cannot = [([campaign("x", [first]), campaign("x", [second])], MORE,
-               "line 2: the campaign x stands twice, with other members"),
+    cannot = [([campaign("x", [first]), campaign(
+        "x", [second])], MORE, "line 2: the campaign x stands twice, with other members"),
               ([campaign("x", ["nobody"])], MORE, "line 1: nobody is at no desk"),
               (["nope", campaign("x", ["nobody"])], MORE, "line 2: nobody is at no desk"),
               ([
-                  fleet.line("replace_ecu",
-                             vehicle=first,
-                             old=first + "-e1",
-                             ecu=second + "-e0",
-                             hardware="HP",
-                             key=fleet.key(9))
-              ], MORE, "line 1: %s-e0 is an ECU's name at desk 2" % second),
+                  fleet.line("replace_ecu", vehicle=first, old=first + "-e1", ecu=second + "-e0",
+                             hardware="HP", key=fleet.key(9))], MORE,
+               "line 1: %s-e0 is an ECU's name at desk 2" % second),
               ([], DESKS, "4 desks: there were 6, and 64 are the most")]
     yield "what can't be divided", all(
         desks.split(script, number) == (1, [], "divide_script: %s\n" % words)
         for script, number, words in cannot)
     yield "and nothing is written then", {
-        path.name: path.read_bytes()
-        for path in desks.folder.iterdir()
-    } == before
+        path.name: path.read_bytes() for path in desks.folder.iterdir()} == before
     desks.split([lines[0]], MORE)
     yield "two scripts at once", desks.split([lines[0]], MORE)[0] == 1
     well = all(map(desks.answer, range(1, MORE + 1)))
@@ -209,23 +191,20 @@ def all_served(program, paths, count):
 def requests(program, own):
     lines, bodies = http_fleet.day(160)
     desks = Desks(program, own)
-    yield "a fleet at four desks", desks.ran(lines,
-                                             DESKS) == trials.printed(program, own / "one", lines)
+    yield "a fleet at four desks", desks.ran(lines, DESKS) == trials.printed(
+        program, own / "one", lines)
     home, paths = desks.vehicles(), [desks.path(desk) for desk in range(1, DESKS + 1)]
     with all_served(program, paths, 10_000) as running:
         told = [posted(running[home[http_fleet.named(body)[0]] - 1].port, body) for body in bodies]
         yield from proxied(own, desks, [it.port for it in running], bodies, dict(zip(bodies, told)))
     kept, moments = ({
-        key: value
-        for path in paths for key, value in http_fleet.kept(path, what).items()
-    } for what in ("reply", "moment"))
+        key: value for path in paths for key, value in http_fleet.kept(path, what).items()}
+                     for what in ("reply", "moment"))
     yield "each is answered by its kept reply", told == [
-        (200, kept[http_fleet.named(body)].encode()) for body in bodies
-    ]
+        (200, kept[http_fleet.named(body)].encode()) for body in bodies]
     again = [
         fleet.line("deliver", moments[http_fleet.named(body)], body=body.decode("ascii"))
-        for body in bodies
-    ]
+        for body in bodies]
     yield "the same at one desk", trials.printed(
         program, own / "one", again) is not None and http_fleet.kept(own / "one", "reply") == kept
     yield "leaves the same rows of every vehicle", all(
@@ -247,8 +226,7 @@ class Before(proxy_cases.Proxy):
         (self.own / "vehicles.map").write_text(listed, "ascii")
         (self.own / "vehicles.nginx").write_text(listed.replace("\n", ";\n"), "ascii")
         return ["nginx", "-p", str(self.own), "-c", str(path)] if self.name == "nginx" else [
-            "haproxy", "-db", "-f", str(path)
-        ]
+            "haproxy", "-db", "-f", str(path)]
 
     def changed(self, text):
         for number, port in enumerate(self.ports, 1):
@@ -279,16 +257,14 @@ def proxied(own, desks, ports, bodies, told):
         with proxy.running(), ThreadPoolExecutor(8) as pool:
 
             def send(body):
-                return proxy_cases.asked(proxy, "POST",
-                                         "/%s/director/manifest" % http_fleet.named(body)[0],
-                                         body)[0]
+                return proxy_cases.asked(
+                    proxy, "POST", "/%s/director/manifest" % http_fleet.named(body)[0], body)[0]
 
-            yield name + ": each manifest comes to its desk", list(pool.map(
-                send, bodies)) == [told[body] for body in bodies]
+            yield name + ": each manifest comes to its desk", list(pool.map(send, bodies)) == [
+                told[body] for body in bodies]
             files = {
                 proxy_cases.asked(proxy, "GET", "/%s/director/root.json?a=%%2F" % it)[0]
-                for it in home
-            }
+                for it in home}
             yield name + ": so does a request for a file", files == {(200, root)}
             stranger = json.loads(bodies[0])
             stranger["signed"]["vehicle"] = "nobody"
@@ -296,11 +272,9 @@ def proxied(own, desks, ports, bodies, told):
                 proxy, "POST", "/nobody/director/manifest", json.dumps(stranger))[0] == UNKNOWN
             bare = [
                 proxy_cases.asked(proxy, "GET", target)[0]
-                for target in ("/director/root.json", "/", "/v000000")
-            ]
+                for target in ("/director/root.json", "/", "/v000000")]
             yield name + ": an address without a vehicle", bare == 3 * [
-                (404, b'{"error":0,"text":"not found"}')
-            ]
+                (404, b'{"error":0,"text":"not found"}')]
 
 
 # ---- measures
@@ -321,8 +295,7 @@ def filled(program, own, many, vehicles, ecus):
         mine = {"v%06d" % at for at in range(vehicles) if at % many == desk} | {"other"}
         lines = [
             it for it in speed.prepared(vehicles, 10, 10, ecus)
-            if '"add_vehicle"' not in it or json.loads(it)["vehicle"] in mine
-        ]
+            if '"add_vehicle"' not in it or json.loads(it)["vehicle"] in mine]
         assert set(trials.printed(program, path, lines, 600)) == {"done"}
     return paths
 
@@ -351,9 +324,9 @@ def measure(program):
     with trials.folder() as own:
         for ecus in (1, 4):
             one, four = (rate(program, own, many, ecus, 8000) for many in (1, 4))
-            print("| manifests a second, of %d ECUs | %d | %d | %.2f |" %
-                  (ecus, one, four, four / one),
-                  flush=True)
+            print(
+                "| manifests a second, of %d ECUs | %d | %d | %.2f |" %
+                (ecus, one, four, four / one), flush=True)
             for path in own.glob("of*"):
                 path.unlink()
         kept = 20_000
@@ -362,14 +335,13 @@ def measure(program):
             for desk, path in enumerate(paths):
                 part = [
                     it for at, it in enumerate(speed.manifests(400, kept, 1, 4))
-                    if at % 400 % many == desk
-                ]
+                    if at % 400 % many == desk]
                 assert trials.printed(program, path, part, 3600) is not None
             took, memory = listening(program, paths)
             sizes = [os.stat(path).st_size >> 20 for path in paths]
-            print("| %d kept replies of 4 ECUs, at %d desks | %s MB | %.2f s | %s MB |" %
-                  (kept, many, sizes, took, memory),
-                  flush=True)
+            print(
+                "| %d kept replies of 4 ECUs, at %d desks | %s MB | %.2f s | %s MB |" %
+                (kept, many, sizes, took, memory), flush=True)
 
 
 def cases(program):

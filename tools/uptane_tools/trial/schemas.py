@@ -5,8 +5,8 @@ import sqlite3
 from contextlib import closing
 
 from uptane_tools.operate import page_sums
-from uptane_tools.trial import trials
 from uptane_tools.operate.statements import LACKS, SCHEMA, made
+from uptane_tools.trial import trials
 
 
 def described(db):
@@ -15,12 +15,12 @@ def described(db):
     listed = ("SELECT name, strict FROM pragma_table_list WHERE schema = 'main' AND name <> "
               "'sqlite_schema'")
     for table, strict in db.execute(listed):
-        indexes = sorted(
-            (row[2:4], tuple(db.execute("SELECT name FROM pragma_index_info(?)", row[1:2])))
-            for row in db.execute("PRAGMA index_list(%s)" % table))
+        indexes = sorted((row[2:4],
+                          tuple(db.execute("SELECT name FROM pragma_index_info(?)", row[1:2])))
+                         for row in db.execute("PRAGMA index_list(%s)" % table))
         columns = db.execute("PRAGMA table_info(%s)" % table).fetchall()
-        found[table] = strict, columns, indexes, db.execute("PRAGMA foreign_key_list(%s)" %
-                                                            table).fetchall()
+        found[table] = strict, columns, indexes, db.execute(
+            "PRAGMA foreign_key_list(%s)" % table).fetchall()
     return found
 
 
@@ -60,8 +60,7 @@ def rows(path):
         there = [table for table in trials.TABLES if table not in LACKS[found]]
         told = {
             table: sorted(map(tuple, db.execute("SELECT * FROM " + table)), key=repr)
-            for table in there
-        }
+            for table in there}
         told["meta"] = [(*told["meta"][0][:2], SCHEMA, *told["meta"][0][3:])]
         return {table: told.get(table, []) for table in trials.TABLES}
 

@@ -24,11 +24,9 @@ import subprocess
 from contextlib import closing
 
 from uptane_tools import arguments
-from uptane_tools.trial import each_line
-from uptane_tools.oracle import reference
-from uptane_tools.trial import schemas
 from uptane_tools.operate import statements
-from uptane_tools.trial import trials
+from uptane_tools.oracle import reference
+from uptane_tools.trial import each_line, schemas, trials
 
 CALLS = ["pwrite64", "fdatasync", "fsync", "ftruncate", "pread64"]
 KILLED, FAILING, FAILED = "signal=KILL:when=%d", "error=EIO:when=%d+", "error=EIO:when=%d"
@@ -46,8 +44,7 @@ def made(program, path, lines, inject=None):
     if inject:
         words = [
             "strace", "-qq", "-o", "/dev/null", "-e", "trace=" + ",".join(CALLS), "-e",
-            "inject=" + inject, *words
-        ]
+            "inject=" + inject, *words]
     given = "".join(line + "\n" for line in lines).encode()
     ran = subprocess.run(words, input=given, capture_output=True, check=False, timeout=120)
     return ran.returncode, ran.stdout.decode("ascii").split("\n")[:-1], ran.stderr.decode(
@@ -94,16 +91,15 @@ class Run:
                     before.backup(db)
             desk = reference.Desk(db)
             answers = [
-                desk.answer(line.encode()) for i, line in enumerate(self.lines) if i not in lost
-            ]
+                desk.answer(line.encode()) for i, line in enumerate(self.lines) if i not in lost]
             return answers, trials.rows_in(db)
 
     def is_left(self, path, answered):
         """Whether a file of an older schema is as a stop may leave it after so many answers."""
         if not self.begun:
             return True
-        is_either = schemas.schema_of(path) in ([self.number]
-                                                if not answered else []) + [statements.SCHEMA]
+        is_either = schemas.schema_of(path) in ([self.number] if not answered else []) + [
+            statements.SCHEMA]
         return is_either and schemas.rows(path) in self.states[answered:answered + 2]
 
     def stopped(self, inject):
@@ -138,8 +134,8 @@ class Run:
         if answers != [answer for answer in printed if answer not in LOST]:
             return False
         left = trials.rows(path)
-        return left == tables or any(left == self.ruled([i for i in lost if i != one])[1]
-                                     for one in lost)
+        return left == tables or any(
+            left == self.ruled([i for i in lost if i != one])[1] for one in lost)
 
 
 def swept(run, call):

@@ -28,8 +28,8 @@ def by_pytest(pattern: str) -> tuple[int, int]:
     """How many passed and failed."""
     counts = Counts()
     words = ["--quiet", "--rootdir", str(TOP / "tools"), "-p", "no:cacheprovider"]
-    importlib.import_module("pytest").main([*words, *map(str, FOLDER.glob(pattern))],
-                                           plugins=[counts])
+    importlib.import_module("pytest").main([*words, *map(str, FOLDER.glob(pattern))], plugins=[
+        counts])
     return counts.passed, counts.failed
 
 

@@ -40,26 +40,19 @@ WORD = re.compile(r"[A-Za-z_]\w*(?:\.[A-Za-z_]\w*)*")
 PARTS = {
     "up_desk": "runs of a desk: answers, repeats, crashes",
     "up_machine": "the plain machine: state, decisions, replies, lists with repeats",
-    "up_plan": "plans",
-    "up_metadata": "keys, and the files that they sign",
-    "up_roles": "role files",
-    "up_manifest": "manifests and reports",
+    "up_plan": "plans", "up_metadata": "keys, and the files that they sign",
+    "up_roles": "role files", "up_manifest": "manifests and reports",
     "up_sign": "schemes, envelopes, thresholds",
-    "up_canon": "canonical text, names, moments, refusals",
-    "up_store": "which state tables show",
-    "up_rows": "the rows of a state",
-    "up_columns": "lists in columns",
+    "up_canon": "canonical text, names, moments, refusals", "up_store": "which state tables show",
+    "up_rows": "the rows of a state", "up_columns": "lists in columns",
     "up_tables": "the tables, and what their statements make",
-    "up_records": "what tables show to a desk, and its cache",
-}
+    "up_records": "what tables show to a desk, and its cache"}
 
 
 def without_comments(text):
     # (lines of a comment first: without its words such a line would be an empty one, at which a
     # record is cut)
-    return re.sub(r"[ \t]+--(?: .*)?$",
-                  "",
-                  re.sub(r"^[ \t]*--.*\n", "", text, flags=re.MULTILINE),
+    return re.sub(r"[ \t]+--(?: .*)?$", "", re.sub(r"^[ \t]*--.*\n", "", text, flags=re.MULTILINE),
                   flags=re.MULTILINE)
 
 
@@ -94,8 +87,8 @@ def quoted(kind, file, name):
         text, name) if file.endswith(".rt") else definition_of(text, name)
     if not found:
         sys.exit("theorem: %s has no %s" % (file, name))
-    return "".join("    " + line if line.strip() else line
-                   for line in found.splitlines(keepends=True))
+    return "".join(
+        "    " + line if line.strip() else line for line in found.splitlines(keepends=True))
 
 
 # ---- what the statement leads to
@@ -222,24 +215,17 @@ def table():
     lines += [
         "| %s | `%s` | %s |" % (PARTS.get(crate, ""), crate, " | ".join("{:,}".format(it)
                                                                         for it in row))
-        for crate, row in rows.items()
-    ]
+        for crate, row in rows.items()]
     return "\n".join(lines + ["| all | | %s |" % " | ".join("{:,}".format(it)
                                                             for it in total)]) + "\n"
 
 
 # ---- the kit
 
-FAMILIES = [
-    ("Rust's libraries", r"core|std|std_\w+|io"),
-    ("the system's calls", r"libc|os"),
-    ("JSON", r"json|serde|serde_json|ryu|itoa|fast_float|simdutf8"),
-    ("times", r"jiff\w*"),
-    ("hashes and text", r"sha2|hex|memchr|arrayvec|slab|bytes"),
-    ("HTTP", r"httparse|http\w*|matchit"),
-    ("SQLite", r"sqlite\w*"),
-    ("other", r".*"),
-]
+FAMILIES = [("Rust's libraries", r"core|std|std_\w+|io"), ("the system's calls", r"libc|os"),
+            ("JSON", r"json|serde|serde_json|ryu|itoa|fast_float|simdutf8"), ("times", r"jiff\w*"),
+            ("hashes and text", r"sha2|hex|memchr|arrayvec|slab|bytes"),
+            ("HTTP", r"httparse|http\w*|matchit"), ("SQLite", r"sqlite\w*"), ("other", r".*")]
 
 
 def kit_crates(kit):
@@ -247,8 +233,7 @@ def kit_crates(kit):
     program = (TOP / "crates.txt").read_text(encoding="utf-8").split("\n#")[0]
     waiting = ["core", "std"] + [
         it for it in re.findall(r"\b[a-z]\w*\b", re.sub(r"(?m)^.*?:", "", program))
-        if not it.startswith("up")
-    ]
+        if not it.startswith("up")]
     found = set()
     while waiting:
         name = waiting.pop()
@@ -269,15 +254,13 @@ def foreign(folder):
     blocks = [
         block for path in folder.glob("src/**/*.rt")
         for block in re.findall(r'extern "C" \{(.*?)^\}', path.read_text(
-            encoding="utf-8"), re.DOTALL | re.MULTILINE)
-    ]
+            encoding="utf-8"), re.DOTALL | re.MULTILINE)]
     return sum(len(re.findall(r"\bfn \w+", block)) for block in blocks)
 
 
 def kit_table(kit):
     left, lines = kit_crates(kit), [
-        "| For | Crates | Code | Statements | Proofs | Calls of C |", "|---|---|---|---|---|---|"
-    ]
+        "| For | Crates | Code | Statements | Proofs | Calls of C |", "|---|---|---|---|---|---|"]
     for words, pattern in FAMILIES:
         of = [it for it in left if re.fullmatch(pattern, it)]
         left = [it for it in left if it not in of]
@@ -286,12 +269,10 @@ def kit_table(kit):
             sum(map(count, folders))
             for count in (lambda it: lines_of(it, "src/**/*.rt"),
                           lambda it: lines_of(it, "specs/**/*.antt"),
-                          lambda it: lines_of(it, "proofs/**/*.antt"), foreign)
-        ]
+                          lambda it: lines_of(it, "proofs/**/*.antt"), foreign)]
         if of:
-            lines.append("| %s | %s | %s |" %
-                         (words, ", ".join("`%s`" % it for it in of), " | ".join("{:,}".format(it)
-                                                                                 for it in counts)))
+            lines.append("| %s | %s | %s |" % (words, ", ".join(
+                "`%s`" % it for it in of), " | ".join("{:,}".format(it) for it in counts)))
     return "\n".join(lines) + "\n"
 
 
@@ -320,8 +301,8 @@ def pages():
 
 def cases():
     text = PAGE.read_text(encoding="utf-8")
-    yield "the page quotes the headline", HEADLINE in [(file, name)
-                                                       for _, file, name, _ in QUOTE.findall(text)]
+    yield "the page quotes the headline", HEADLINE in [
+        (file, name) for _, file, name, _ in QUOTE.findall(text)]
     for page in pages():
         for kind, file, name, shown in QUOTE.findall(page.read_text(encoding="utf-8")):
             yield "%s: %s of %s" % (page.relative_to(TOP), name, file), shown == quoted(

@@ -19,13 +19,8 @@ from contextlib import closing
 
 from uptane_tools import arguments
 from uptane_tools.measure import fleet
-from uptane_tools.trial import http_cases
-from uptane_tools.oracle import make_vectors
-from uptane_tools.oracle import reference
-from uptane_tools.oracle import schemes
-from uptane_tools.trial import small_primary
-from uptane_tools.trial import trials
-from uptane_tools.oracle import vector_fleet
+from uptane_tools.oracle import make_vectors, reference, schemes, vector_fleet
+from uptane_tools.trial import http_cases, small_primary, trials
 
 PRIMARY = trials.TOP / "examples" / "primary"
 envelopes, verify, primary = small_primary.modules()
@@ -76,15 +71,14 @@ def under(method):
     envelopes.use({"method": method})
     scheme, told = envelopes.SCHEMES[method], vectors("signatures", method)
     for case in told["signatures"]:
-        secret, public, data, sig = (bytes.fromhex(case[it])
-                                     for it in ("secret", "public", "data", "sig"))
+        secret, public, data, sig = (
+            bytes.fromhex(case[it]) for it in ("secret", "public", "data", "sig"))
         well = (scheme.public_of(secret), scheme.sign(
             secret, data)) == (public, sig) and scheme.verify(public, data, sig)
         yield "signature: %(name)s" % case, well
     for case in told.get("encodings", []):
-        yield "encoding: %(name)s" % case, scheme.verify(*(bytes.fromhex(case[it])
-                                                           for it in ("public", "data",
-                                                                      "sig"))) == case["verified"]
+        yield "encoding: %(name)s" % case, scheme.verify(
+            *(bytes.fromhex(case[it]) for it in ("public", "data", "sig"))) == case["verified"]
     for case in told["envelopes"]:
         if "refused" not in case:
             signed = envelopes.is_signed_by(json.loads(case["envelope"]),
@@ -95,10 +89,8 @@ def under(method):
     yield "a change of the repository between two requests", begins_again(told)
     if told["vehicle"]["role_keys"]:
         first = {
-            name: key
-            for name, key in told["vehicle"]["role_keys"].items()
-            if name in told["files of update"]["director/1.root.json"]
-        }
+            name: key for name, key in told["vehicle"]["role_keys"].items()
+            if name in told["files of update"]["director/1.root.json"]}
         lacks = told | {"vehicle": told["vehicle"] | {"role_keys": first}}
         yield "a Root whose keys the vehicle hasn't", verdict_of(
             SMALL, lacks, {"base": "rotation"})[0] == "refused"
@@ -129,8 +121,7 @@ def by_node():
     """Whether the small Primary in JavaScript answers all of them."""
     if shutil.which("node"):
         words = [
-            "node", trials.TOP / "examples" / "primary_node" / "primary.mjs", "vectors", FOLDER
-        ]
+            "node", trials.TOP / "examples" / "primary_node" / "primary.mjs", "vectors", FOLDER]
         ran = subprocess.run(words, capture_output=True, check=False, timeout=http_cases.PATIENCE)
         counts = re.fullmatch(rb"([0-9]+) passed, 0 failed\n", ran.stdout)
         yield "the small Primary in JavaScript", ran.returncode == 0 and not ran.stderr and bool(
@@ -167,8 +158,7 @@ def chain_is_answered(small, told, case):
     none = dict.fromkeys(("timestamp", "snapshot", "targets"), 0)
     states = {
         it: {"root": known[it]["root"]["signed"]["version"]} | none | known[it]["versions"]
-        for it in case["state"]
-    }
+        for it in case["state"]}
     return (verdict, due) == wanted and states == case["state"]
 
 
@@ -181,10 +171,9 @@ def vehicle_of(small, told, case, files):
         ecu["hardware"] = case.get("hardware", {}).get(name, ecu["hardware"])
         ecu["ecu"] = renamed.get(name, name)
     trust = {
-        it:
-        {"root": files(it + "/1.root.json"), "versions": dict(case.get("trusted", {}).get(it, {}))}
-        for it in reference.REPOSITORIES
-    }
+        it: {
+            "root": files(it + "/1.root.json"), "versions": dict(
+                case.get("trusted", {}).get(it, {}))} for it in reference.REPOSITORIES}
     return {"vehicle": told["vehicle"]["vehicle"], "ecus": ecus, "replaced": [*renamed]} | trust
 
 
@@ -250,11 +239,9 @@ def identifiers(program):
 
     roles = {it: role(vector_fleet.key(0x70 + at)) for at, it in enumerate(reference.ROLES)}
     lines = [
-        fleet.line("found",
-                   director=roles | {"root": role(*(case["public"] for case in keys))},
+        fleet.line("found", director=roles | {"root": role(*(case["public"] for case in keys))},
                    image=roles),
-        fleet.line("fetch", repository="director", file="root.json")
-    ]
+        fleet.line("fetch", repository="director", file="root.json")]
     printed = trials.printed(program, ":memory:", lines) or ["", "file null"]
     root = json.loads(printed[1].removeprefix("file ")) or {}
     yield "the program: key identifiers", bool(
@@ -263,12 +250,10 @@ def identifiers(program):
 
 def signatures(program):
     told = vectors("signatures", METHOD)
-    printed = trials.printed(
-        program, ":memory:",
-        [*told["setup"], *(delivered(case["envelope"]) for case in told["envelopes"])]) or []
-    for case, line in zip(told["envelopes"],
-                          printed[len(told["setup"]):] or len(told["envelopes"]) * [None],
-                          strict=True):
+    printed = trials.printed(program, ":memory:", [
+        *told["setup"], *(delivered(case["envelope"]) for case in told["envelopes"])]) or []
+    for case, line in zip(told["envelopes"], printed[len(told["setup"]):]
+                          or len(told["envelopes"]) * [None], strict=True):
         wanted = "reply VIN-2 version 1 targets 0" if case.get(
             "signed_by_the_key") else "refused 12 BadManifestSignature"
         yield "the program: envelope: %(name)s" % case, line == ("refused 7 " + case["refused"]
@@ -281,12 +266,10 @@ def body_of(case):
 
 def manifests(program, own):
     told = vectors("manifests", METHOD)
-    printed = trials.printed(
-        program, ":memory:",
-        [*told["setup"], *(delivered(body_of(case)) for case in told["cases"])]) or []
-    for case, line in zip(told["cases"],
-                          printed[len(told["setup"]):] or len(told["cases"]) * [None],
-                          strict=True):
+    printed = trials.printed(program, ":memory:", [
+        *told["setup"], *(delivered(body_of(case)) for case in told["cases"])]) or []
+    for case, line in zip(told["cases"], printed[len(told["setup"]):]
+                          or len(told["cases"]) * [None], strict=True):
         yield "the program: manifest: %(name)s" % case, line == case["printed"]
     trials.printed(program, own / "desk", told["setup"])
     with http_cases.served(program, own / "desk", len(told["cases"])) as running:
@@ -336,14 +319,13 @@ def bases(program, own):
         path, files = own / base, dict(told["files of " + base])
         printed = trials.printed(program, path, told["lines of " + base])
         reply, names = files.pop("reply"), [name.split("/") for name in files]
-        fetched = trials.printed(
-            program, path,
-            [fleet.line("fetch", repository=repository, file=name) for repository, name in names])
+        fetched = trials.printed(program, path, [
+            fleet.line("fetch", repository=repository, file=name) for repository, name in names])
         with trials.read(path) as db:
             kept = db.execute(
                 "SELECT reply FROM kept WHERE vehicle = 'VIN-1' ORDER BY version DESC").fetchone()
-        well = printed is not None and fetched == ["file " + text
-                                                   for text in files.values()] and kept == (reply, )
+        well = printed is not None and fetched == ["file " + text for text in files.values()
+                                                   ] and kept == (reply, )
         yield "the program: the files and the reply of the base %s" % base, well
 
 

@@ -62,14 +62,12 @@ def image(kind, release):
     name = "%s/%d.bin" % (kind.lower(), release)
     return {
         "file": name, "length": 1000 + release, "sha256": fleet.digest(name), "hardware": [kind],
-        "release": release
-    }
+        "release": release}
 
 
 CONTENT = {
-    image(kind, release)["file"]: fleet.content(image(kind, release))
-    for kind in KINDS for release in (1, 2, 3)
-}
+    image(kind, release)["file"]: fleet.content(image(kind, release)) for kind in KINDS
+    for release in (1, 2, 3)}
 
 
 class Vehicle:
@@ -84,17 +82,14 @@ class Vehicle:
         self.counter = self.verified = self.refused = 0
         self.hour = rng.choices(range(24),
                                 weights=[1] * 6 + [6] * 4 + [3] * 6 + [8] * 4 + [2] * 4)[0]
-        self.is_silent, self.is_stubborn, self.is_twice = (rng.random() < share
-                                                           for share in (SILENT, STUBBORN, TWICE))
+        self.is_silent, self.is_stubborn, self.is_twice = (
+            rng.random() < share for share in (SILENT, STUBBORN, TWICE))
         self.attack = "a counter went back" if number % 2500 == 7 else ""
         self.pending = None
 
     def line(self):
         ecus = [{"ecu": ecu, "hardware": kind, "key": self.key} for ecu, kind in self.ecus]
-        return fleet.line("add_vehicle",
-                          START,
-                          vehicle=self.name,
-                          primary=self.ecus[0][0],
+        return fleet.line("add_vehicle", START, vehicle=self.name, primary=self.ecus[0][0],
                           ecus=ecus)
 
     def manifest(self, now):
@@ -104,12 +99,10 @@ class Vehicle:
             report = {"key": self.key, "counter": self.counter, "time": now}
             reports = [
                 report | {"ecu": ecu, "attack": self.attack if kind == "BRAKE" else ""}
-                | CONTENT[self.installed[kind]] for ecu, kind in self.ecus
-            ]
+                | CONTENT[self.installed[kind]] for ecu, kind in self.ecus]
             self.pending = fleet.body({
-                "vehicle": self.name, "primary": self.ecus[0][0], "key": self.key, "counter":
-                self.counter, "reports": reports
-            })
+                "vehicle": self.name, "primary": self.ecus[0][0], "key": self.key,
+                "counter": self.counter, "reports": reports})
         return self.pending
 
     def takes(self, reply):
@@ -122,8 +115,8 @@ class Vehicle:
             return False
         self.verified = reply["version"]
         for target in reply["targets"]["signed"]["targets"] if not self.is_stubborn else []:
-            self.installed[next(kind for ecu, kind in self.ecus
-                                if ecu == target["ecu"])] = target["file"]
+            self.installed[next(
+                kind for ecu, kind in self.ecus if ecu == target["ecu"])] = target["file"]
         return True
 
 
@@ -140,9 +133,7 @@ class Week(upkeep_cases.Service):
         subprocess.run([
             "cc", "-shared", "-fPIC", "-O1", "-o",
             str(self.library),
-            str(Path(__file__).resolve().parent / "fast_clock.c")
-        ],
-                       check=True)
+            str(Path(__file__).resolve().parent / "fast_clock.c")], check=True)
         self.set_clock(START)
         self.env |= {"LD_PRELOAD": str(self.library), "CLOCK_FILE": str(self.clock)}
         self.vehicles = [Vehicle(number, self.rng) for number in range(vehicles)]
@@ -165,33 +156,27 @@ class Week(upkeep_cases.Service):
     def found(self):
         lines = [
             fleet.line("found", START, **fleet.key_set(1)),
-            *(fleet.line("add_image", START, **image(kind, 1)) for kind in KINDS)
-        ]
+            *(fleet.line("add_image", START, **image(kind, 1)) for kind in KINDS)]
         lines += [it.line() for it in self.vehicles]
-        upkeep_cases.tool("divide_script",
-                          self.own / "division",
-                          "--desks",
-                          DESKS,
-                          input="".join(line + "\n" for line in lines),
-                          env=self.env)
+        upkeep_cases.tool("divide_script", self.own / "division", "--desks", DESKS,
+                          input="".join(line + "\n" for line in lines), env=self.env)
         scripts = {
             name:
             (self.own / "division" / ("desk%s.script" % name)).read_text("ascii").splitlines()
-            for name in self.names
-        }
+            for name in self.names}
         with ThreadPoolExecutor(DESKS) as pool:
             answered = pool.map(
                 lambda name: trials.run(self.program, self.file(name), scripts[name], 3600)[1],
                 self.names)
         for name, told in zip(self.names, answered):
             own, answers = scripts[name], told.decode("ascii").splitlines()
-            (self.own / "division" / ("desk%s.answers" % name)).write_text("".join(
-                it + "\n" for it in answers),
-                                                                           encoding="ascii")
+            (self.own / "division" / ("desk%s.answers" % name)).write_text(
+                "".join(it + "\n" for it in answers), encoding="ascii")
             self.log[name].append(("script", list(zip(own, answers))))
         joined = upkeep_cases.tool("divide_script", self.own / "division", "--join", env=self.env)
-        self.home = dict(line.split() for line in (self.own / "division" /
-                                                   "vehicles.map").read_text("ascii").splitlines())
+        self.home = dict(
+            line.split()
+            for line in (self.own / "division" / "vehicles.map").read_text("ascii").splitlines())
         self.home = {vehicle: desk.removeprefix("desk") for vehicle, desk in self.home.items()}
         return joined.returncode == 0 and len(self.home) == len(self.vehicles)
 
@@ -201,14 +186,9 @@ class Week(upkeep_cases.Service):
         """
         before = {
             name: (self.own / "division" / ("desk%s.answers" % name)).read_text("ascii")
-            for name in self.names
-        }
-        ran = subprocess.run(["sh", str(self.spy), "--refresh"],
-                             env=self.env,
-                             capture_output=True,
-                             text=True,
-                             check=False,
-                             timeout=3600)
+            for name in self.names}
+        ran = subprocess.run(["sh", str(self.spy), "--refresh"], env=self.env, capture_output=True,
+                             text=True, check=False, timeout=3600)
         for name in self.names:
             lines, answers = ((self.own / "run" / ("%s.%s" %
                                                    (name, what))).read_text("ascii").splitlines()
@@ -227,8 +207,7 @@ class Week(upkeep_cases.Service):
         words = self.own / "bin" / "uptane_desk"
         words.write_text(
             '#!/bin/sh\nat=$(basename "$2" .db) at=%s/run/${at#desk}\ntee "$at.given" | %s "$@" | '
-            'tee "$at.answered"\n' % (self.own, self.program),
-            encoding="ascii")
+            'tee "$at.answered"\n' % (self.own, self.program), encoding="ascii")
         words.chmod(0o755)
         self.env["PROGRAM"] = str(words)
         self.spy = upkeep_cases.SERVICE / "apply.sh"
@@ -297,8 +276,8 @@ class Week(upkeep_cases.Service):
         path = self.own / "run" / (self.unit(name) + ".pid")
         time.sleep(0.5)
         number = int(path.read_text("ascii"))
-        assert str(self.file(name)) in Path("/proc/%d/cmdline" %
-                                            number).read_text("ascii").split("\0")
+        assert str(self.file(name)) in Path(
+            "/proc/%d/cmdline" % number).read_text("ascii").split("\0")
         os.kill(number, signal.SIGKILL)
         self.note("desk %s is killed" % name)
         time.sleep(1)
@@ -346,12 +325,10 @@ class Eight(scale_cases.Before):
 
     def changed(self, text):
         block = re.search(r"    upstream desk1 \{.*?\n    \}\n", text, re.S)[0]
-        text = re.sub(r"(    upstream desk\d \{.*?\n    \}\n)+",
-                      lambda _: "".join(
-                          block.replace("desk1", "desk%d" % at).replace("8081", "808%d" % at)
-                          for at in range(1, DESKS + 1)),
-                      text,
-                      flags=re.S)
+        text = re.sub(
+            r"(    upstream desk\d \{.*?\n    \}\n)+", lambda _: "".join(
+                block.replace("desk1", "desk%d" % at).replace("8081", "808%d" % at)
+                for at in range(1, DESKS + 1)), text, flags=re.S)
         return super().changed(text)
 
 
@@ -366,11 +343,9 @@ def operators(week, hour):
         return fleet.line(do, at, **members)
 
     def offer(name, kinds, release, vehicles='all'):
-        return (line("open_campaign",
-                     campaign=name,
-                     vehicles=vehicles,
-                     items=[{"hardware": kind, "file": image(kind, release)["file"]}
-                            for kind in kinds]))
+        return (line(
+            "open_campaign", campaign=name, vehicles=vehicles,
+            items=[{"hardware": kind, "file": image(kind, release)["file"]} for kind in kinds]))
 
     few = [it.name for it in week.vehicles[100:300]]
     if hour == 2:
@@ -387,12 +362,8 @@ def operators(week, hour):
         old, broken.ecus[3][0] = broken.ecus[3][0], broken.name + "-new"
         week.drop(
             "workshop.script",
-            line("replace_ecu",
-                 vehicle=broken.name,
-                 old=old,
-                 ecu=broken.name + "-new",
-                 hardware="DISPLAY",
-                 key=broken.key))
+            line("replace_ecu", vehicle=broken.name, old=old, ecu=broken.name + "-new",
+                 hardware="DISPLAY", key=broken.key))
         broken.installed["DISPLAY"] = image("DISPLAY", 1)["file"]
         broken.pending = None
     if hour == 134:
@@ -467,7 +438,8 @@ def compared(events, left_out, begin=0):
             else:
                 _, vehicle, counter, body, status, text, now = it
                 answer = desk.answer(
-                    fleet.line("deliver", moment_of(text) if status == 200 else now, body=body))
+                    fleet.line("deliver",
+                               moment_of(text) if status == 200 else now, body=body))
                 row = db.execute("SELECT reply FROM kept WHERE vehicle = ? AND counter = ?",
                                  (vehicle, counter)).fetchone() if status == 200 else None
                 said = row[0] if row and answer.startswith("reply ") else answer
@@ -515,22 +487,19 @@ def judged(week):
     journal = week.journal()
     who = [it for it in journal if it["asked"]["do"] == "open_campaign" and it["answer"] == "done"]
     opened = [name for name, hour in OPENED.items() if hour < week.hours]
-    yield "the journal tells who opened each campaign", [it["asked"]["campaign"] for it in who
-                                                         ] == opened and all(it["who"]
-                                                                             for it in who)
+    yield "the journal tells who opened each campaign", [
+        it["asked"]["campaign"] for it in who] == opened and all(it["who"] for it in who)
     taken = sum(it.installed["GATEWAY"] == image("GATEWAY", 2)["file"] for it in week.vehicles)
     week.note("%d of %d vehicles have what the first campaign offers" % (taken, len(week.vehicles)))
     yield "most vehicles have what the first campaign offers", 2 * taken > len(week.vehicles)
     withheld = [
         int(it) for it in re.findall(r"(?m)^uptane_desk_vehicles_withheld\{.*\} (\d+)$", (
-            week.own / "metrics.prom").read_text("ascii"))
-    ]
+            week.own / "metrics.prom").read_text("ascii"))]
     yield "plans are withheld where a campaign's needs aren't met", len(withheld) == DESKS and (
         sum(withheld) > 0) == (OPENED["engines"] + 24 < week.hours)
     yield "the script that the checker refuses was never given", week.answers(
         "typo.refused") is not None and "wrong" not in [
-            it["asked"].get("campaign") for it in journal
-        ]
+            it["asked"].get("campaign") for it in journal]
     for name, given in (("fleet.html", "page.html"), ("uptane.prom", "metrics.prom"), ("journal",
                                                                                        "journal")):
         shutil.copy(week.own / given, week.to / name)
