@@ -606,10 +606,8 @@ def taken_changed(program, own):
             3, b"", trials.UNOPENED["damaged"])
         page_sums.rewritten(other)
         if lost is None:
-            told = trials.run(program, other, ASKED)
-            print("%s: %s" % (name, told[2].decode("ascii")), end="")
-            yield "and with sums, where it is %s" % name, told[:2] == (
-                3, b"") and told[2] in trials.UNOPENED.values()
+            yield "and with sums, where it is %s" % name, trials.run(
+                program, other, ASKED) == (3, b"", trials.UNOPENED["damaged"])
         else:
             wanted = ["refused 2 Store" if at in lost else it for at, it in enumerate(as_ever)]
             yield "with sums it is taken, and %d lines are lost" % len(lost), trials.printed(

@@ -6,9 +6,9 @@ page.
 systemd starts in a container: its files are this machine's, what it writes is in memory and gone
 at the end, and it has a network of its own. That needs root, overlayfs, systemd and
 systemd-nspawn (Debian's `systemd-container`), iproute2 and curl. Where one of them is missing
-nothing is tried, and it says which. Takes a few minutes. PART is one of ends, hardened,
-refreshed, dropped, copied, killed, broken, restored, upgraded, queued, several, removed, in this
-order; all where none is named.
+nothing is tried, and it says which. Takes a few minutes. With SCHEME=ed25519 the program is
+uptane_desk_ed25519. PART is one of ends, hardened, refreshed, dropped, copied, killed, broken,
+restored, upgraded, queued, several, removed, in this order; all where none is named.
 """
 import contextlib
 import http.client
@@ -129,13 +129,14 @@ def booted(root, group, folders):
 
 
 def entered(running):
+    scheme = ["SCHEME=" + os.environ["SCHEME"]] if "SCHEME" in os.environ else []
     children = Path("/proc/%d/task/%d/children" % (running.pid, running.pid))
     for _ in range(PATIENCE):
         time.sleep(1)
         for child in children.read_text("ascii").split():
             words = [
                 "nsenter", "-t", child, "-m", "-u", "-i", "-n", "-p", "-C", "env", "-i",
-                "PATH=" + PATH, "setsid", "--wait"
+                "PATH=" + PATH, *scheme, "setsid", "--wait"
             ]
             if subprocess.run([*words, "systemctl", "is-system-running"],
                               capture_output=True,

@@ -739,7 +739,7 @@ def restored(it, backup, lines):
     yield "it says who will refuse what, and until when", re.search(
         r"(?m)^vehicle V1 refuses the replies to its next 2 manifests as older ones, until about "
         r"20\d\d-", done.stdout)
-    aside = next((it.own / "data").glob("before-*"))
+    aside = max((it.own / "data").glob("before-*"))
     yield "what was there is kept", (aside /
                                      it.file().name).read_bytes() == before and stat.S_IMODE(
                                          aside.stat().st_mode) == 0o700
