@@ -93,7 +93,8 @@ class File(dict):
 
 
 def reply_of(text):
-    """A Director's reply. Its files have their own texts: what stands between two members of the reply belongs to neither."""
+    """A Director's reply. Its files have their own texts: what stands between two members of the reply belongs to neither. What is no
+    object is a ValueError."""
     reply, decoder, at = value_of(text), json.JSONDecoder(), text.find("{") + 1
     if not isinstance(reply, dict):
         raise ValueError("that is no reply")
@@ -102,24 +103,27 @@ def reply_of(text):
         name, at = decoder.raw_decode(text, at)
         at = spaces.match(text, at).end()
         value, end = decoder.raw_decode(text, at)
-        reply[name] = File(text[at:end]) if isinstance(value, dict) else value
+        reply[name] = File(text[at:end]) if name in ("timestamp", "snapshot", "targets") else value
         at = end
     return reply
 
 
-def has_form(key, name):
+def has_form(key, name, secrets):
     """Whether a Root shows a key as it has to: of this scheme, and under its identifier, in the one
-    encoding of a point."""
+    encoding of a point. Under HMAC it shows nothing, and the vehicle has the key."""
     if scheme is HmacSha256:
-        return key == key | {"method": scheme.method, "public": ""}
+        return name in secrets and key == key | {"method": scheme.method, "public": ""}
     public = bytes.fromhex(key["public"]) if re.fullmatch("[0-9a-f]{64}", key["public"]) else b""
     is_point = len(public) == 32 and ed25519.decode(public) is not None
     return key["method"] == scheme.method and is_point and key_identifier(public) == name
 
 
 def shown_keys(root):
-    """The keys that a Root shows, by identifier. Under HMAC it shows none."""
-    return {} if scheme is HmacSha256 else {name: bytes.fromhex(key["public"]) for name, key in root.get("keys", {}).items()}
+    """The keys that a Root shows, by identifier. Under HMAC it shows none. What isn't a key of that name counts for nothing: the Root
+    that the vehicle got in the factory may have such a one."""
+    keys = {} if scheme is HmacSha256 else root.get("keys", {})
+    shown = {name: bytes.fromhex(it["public"]) for name, it in keys.items() if re.fullmatch("[0-9a-f]{64}", it["public"])}
+    return {name: public for name, public in shown.items() if key_identifier(public) == name}
 
 
 def moment(seconds):

@@ -162,10 +162,10 @@ def fits(file, role):
 
 
 def is_reply(reply):
-    """Whether a reply has its members. Its three files are looked at by themselves."""
+    """Whether a reply has its members. What its three files are is looked at in their turn."""
     return (
         is_name(reply.get("vehicle"))
         and is_count(reply.get("root"), 1)
         and is_count(reply.get("version"), 1)
-        and all(hasattr(reply.get(role), "text") for role in ("timestamp", "snapshot", "targets"))
+        and all(role in reply for role in ("timestamp", "snapshot", "targets"))
     )

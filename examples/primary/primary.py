@@ -65,19 +65,29 @@ def follows(status, text):
     verdict on it; raise the manifest's `counter` above a number, or that of an ECU's `report`; or
     nothing until somebody has made good what the answer names (`mend`)."""
     try:
-        told = value_of(text) if status != 200 else {}
-        told = told if isinstance(told, dict) else {}
+        told = value_of(text)
     except ValueError:
-        told = {}
-    error, words = told.get("error"), str(told.get("text", "")).split()
+        told = None
+    if not isinstance(told, dict):
+        return "again", None
     if status == 200:
         return "read", None
-    if status >= 500 or type(error) is not int or error < 1 or not words:
+    error, words = told.get("error"), told.get("text")
+    if status >= 500 or type(error) is not int or error < 1 or not isinstance(words, str):
         return "again", None
-    value = words[1] if len(words) == 2 else ""
-    if error == 13 and value.isdecimal():
+    value = words.partition(" ")[2]
+    if error == 13 and forms.is_like("[0-9]{1,16}", value):
         return "counter", int(value)
-    return ("report", value) if error == 18 else ("mend", error)
+    return ("report", value) if error == 18 and forms.is_name(value) else ("mend", error)
+
+
+def of_get(status, text):
+    """What an answer to a GET is: the file, to be `read`; `none`, where the repository has none of
+    this name; the same `again`; or the `end` of the round, without a verdict."""
+    what, value = follows(status, text)
+    if what in ("read", "again"):
+        return what
+    return "none" if (status, value) == (404, 29) else "end"
 
 
 def asked(url, body=None):
@@ -91,14 +101,14 @@ def asked(url, body=None):
             with urllib.request.urlopen(request, timeout=PATIENCE) as answer:
                 text = answer.read(forms.LARGEST + 1)
                 verify.expect(len(text) <= forms.LARGEST, "%s has no end", url)
-                return answer.status, text.decode("ascii")
+                came = answer.status, text.decode("ascii")
         except urllib.error.HTTPError as refused:
-            text = refused.read(forms.LARGEST).decode("ascii", "replace")
-            if follows(refused.code, text)[0] != "again":
-                return refused.code, text
-            wrong = "%d %s" % (refused.code, text)
+            came = refused.code, refused.read(forms.LARGEST).decode("ascii", "replace")
         except (OSError, http.client.HTTPException, UnicodeError) as error:
-            wrong = error
+            came, wrong = None, error
+        if came and follows(*came)[0] != "again":
+            return came
+        wrong = "%d %s" % (came[0], came[1][:200]) if came else wrong
         if wait is None:
             raise Failed("no answer from %s: %s" % (url, wrong))
         time.sleep(wait * random.uniform(1, 1.5))
@@ -109,19 +119,14 @@ def send(url, body):
 
 
 def fetcher(url):
-    """Fetches a file of a repository; none where there is none of that name. An answer that is no
-    JSON is somebody else's, and none of the service."""
+    """Fetches a file of a repository; none where there is none of that name."""
 
     def fetch(name):
         status, text = asked("%s/%s" % (url, name))
-        if status == 404 and follows(status, text) == ("mend", 29):
-            return None
-        try:
-            if status == 200:
-                return File(text)
-        except ValueError:
-            pass
-        raise Failed("%s: %d %s" % (name, status, text[:200]))
+        what = of_get(status, text)
+        if what == "end":
+            raise Failed("%s: %d %s" % (name, status, text[:200]))
+        return File(text) if what == "read" else None
 
     return fetch
 
@@ -181,8 +186,6 @@ def answered(told, url, save):
         except verify.Refused:
             told["pending"] = None
             raise
-        except ValueError:
-            raise Failed("an answer that is no reply: %s" % text[:200]) from None
         if what == "counter":
             told["counter"], told["pending"] = max(value, told["counter"]), None
         elif what == "report":

@@ -13,8 +13,6 @@ import forms
 from envelopes import has_form, is_signed_by, seconds, shown_keys
 
 ROLES = ("timestamp", "snapshot", "targets")
-# more Root versions than the service can make
-MOST_ROOTS = 64
 
 
 class Refused(Exception):
@@ -49,7 +47,7 @@ def check_next(trusted, envelope, secrets, repository):
     expect(forms.fits(envelope, "root"), "%s is no Root", what)
     expect(root["repository"] == repository, "%s is of the other repository", what)
     expect(root["version"] == before["version"] + 1, "%s has the version %d", what, root["version"])
-    shown = [has_form(key, name) for name, key in root["keys"].items()]
+    shown = [has_form(key, name, secrets) for name, key in root["keys"].items()]
     expect(all(shown), "%s shows a key in another form", what)
     check_signed(envelope, before, "root", secrets, what + ", by the Root before,")
     check_signed(envelope, root, "root", secrets, what)
@@ -70,7 +68,7 @@ def forgotten(before, root):
 def follow(trust, fetch, secrets, repository, now):
     """Fetches each newer Root, and trusts it once it is verified. The latest alone must not have
     expired."""
-    for _ in range(MOST_ROOTS):
+    while True:
         root = trust["root"]
         newer = fetch("%s/%d.root.json" % (repository, root["signed"]["version"] + 1))
         if newer is None:
@@ -85,13 +83,32 @@ def follow(trust, fetch, secrets, repository, now):
 # ---- files
 
 
+def check_named(files, role, repository):
+    """That the file before names this one: the Timestamp the Snapshot, by the SHA-256 of its text
+    and its version, and the Snapshot Targets, by its version."""
+    version = files[role]["signed"]["version"]
+    if role == "snapshot":
+        named = forms.entry(files["timestamp"]["signed"], "snapshot.json")
+        digest = hashlib.sha256(files["snapshot"].text.encode("ascii")).hexdigest()
+        words = "the %s Timestamp names another Snapshot"
+        expect(named["hashes"]["sha256"] == digest, words, repository)
+        words = "the %s Timestamp names another version of the Snapshot"
+        expect(named["version"] == version, words, repository)
+    if role == "targets":
+        listed = forms.entry(files["snapshot"]["signed"], "targets.json")["version"]
+        words = "the %s Snapshot names another version of Targets"
+        expect(listed == version, words, repository)
+
+
 def check_files(trust, files, secrets, repository, now, vehicle=None):
     """The versions of a repository's Timestamp, Snapshot and Targets, once they are verified in
-    this order."""
+    this order. That it has expired is the last that is looked at of a file: only of one that is
+    right otherwise it means that a newer one is to be had."""
     root, versions = trust["root"]["signed"], trust["versions"]
     for role in ROLES:
         what = "%s %s" % (repository, role)
         expect(forms.fits(files[role], role), "%s isn't of its form", what)
+        check_named(files, role, repository)
         told = files[role]["signed"]
         check_signed(files[role], root, role, secrets, what)
         expect(told["repository"] == repository, "%s is of the other repository", what)
@@ -100,22 +117,11 @@ def check_files(trust, files, secrets, repository, now, vehicle=None):
         expect(told["version"] >= versions.get(role, 0), words, what, told["version"])
         kind = Old if repository == "director" else Refused
         expect(seconds(told["expires"]) > now, "%s has expired", what, kind=kind)
-    signed = {role: files[role]["signed"] for role in ROLES}
-    named = forms.entry(signed["timestamp"], "snapshot.json")
-    digest = hashlib.sha256(files["snapshot"].text.encode("ascii")).hexdigest()
-    words = "the %s Timestamp names another Snapshot"
-    expect(named["hashes"]["sha256"] == digest, words, repository)
-    words = "the %s Timestamp names another version of the Snapshot"
-    expect(named["version"] == signed["snapshot"]["version"], words, repository)
-    listed = forms.entry(signed["snapshot"], "targets.json")["version"]
-    words = "the %s Snapshot names another version of Targets"
-    expect(listed == signed["targets"]["version"], words, repository)
-    return {role: signed[role]["version"] for role in ROLES}
+    return {role: files[role]["signed"]["version"] for role in ROLES}
 
 
 def check_reply(trust, reply, secrets, vehicle, now):
     """The versions of the Director's files in a reply. One of an older Root, or expired, is `Old`."""
-    expect(forms.is_reply(reply), "that is no reply")
     root = trust["root"]["signed"]["version"]
     expect(reply["vehicle"] == vehicle, "the reply is for another vehicle")
     words = "the reply is of Root version %d, which isn't served"
@@ -193,6 +199,7 @@ def check_image(target, content):
 def verified(told, reply, fetch, secrets, now):
     """What is to be installed, by ECU. What the vehicle trusts of both repositories is changed with
     it: a Root once it is verified, the versions of files once all of them are."""
+    expect(forms.is_reply(reply), "that is no reply")
     director, image = told["director"], told["image"]
     follow(director, fetch, secrets, "director", now)
     versions, due = check_reply(director, reply, secrets, told["vehicle"], now), {}

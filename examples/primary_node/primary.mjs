@@ -55,20 +55,28 @@ function fileOf(text) {
   return withText(isObject(value) ? value : {}, text);
 }
 
-// A Director's reply, whose files have their own texts.
-function replyOf(text) {
-  const reply = json(text);
-  expect(isObject(reply), 'that is no reply');
+// The text of each member of an object as it stands there; of one that occurs twice, the last.
+function memberTexts(text) {
+  const texts = Object.create(null);
   let depth = 0, name, from;
   for (const { 0: it, index } of text.matchAll(/"(?:[^"\\]|\\.)*"|[{}[\],:]/gs)) {
     if (it === '}' || it === ']') depth -= 1;
     if (depth === 1 && it === ':') from = index + 1;
     else if (from && (depth === 0 || (depth === 1 && it === ','))) {
-      if (isObject(reply[name])) withText(reply[name], text.slice(from, index).trim());
+      texts[name] = text.slice(from, index).trim();
       from = undefined;
     } else if (depth === 1 && !from && it[0] === '"') name = JSON.parse(it);
     if (it === '{' || it === '[') depth += 1;
   }
+  return texts;
+}
+
+// A Director's reply, whose files have their own texts.
+function replyOf(text) {
+  const reply = json(text), texts = memberTexts(text);
+  const isReply = isObject(reply) && isName(reply.vehicle) && isCount(reply.root, 1) && isCount(reply.version, 1) && isWhole(texts.root + texts.version);
+  expect(isReply && ROLES.every((role) => role in texts), 'that is no reply');
+  for (const role of ROLES) reply[role] = fileOf(texts[role]);
   return reply;
 }
 
@@ -112,7 +120,11 @@ function isSignedBy(envelope, key) {
 }
 
 // The keys that a Root shows, by identifier: none under HMAC.
-const shownKeys = (root) => (method === 'ed25519' ? Object.fromEntries(Object.entries(root.signed.keys).map(([id, it]) => [id, bytes(it.public)])) : {});
+// What isn't a key of that name counts for nothing: the Root of the factory may have such a one.
+function shownKeys({ signed }) {
+  const shown = Object.entries(method === 'ed25519' ? signed.keys : {}).filter(([, it]) => /^[0-9a-f]{64}$/.test(it.public));
+  return Object.fromEntries(shown.map(([id, it]) => [id, bytes(it.public)]).filter(([id, key]) => keyid(key) === id));
+}
 
 // Whether 32 bytes are a point of the curve: the library takes a key that is none, until it verifies by it.
 function isPoint(point) {
@@ -128,9 +140,9 @@ function isPoint(point) {
   return square === 0n || power(square, (p - 1n) / 2n) === 1n;
 }
 
-// Whether a Root shows a key as it has to: of this scheme, and under its identifier.
-function hasForm(id, key) {
-  if (key.method !== method || method !== 'ed25519') return key.method === method && key.public === '';
+// Whether a Root shows a key as it has to: of this scheme, and under its identifier. Under HMAC it shows nothing, and the vehicle has the key.
+function hasForm(id, key, secrets) {
+  if (key.method !== method || method !== 'ed25519') return key.method === method && key.public === '' && Object.hasOwn(secrets, id);
   return /^[0-9a-f]{64}$/.test(key.public) && keyid(bytes(key.public)) === id && isPoint(bytes(key.public));
 }
 
@@ -139,17 +151,21 @@ function hasForm(id, key) {
 const moment = (seconds) => new Date(seconds * 1000).toISOString().replace('.000Z', 'Z');
 const hashesOf = ({ sha256, sha512 }) => (sha512 ? { sha256, sha512 } : { sha256 });
 
+// The body of a manifest: the reports that its ECUs sign, signed by the Primary.
+function built({ vehicle, primary, key, counter, reports }) {
+  const envelopes = reports.map(({ key: own, ecu, counter: count, time, attack, file, length, ...hashes }) => sealed(bytes(own), canonical(
+    { type: 'report', ecu, counter: count, time: moment(time), attack: attack ?? '', image: { file, length, hashes: hashesOf(hashes) } })));
+  return sealed(bytes(key), canonical({ type: 'manifest', vehicle, primary, counter, reports: envelopes.map(read) }));
+}
+
 function manifest(vehicle, now) {
   vehicle.counter += 1;
   const reports = vehicle.ecus.map((ecu) => {
     ecu.counter += 1;
     if (Math.max(ecu.counter, vehicle.counter) >= MOST) throw new Failed(`the counters of ${ecu.ecu} come to their end`);
-    const { file, length } = ecu.installed;
-    const image = { file, length, hashes: hashesOf(ecu.installed) };
-    return sealed(bytes(ecu.secret), canonical({ type: 'report', ecu: ecu.ecu, counter: ecu.counter, time: moment(now), attack: ecu.attack ?? '', image }));
+    return { ...ecu.installed, ecu: ecu.ecu, key: ecu.secret, counter: ecu.counter, time: now, attack: ecu.attack };
   });
-  const payload = canonical({ type: 'manifest', vehicle: vehicle.vehicle, primary: vehicle.primary, counter: vehicle.counter, reports: reports.map(read) });
-  return sealed(bytes(vehicle.ecus.find((it) => it.ecu === vehicle.primary).secret), payload);
+  return built({ ...vehicle, key: vehicle.ecus.find((it) => it.ecu === vehicle.primary).secret, reports });
 }
 
 // ---- forms: what docs/integrate/FORMATS.md says of the files, member by member
@@ -212,7 +228,7 @@ const FORMS = {
 
 function checkForm(file, role, what) {
   const { signed } = file;
-  const fits = file.text.length <= LARGEST && isEnvelope(file) && isWhole(file.text) && signed.type === role
+  const fits = file.text.length <= LARGEST && isEnvelope(file) && isWhole(memberTexts(file.text).signed) && signed.type === role
     && (signed.repository === 'director' || signed.repository === 'image') && isCount(signed.version, 1) && isMoment(signed.expires)
     && (signed.repository !== 'director' || role === 'root' || isName(signed.vehicle)) && FORMS[role](signed);
   expect(fits, `${what} isn't of its form`);
@@ -242,27 +258,35 @@ async function follow(trust, fetched, secrets, repository, now) {
     const { root } = trust, what = `${repository} root ${root.signed.version + 1}`;
     checkForm(file, 'root', what);
     expect(file.signed.repository === repository && file.signed.version === root.signed.version + 1, `${what} is another file`);
-    expect(Object.entries(file.signed.keys).every(([id, it]) => hasForm(id, it)), `${what} shows a key in another form`);
+    expect(Object.entries(file.signed.keys).every(([id, it]) => hasForm(id, it, secrets)), `${what} shows a key in another form`);
     for (const by of [root, file]) checkSigned(file, 'root', by, secrets, what);
     Object.assign(trust, { root: file, versions: { ...trust.versions, ...forgotten(root, file) } });
   }
   expect(!expired(trust.root, now), `${repository} root has expired`);
 }
 
-// The versions of a repository's three files, once they are verified.
+// That the file before names this one: the Timestamp the Snapshot, by the SHA-256 of its text and its version, and the Snapshot Targets.
+function checkNamed(files, role, repository) {
+  const { version } = files[role].signed;
+  if (role === 'snapshot') {
+    const told = named(files.timestamp.signed, 'snapshot.json'), sha256 = digest('sha256', files.snapshot.text);
+    expect(told.hashes.sha256 === sha256 && told.version === version, `the ${repository} Timestamp names another Snapshot`);
+  }
+  const isNamed = role !== 'targets' || named(files.snapshot.signed, 'targets.json').version === version;
+  expect(isNamed, `the ${repository} Snapshot names other Targets`);
+}
+
+// The versions of a repository's three files, once they are verified. That it has expired is the last that is looked at of a file.
 function checkFiles(trust, files, secrets, repository, now, vehicle) {
   for (const role of ROLES) {
     const file = files[role], what = `${repository} ${role}`;
     checkForm(file, role, what);
+    checkNamed(files, role, repository);
     checkSigned(file, role, trust.root, secrets, what);
     expect(file.signed.repository === repository && (!vehicle || file.signed.vehicle === vehicle), `${what} is another file`);
     expect(file.signed.version >= (trust.versions[role] ?? 0), `${what} goes back`);
     expect(!expired(file, now), `${what} has expired`, repository === 'director' ? Old : Refused);
   }
-  const snapshot = named(files.timestamp.signed, 'snapshot.json'), targets = named(files.snapshot.signed, 'targets.json');
-  expect(snapshot.hashes.sha256 === digest('sha256', files.snapshot.text), `the ${repository} Timestamp names another Snapshot`);
-  expect(snapshot.version === files.snapshot.signed.version, `the ${repository} Timestamp names another version`);
-  expect(targets.version === files.targets.signed.version, `the ${repository} Snapshot names other Targets`);
   return Object.fromEntries(ROLES.map((role) => [role, files[role].signed.version]));
 }
 
@@ -270,8 +294,7 @@ function checkFiles(trust, files, secrets, repository, now, vehicle) {
 async function verified(vehicle, reply, fetched, secrets, now) {
   const { director, image } = vehicle;
   await follow(director, fetched, secrets, 'director', now);
-  const version = director.root.signed.version, isReply = isName(reply.vehicle) && isCount(reply.root, 1) && isCount(reply.version, 1);
-  expect(isReply && ROLES.every((role) => reply[role]?.text), 'that is no reply');
+  const { version } = director.root.signed;
   expect(reply.vehicle === vehicle.vehicle, 'the reply is for another vehicle');
   expect(reply.root <= version, "the reply's Root isn't served");
   expect(reply.root === version, 'the reply is of an older Root', Old);
@@ -331,13 +354,23 @@ const WAITS = [1, 3, 9, 0], PATIENCE = 100_000;
 // What a Primary does after an answer: `read` it; send the same `again`, since the answer is no verdict on it; raise the manifest's
 // `counter`, or that of an ECU's `report`; or nothing until somebody has made good what the answer names.
 function follows(status, text) {
+  let told;
+  try { told = JSON.parse(text); } catch { /* somebody else's answer */ }
+  if (!isObject(told)) return ['again', null];
   if (status === 200) return ['read', null];
-  let told = {};
-  try { told = JSON.parse(text) ?? {}; } catch { /* somebody else's answer */ }
-  const { error } = told, words = String(told.text ?? '').split(' ');
-  if (status >= 500 || !Number.isInteger(error) || error < 1 || !told.text) return ['again', null];
-  if (error === 13 && /^\d+$/.test(words[1] ?? '')) return ['counter', Number(words[1])];
-  return error === 18 ? ['report', words[1] ?? ''] : ['mend', error];
+  const { error, text: words } = told;
+  if (status >= 500 || !Number.isInteger(error) || error < 1 || typeof words !== 'string') return ['again', null];
+  const value = words.slice(words.split(' ')[0].length + 1);
+  if (error === 13 && /^\d{1,16}$/.test(value)) return ['counter', Number(value)];
+  return error === 18 && isName(value) ? ['report', value] : ['mend', error];
+}
+
+// What an answer to a GET is: the file, to be `read`; `none`, where the repository has none of this name; the same `again`; or the `end` of
+// the round, without a verdict.
+function ofGet(status, text) {
+  const [what, value] = follows(status, text);
+  if (what === 'read' || what === 'again') return what;
+  return status === 404 && value === 29 ? 'none' : 'end';
 }
 
 async function asked(url, body) {
@@ -359,10 +392,9 @@ async function asked(url, body) {
 }
 
 const fetcher = (url) => async (name) => {
-  const { status, text, what, value } = await asked(`${url}/${name}`);
-  if (what === 'mend' && value === 29) return null;
-  if (what !== 'read' || !text.trim().startsWith('{')) throw new Failed(`${name}: ${status} ${text.slice(0, 200)}`);
-  return fileOf(text);
+  const { status, text } = await asked(`${url}/${name}`), what = ofGet(status, text);
+  if (what === 'end') throw new Failed(`${name}: ${status} ${text.slice(0, 200)}`);
+  return what === 'read' ? fileOf(text) : null;
 };
 
 // What is to be installed by the reply to this round's manifest. A manifest is kept until it was answered; then its bytes aren't sent again,
@@ -376,7 +408,6 @@ async function answered(vehicle, url, save) {
     vehicle.pending ??= manifest(vehicle, now);
     save();
     const { status, text, what, value } = await asked(`${url}/director/manifest`, vehicle.pending);
-    if (what === 'read' && !text.trim().startsWith('{')) throw new Failed(`an answer that is no reply: ${text.slice(0, 200)}`);
     try {
       if (what === 'read') return await verified(vehicle, replyOf(text), fetcher(url), secrets, now);
     } catch (wrong) {
@@ -458,9 +489,11 @@ async function vectors(folder) {
   };
   for (const it of load('canonical_texts').cases) compare(it.name, got(() => canonical(read(it.text))), it.canonical ?? null);
   for (const it of load('answers').cases) compare(it.name, follows(it.status, it.body), [it.then, it.value ?? null]);
+  for (const it of load('answers').files) compare(it.name, ofGet(it.status, it.body), it.then);
   for (const it of load('key_identifiers').cases) compare(it.name, keyid(bytes(it.public)), it.keyid);
   for (method of Object.keys(schemes)) {
     signatures(load(`${method}/signatures`), compare);
+    for (const it of load(`${method}/manifests`).builds) compare(it.name, built(it.build), it.body);
     await chains(load(`${method}/chains`), compare, got);
   }
   console.log(`${tried - other} passed, ${other} failed`);

@@ -13,15 +13,16 @@ import subprocess
 import sys
 
 from uptane_tools import RUN, TOP, arguments
-from uptane_tools.oracle import vector_forms, verification
+from uptane_tools.oracle import vector_forms, vector_verdicts, verification
 from uptane_tools.oracle.reference import METHOD, SCHEME
 from uptane_tools.oracle.schemes import Ed25519, HmacSha256, key_identifier
-from uptane_tools.oracle.vector_answers import answers
+from uptane_tools.oracle.vector_answers import answers, files
 from uptane_tools.oracle.vector_chains import INSTALLS, VEHICLE, bases, chains, contents
 from uptane_tools.oracle.vector_fleet import FIRST, NOW, SECOND, SETUP, key, public
-from uptane_tools.oracle.vector_manifests import delivered, replies
-from uptane_tools.oracle.vector_signatures import (canonical_texts, encodings, envelopes,
-                                                   key_identifiers, signatures)
+from uptane_tools.oracle.vector_manifests import builds, delivered, replies
+from uptane_tools.oracle.vector_signatures import (
+    canonical_texts, encodings, envelopes, key_identifiers, signatures,
+)
 
 FOLDER = TOP / "vectors"
 SHARED = ("canonical_texts.json", "key_identifiers.json", "answers.json")
@@ -55,8 +56,9 @@ def shared():
         "or the refusal of a value that has none", listed("cases", canonical_texts()))
     yield SHARED[1], text("public parts of keys, and the identifiers of these keys",
                           listed("cases", key_identifiers()))
-    yield SHARED[2], text("answers to a manifest, and what a Primary does behind each",
-                          listed("cases", answers()))
+    yield SHARED[2], text(
+        "answers to a manifest, those to a GET of a file, and what a Primary does behind each",
+        listed("cases", answers()), listed("files", files()))
 
 
 def judged(told, cases):
@@ -92,7 +94,8 @@ def of_the_scheme():
     contained.append(
         text(
             "bodies that are delivered one after another once the lines of setup were run, and "
-            "how each is answered", method, member("at", NOW), setup, listed("cases", delivered())))
+            "how each is answered; and manifests to be built", method, member("at", NOW), setup,
+            listed("cases", delivered()), listed("builds", builds())))
     contained.append(
         text(
             "manifests that are accepted one after another, each after its lines, and the replies "
@@ -107,7 +110,15 @@ def of_the_scheme():
             *(part for name, it in made.items()
               for part in (listed("lines of " + name, it.lines),
                            by_name("files of " + name, it.files))),
-            listed("cases", judged(known, chains(made, vector_forms.CASES))),
+            listed(
+                "cases",
+                judged(
+                    known,
+                    chains(
+                        made, {
+                            base: (*vector_forms.CASES[base], *vector_verdicts.CASES[base])
+                            for base in made
+                        }))),
             listed("contents", contents())))
     return [("%s/%s" % (METHOD, name), it) for name, it in zip(OF_A_SCHEME, contained, strict=True)]
 

@@ -1,4 +1,4 @@
-"""Test vectors of the service's answers to a manifest, and of what a Primary does behind each."""
+"""Test vectors of the service's answers, and of what a Primary does behind each."""
 import json
 
 from uptane_tools.operate.formats import MOST
@@ -11,6 +11,9 @@ def told(error, text):
 # status, body, what follows, and the value that it needs
 ANSWERS = [
     ("a reply, whatever its verdict", 200, '{"root":1}', "read", None),
+    ("a proxy's page with status 200", 200, "<html>200 OK</html>", "again", None),
+    ("a reply that was cut", 200, '{"root":1', "again", None),
+    ("a list with status 200", 200, "[5]", "again", None),
     ("want of memory", 503, told(1, "Memory"), "again", None),
     ("a fault of the database", 503, told(2, "Store"), "again", None),
     ("a clock that is wrong", 503, told(3, "MomentOutOfRange"), "again", None),
@@ -26,10 +29,15 @@ ANSWERS = [
     ("JSON that is no object", 400, "[5]", "again", None),
     ("JSON whose error is a text", 409, '{"error":"13","text":"Stale 7"}', "again", None),
     ("a body that was cut", 409, '{"error":13,"te', "again", None),
+    ("an error without a text", 409, '{"error":13}', "again", None),
     ("a busy proxy's JSON with a number of the service", 503, told(12, "Busy"), "again", None),
+    ("a number of the service with a status of 500", 500, told(13, "Stale 7"), "again", None),
     ("a counter that was used", 409, told(13, "Stale 7"), "counter", 7),
     ("a counter near the greatest", 409, told(13, "Stale %d" % (MOST - 1)), "counter", MOST - 1),
+    ("a counter that was used, without a number", 409, told(13, "Stale"), "mend", 13),
+    ("a counter that was used, with two numbers", 409, told(13, "Stale 7 8"), "mend", 13),
     ("a report that was used", 409, told(18, "ReportReplayed left"), "report", "left"),
+    ("a report that was used, without an ECU", 409, told(18, "ReportReplayed"), "mend", 18),
     ("a body that is too large", 413, told(4, "TooLarge"), "mend", 4),
     ("a body that is no JSON", 400, told(5, "NotJson"), "mend", 5),
     ("a body without a canonical text", 400, told(6, "NotCanonical"), "mend", 6),
@@ -38,6 +46,7 @@ ANSWERS = [
     ("another Primary than the inventory has", 403, told(11, "WrongPrimary"), "mend", 11),
     ("another key than the inventory has", 403, told(12, "BadManifestSignature"), "mend", 12),
     ("a report of an ECU that was replaced", 409, told(14, "UnknownEcu left"), "mend", 14),
+    ("the same with another status below 500", 403, told(14, "UnknownEcu left"), "mend", 14),
     ("two reports of an ECU", 409, told(15, "DuplicateEcu left"), "mend", 15),
     ("no report of an ECU that was put in", 409, told(16, "MissingEcu left-2"), "mend", 16),
     ("a report under another key", 403, told(17, "BadReportSignature left"), "mend", 17)]
@@ -46,3 +55,21 @@ ANSWERS = [
 def answers():
     for name, status, body, then, value in ANSWERS:
         yield {"name": name, "status": status, "body": body, "then": then, "value": value}
+
+
+# the same of a GET
+FILES = [
+    ("a file", 200, '{"signatures":[],"signed":{}}', "read"),
+    ("a file that isn't there", 404, told(29, "UnknownFile"), "none"),
+    ("the same with another status", 400, told(29, "UnknownFile"), "end"),
+    ("a path that was changed on its way", 404, told(0, "not found"), "again"),
+    ("a proxy's page of that status", 404, "<html>404</html>", "again"),
+    ("a proxy's page with status 200", 200, "<html>200 OK</html>", "again"),
+    ("a service that isn't founded yet", 503, told(8, "NotFounded"), "again"),
+    ("a refusal of manifests", 403, told(12, "BadManifestSignature"), "end"),
+]
+
+
+def files():
+    for name, status, body, then in FILES:
+        yield {"name": name, "status": status, "body": body, "then": then}

@@ -369,11 +369,14 @@ def of_root_keys(it):
                                                  FIRST["director"]["targets"]["keys"][:2], root=2)
     other_method = next(one.method for one in (HmacSha256, Ed25519) if one is not SCHEME)
     cases = [("a key of another method",
-              of_key(spare, lambda name, it: (name, it | {"method": other_method})))]
-    if SCHEME is Ed25519:
+              of_key(spare, lambda name, it: (name, it | {"method": other_method}))),
+             ("a key under another name", of_key(spare, lambda name, it: (64 * "0", it)))]
+    if SCHEME is HmacSha256:
+        cases += [("a key that shows a public part",
+                   of_key(spare, lambda name, it: (name, it | {"public": spare})))]
+    else:
         point = (1).to_bytes(32, "little"), (ed25519.P + 1).to_bytes(32, "little")
         cases += [
-            ("a key under another name", of_key(spare, lambda name, it: (64 * "0", it))),
             ("a key in upper case",
              of_key(spare, lambda name, it: (name, it | {"public": it["public"].upper()}))),
             ("a key of 31 bytes",

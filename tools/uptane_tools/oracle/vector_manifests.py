@@ -2,10 +2,24 @@
 import json
 
 from uptane_tools.oracle import reference_http
-from uptane_tools.oracle.reference import canonical
-from uptane_tools.oracle.vector_fleet import (ROTATE, SETUP, UPDATE, desk, digest, image_of, key,
-                                              line, manifest, payload_of, report, reports_of,
-                                              signed_by)
+from uptane_tools.oracle.reference import canonical, moment
+from uptane_tools.oracle.vector_fleet import (
+    NOW,
+    PRIMARY,
+    ROTATE,
+    SETUP,
+    UPDATE,
+    desk,
+    digest,
+    image_of,
+    key,
+    line,
+    manifest,
+    payload_of,
+    report,
+    reports_of,
+    signed_by,
+)
 
 # ---- manifests: one after another, from where the setup ends
 
@@ -119,6 +133,38 @@ def respelt(text):
             value, dict) else (list(map(turned, value)) if isinstance(value, list) else value))
 
     return json.dumps(turned(json.loads(text)), indent=1)
+
+
+def builds():
+    """What the ECUs of a vehicle are to report, with their secrets, and the body of the manifest.
+    Each is taken by the service.
+    """
+    image, other = image_of("gateway-1.bin"), image_of("brake-1.bin")
+    unknown = {"file": "unknown", "length": 0, "hashes": {"sha256": digest("")}}
+    three = [("gw", key(0xA1), image), ("left", key(0xA2), other), ("right", key(0xA3), other)]
+    for name, vehicle, counter, ecus, more in [
+        ("one ECU", "VIN-2", 1, [("solo", key(0xA4), image)], {"counter": 0, "time": NOW}),
+        ("three ECUs, the second of which tells of an attack", "VIN-1", 1, three,
+         {"attack": 'bus "CAN/1" \\ flooded', "counter": 7, "time": 253402300799}),
+        ("no time was verified, and the installed image isn't known", "VIN-2", 2**53 - 1,
+         [("solo", key(0xA4), unknown)], {"counter": 2**53 - 1, "time": 0}),
+    ]:
+        reports = [{
+            "ecu": ecu, "key": secret, "counter": more["counter"] + place, "time": more["time"],
+            "attack": more.get("attack", "") if place == 1 else "", "file": has["file"], "length":
+            has["length"], **has["hashes"]
+        } for place, (ecu, secret, has) in enumerate(ecus)]
+        made = [
+            report(it["ecu"], it["key"], it["counter"], has, attack=it["attack"],
+                   time=moment(it["time"])) for it, (_, _, has) in zip(reports, ecus, strict=True)
+        ]
+        build = {"vehicle": vehicle, "primary": PRIMARY[vehicle], "key": ecus[0][1]}
+        body = manifest(vehicle, counter, made)
+        with desk() as it:
+            assert [it.answer(given) for given in SETUP] == len(SETUP) * ["done"]
+            assert it.answer(line("deliver", body=body)).startswith("reply"), name
+        yield {"name": name, "build": build | {"counter": counter, "reports": reports},
+               "body": body}
 
 
 def delivered():

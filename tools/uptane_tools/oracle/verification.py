@@ -185,22 +185,24 @@ class Verifier:
         public = bytes.fromhex(digits)
         return public if ed25519.decode(public) is not None else None
 
-    def public_of(self, name, key):
-        """The public part of a Root's key, if the key is read so and has this identifier."""
+    def candidates(self, name, key):
+        """The public parts of this identifier: the one that a Root shows, and one that is held."""
+        parts = (self.shown(key[1]), self.held.get(name))
+        return [it for it in parts if it is not None and key_identifier(it) == name]
+
+    def is_known(self, name, key):
+        """Whether it is a key of the scheme, with a public part that is shown so."""
         method, digits = key
-        for it in (self.shown(digits), self.held.get(name)):
-            is_named = it is not None and key_identifier(it) == name
-            if is_named and method == self.scheme.method and self.scheme.shown(it) == digits:
-                return it
-        return None
+        shown = map(self.scheme.shown, self.candidates(name, key))
+        return method == self.scheme.method and digits in shown
 
     def has_signed(self, sealed, name, key):
         """Whether a key signed: by the scheme that the vehicle trusts, whatever it is called."""
-        public, (signatures, signed) = self.public_of(name, key), sealed
-        named = (name, self.scheme.method)
+        (signatures, signed), named = sealed, (name, self.scheme.method)
         own = [it["sig"] for it in signatures if (it["keyid"], it["method"]) == named]
-        return public is not None and any(
-            self.scheme.verify(public, signed.encode(), bytes.fromhex(it)) for it in own)
+        return any(
+            self.scheme.verify(public, signed.encode(), bytes.fromhex(it))
+            for public in self.candidates(name, key) for it in own)
 
     def is_signed_for(self, role, sealed):
         signers = [name for name, key in role["keys"].items() if self.has_signed(sealed, name, key)]
@@ -216,7 +218,7 @@ def next_root(verifier, repository, before, bytes_):
     except Unread:
         raise Refused((repository, "root", "Unread")) from None
     keys = [key for role in ROLES for key in root[role]["keys"].items()]
-    are_known = all(verifier.public_of(*key) is not None for key in keys)
+    are_known = all(verifier.is_known(*key) for key in keys)
     what = repository, "root"
     refuse_unless(root["repository"] == repository, *what, "OtherRepository")
     refuse_unless(root["version"] == before["version"] + 1, *what, "NotNext")
@@ -292,8 +294,6 @@ def check_files(verifier, asked, trust, texts):
 
 def check_reply(verifier, now, primary, trust, reply):
     root = trust["root"]["version"]
-    has_form = IDENT(reply["vehicle"]) and is_count(reply["root"], 1)
-    refuse_unless(has_form and is_count(reply["version"], 1), "Unread")
     refuse_unless(reply["vehicle"] == primary["vehicle"], "WrongVehicle")
     refuse_unless(reply["root"] <= root, "UnknownRoot")
     refuse_unless(reply["root"] == root, "OldRoot")
@@ -346,11 +346,22 @@ def behind(trust, repository, texts):
     return found
 
 
+def is_reply(reply):
+    """Whether a reply has its members. Each of its files is read in its turn."""
+    has_all = None not in reply["files"].values() and IDENT(reply["vehicle"])
+    return has_all and is_count(reply["root"], 1) and is_count(reply["version"], 1)
+
+
 def judged(verifier, now, primary, texts, reply):
     """The verdict on what a vehicle receives, what is due, and what it trusts from then on: Roots
     that were verified stay, whatever came behind them. Of a repository that it needn't have asked,
-    where a newer Root would be, that is left open."""
+    where a newer Root would be, that is left open. Behind what is no reply nothing is asked."""
     roots = {it: behind(primary[it], it, texts) for it in ("director", "image")}
+    if not is_reply(reply):
+        return "refused", None, {
+            it: primary[it]
+            for it in roots if it == "director" or not roots[it]
+        }
     files = {role: texts.get("image/%s.json" % role) for role in FILES}
     served = {"director_roots": roots["director"], "image_roots": roots["image"]}
     try:

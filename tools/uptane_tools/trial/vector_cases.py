@@ -62,6 +62,8 @@ def by_primary():
             bytes.fromhex(case["public"])) == case["keyid"]
     for case in vectors("answers")["cases"]:
         yield "answer: %(name)s" % case, answer_is_answered(SMALL, case)
+    for case in vectors("answers")["files"]:
+        yield "answer to a GET: %(name)s" % case, get_is_answered(SMALL, case)
     for method in envelopes.SCHEMES:
         yield from (("%s: %s" % (method, name), well) for name, well in under(method))
 
@@ -84,6 +86,8 @@ def under(method):
             signed = envelopes.is_signed_by(json.loads(case["envelope"]),
                                             bytes.fromhex(told["key"]))
             yield "envelope: %(name)s" % case, signed == case["signed_by_the_key"]
+    for case in vectors("manifests", method)["builds"]:
+        yield "build: %(name)s" % case, build_is_answered(SMALL, case)
     yield from verified(SMALL, method)
     told = vectors("chains", method)
     yield "a change of the repository between two requests", begins_again(told)
@@ -151,6 +155,14 @@ def answer_is_answered(small, case):
     return small.primary.follows(case["status"], case["body"]) == (case["then"], case["value"])
 
 
+def get_is_answered(small, case):
+    return small.primary.of_get(case["status"], case["body"]) == case["then"]
+
+
+def build_is_answered(small, case):
+    return small.envelopes.manifest(case["build"]) == case["body"]
+
+
 def chain_is_answered(small, told, case):
     verdict, due, known = verdict_of(small, told, case)
     wanted = (case["verdict"],
@@ -205,12 +217,15 @@ def delivered(body, at=None):
 
 def of_text(secret, counter, case):
     """A manifest of VIN-2 that has the text as a member more. One level of a text that is as
-    deep as may be is left to what is signed, which has it round the member.
+    deep as may be is left to what is signed, which has it round the member; of one that is as deep
+    as JSON may be, two, since the body is another.
     """
     payload = vector_fleet.payload_of("VIN-2", counter, vector_fleet.reports_of("VIN-2", counter))
     texts = [case["text"], case.get("canonical", "[0]")]
     if texts[0].startswith((14 * "[", 14 * '{"a":')):
         texts = [it[1:-1] if it.startswith("[") else it[5:-1] for it in texts]
+    if texts[0].startswith(126 * "["):
+        texts[0] = texts[0][1:-1]
     with_member = ['%s,"x":%s}' % (payload[:-1], it) for it in texts]
     signature = json.loads(reference.sealed([secret], with_member[1]))["signatures"]
     return '{"signatures":%s,"signed":%s}' % (reference.canonical(signature), with_member[0])

@@ -99,9 +99,15 @@ def vectors():
             yield (method, case["name"]), functools.partial(chain, told=told, case=case)
         for case in told["contents"]:
             yield (method, case["name"]), functools.partial(image, case=case)
+        for case in vector_cases.vectors("manifests", method)["builds"]:
+            build = vector_cases.build_is_answered
+            yield (method, "build: " + case["name"]), functools.partial(build, case=case)
     for case in vector_cases.vectors("answers")["cases"]:
         answer = vector_cases.answer_is_answered
         yield (HMAC, case["name"]), functools.partial(answer, case=case)
+    for case in vector_cases.vectors("answers")["files"]:
+        get = vector_cases.get_is_answered
+        yield (HMAC, "GET: " + case["name"]), functools.partial(get, case=case)
 
 
 def answer(small, method, is_answered):
