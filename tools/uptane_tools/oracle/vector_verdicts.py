@@ -4,7 +4,7 @@ trusted, and what isn't a fault. Those of `of_order` and `of_old_replies` have s
 import copy
 import json
 
-from uptane_tools.oracle.reference import METHOD, SCHEME, canonical, moment
+from uptane_tools.oracle.reference import SCHEME, canonical, moment
 from uptane_tools.oracle.schemes import Ed25519, HmacSha256
 from uptane_tools.oracle.vector_chains import (
     BOTH_ROOTS, Chain, members, nothing, of_key, of_role, one_key, resigned, trusted,
@@ -13,7 +13,7 @@ from uptane_tools.oracle.vector_fleet import DAY, FIRST, NOW, key
 
 YES, NO, OLD = "accepted", "refused", "old"
 EXPIRED = {"expires": moment(NOW)}
-OTHER_METHOD = next(it.method for it in (HmacSha256, Ed25519) if it.method != METHOD)
+OTHER_METHOD = HmacSha256.method if SCHEME is Ed25519 else Ed25519.method
 REPLACED = {"replaced": {"left": "left-2"}}
 
 
