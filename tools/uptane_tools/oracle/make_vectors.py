@@ -20,9 +20,8 @@ from uptane_tools.oracle.vector_answers import answers, files
 from uptane_tools.oracle.vector_chains import INSTALLS, VEHICLE, bases, chains, contents
 from uptane_tools.oracle.vector_fleet import FIRST, NOW, SECOND, SETUP, key, public
 from uptane_tools.oracle.vector_manifests import builds, delivered, replies
-from uptane_tools.oracle.vector_signatures import (
-    canonical_texts, encodings, envelopes, key_identifiers, signatures,
-)
+from uptane_tools.oracle.vector_signatures import (canonical_texts, encodings, envelopes,
+                                                   key_identifiers, signatures)
 
 FOLDER = TOP / "vectors"
 SHARED = ("canonical_texts.json", "key_identifiers.json", "answers.json")
@@ -117,9 +116,7 @@ def of_the_scheme():
                     chains(
                         made, {
                             base: (*vector_forms.CASES[base], *vector_verdicts.CASES[base])
-                            for base in made
-                        }))),
-            listed("contents", contents())))
+                            for base in made}))), listed("contents", contents())))
     return [("%s/%s" % (METHOD, name), it) for name, it in zip(OF_A_SCHEME, contained, strict=True)]
 
 

@@ -66,8 +66,7 @@ FILES = [
     ("a proxy's page of that status", 404, "<html>404</html>", "again"),
     ("a proxy's page with status 200", 200, "<html>200 OK</html>", "again"),
     ("a service that isn't founded yet", 503, told(8, "NotFounded"), "again"),
-    ("a refusal of manifests", 403, told(12, "BadManifestSignature"), "end"),
-]
+    ("a refusal of manifests", 403, told(12, "BadManifestSignature"), "end"), ]
 
 
 def files():

@@ -3,23 +3,9 @@ import json
 
 from uptane_tools.oracle import reference_http
 from uptane_tools.oracle.reference import canonical, moment
-from uptane_tools.oracle.vector_fleet import (
-    NOW,
-    PRIMARY,
-    ROTATE,
-    SETUP,
-    UPDATE,
-    desk,
-    digest,
-    image_of,
-    key,
-    line,
-    manifest,
-    payload_of,
-    report,
-    reports_of,
-    signed_by,
-)
+from uptane_tools.oracle.vector_fleet import (NOW, PRIMARY, ROTATE, SETUP, UPDATE, desk, digest,
+                                              image_of, key, line, manifest, payload_of, report,
+                                              reports_of, signed_by)
 
 # ---- manifests: one after another, from where the setup ends
 
@@ -144,27 +130,25 @@ def builds():
     three = [("gw", key(0xA1), image), ("left", key(0xA2), other), ("right", key(0xA3), other)]
     for name, vehicle, counter, ecus, more in [
         ("one ECU", "VIN-2", 1, [("solo", key(0xA4), image)], {"counter": 0, "time": NOW}),
-        ("three ECUs, the second of which tells of an attack", "VIN-1", 1, three,
-         {"attack": 'bus "CAN/1" \\ flooded', "counter": 7, "time": 253402300799}),
-        ("no time was verified, and the installed image isn't known", "VIN-2", 2**53 - 1,
-         [("solo", key(0xA4), unknown)], {"counter": 2**53 - 1, "time": 0}),
-    ]:
+        ("three ECUs, the second of which tells of an attack", "VIN-1", 1, three, {
+            "attack": 'bus "CAN/1" \\ flooded', "counter": 7, "time": 253402300799}),
+        ("no time was verified, and the installed image isn't known", "VIN-2", 2**53 - 1, [
+            ("solo", key(0xA4), unknown)], {"counter": 2**53 - 1, "time": 0})]:
         reports = [{
             "ecu": ecu, "key": secret, "counter": more["counter"] + place, "time": more["time"],
-            "attack": more.get("attack", "") if place == 1 else "", "file": has["file"], "length":
-            has["length"], **has["hashes"]
-        } for place, (ecu, secret, has) in enumerate(ecus)]
+            "attack": more.get("attack", "") if place == 1 else "", "file": has["file"],
+            "length": has["length"], **has["hashes"]}
+                   for place, (ecu, secret, has) in enumerate(ecus)]
         made = [
             report(it["ecu"], it["key"], it["counter"], has, attack=it["attack"],
-                   time=moment(it["time"])) for it, (_, _, has) in zip(reports, ecus, strict=True)
-        ]
+                   time=moment(it["time"])) for it, (_, _, has) in zip(reports, ecus, strict=True)]
         build = {"vehicle": vehicle, "primary": PRIMARY[vehicle], "key": ecus[0][1]}
         body = manifest(vehicle, counter, made)
         with desk() as it:
             assert [it.answer(given) for given in SETUP] == len(SETUP) * ["done"]
             assert it.answer(line("deliver", body=body)).startswith("reply"), name
-        yield {"name": name, "build": build | {"counter": counter, "reports": reports},
-               "body": body}
+        yield {
+            "name": name, "build": build | {"counter": counter, "reports": reports}, "body": body}
 
 
 def delivered():

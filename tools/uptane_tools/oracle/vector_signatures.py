@@ -8,49 +8,29 @@ from uptane_tools.oracle.vector_fleet import key, payload_of, public, reports_of
 
 # ---- canonical texts
 
-TAKEN = [
-    ("members in the order of bytes", '{"b":[1,true,null],"a":"x\\"y"}'),
-    ("capitals before small letters", '{"a":1,"B":2,"_":3,"":4}'),
-    ("white space", ' { "a" :\n\t[ 1 , 2 ] } '),
-    ("a member twice: the last counts", '{"a":1,"a":2}'),
-    ("escapes of printable characters", '"\\u0041\\/\\u005c\\u0022"'),
-    ("a backslash and a quotation mark", '"\\\\ \\""'),
-    ("all of printable ASCII", json.dumps("".join(map(chr, range(0x20, 0x7F))))),
-    ("no members", "[{},[],\"\"]"),
-    ("zero", "0"),
-    ("the greatest number", "9007199254740991"),
-    ("16 levels", 16 * "[" + 16 * "]"),
-    ("16 levels of objects", 15 * '{"a":' + "{}" + 15 * "}"),
-    ("16 levels round a number, which is none", 16 * "[" + "7" + 16 * "]"),
-]
-NOT_CANONICAL = [
-    ("a number past 2^53-1", "9007199254740992"),
-    ("a fraction", "1.0"),
-    ("an exponent", "1e2"),
-    ("a negative number", "-1"),
-    ("a negative zero", "-0"),
-    ("a letter past ASCII", '"\u00e9"'),
-    ("the same as an escape", '"\\u00e9"'),
-    ("a line feed", '"\\n"'),
-    ("the byte 0x7F", '"\\u007f"'),
-    ("a member's name past ASCII", '{"\u00e9":1}'),
-    ("17 levels", 17 * "[" + 17 * "]"),
-    ("127 levels round a number", 127 * "[" + "7" + 127 * "]"),
-    ("a number too small for a float", "1e-400"),
-]
-NOT_JSON = [
-    ("a leading zero", "01"),
-    ("a plus sign", "+1"),
-    ("a word", "nan"),
-    ("single quotation marks", "'a'"),
-    ("a comma too many", "[1,]"),
-    ("no comma", "[1 2]"),
-    ("a tab in a string", '"\t"'),
-    ("half of a surrogate pair", '"\\ud800"'),
-    ("an unknown escape", '"\\x41"'),
-    ("a number too great for a float", "1e400"),
-    ("128 levels", 128 * "[" + 128 * "]"),
-]
+TAKEN = [("members in the order of bytes", '{"b":[1,true,null],"a":"x\\"y"}'),
+         ("capitals before small letters", '{"a":1,"B":2,"_":3,"":4}'),
+         ("white space", ' { "a" :\n\t[ 1 , 2 ] } '),
+         ("a member twice: the last counts", '{"a":1,"a":2}'),
+         ("escapes of printable characters", '"\\u0041\\/\\u005c\\u0022"'),
+         ("a backslash and a quotation mark", '"\\\\ \\""'),
+         ("all of printable ASCII", json.dumps("".join(map(chr, range(0x20, 0x7F))))),
+         ("no members", "[{},[],\"\"]"), ("zero", "0"), ("the greatest number", "9007199254740991"),
+         ("16 levels", 16 * "[" + 16 * "]"),
+         ("16 levels of objects", 15 * '{"a":' + "{}" + 15 * "}"),
+         ("16 levels round a number, which is none", 16 * "[" + "7" + 16 * "]")]
+NOT_CANONICAL = [("a number past 2^53-1", "9007199254740992"), ("a fraction", "1.0"),
+                 ("an exponent", "1e2"), ("a negative number", "-1"), ("a negative zero", "-0"),
+                 ("a letter past ASCII", '"\u00e9"'), ("the same as an escape", '"\\u00e9"'),
+                 ("a line feed", '"\\n"'), ("the byte 0x7F", '"\\u007f"'),
+                 ("a member's name past ASCII", '{"\u00e9":1}'), ("17 levels", 17 * "[" + 17 * "]"),
+                 ("127 levels round a number", 127 * "[" + "7" + 127 * "]"),
+                 ("a number too small for a float", "1e-400")]
+NOT_JSON = [("a leading zero", "01"), ("a plus sign", "+1"), ("a word", "nan"),
+            ("single quotation marks", "'a'"), ("a comma too many", "[1,]"), ("no comma", "[1 2]"),
+            ("a tab in a string", '"\t"'), ("half of a surrogate pair", '"\\ud800"'),
+            ("an unknown escape", '"\\x41"'), ("a number too great for a float", "1e400"),
+            ("128 levels", 128 * "[" + 128 * "]")]
 
 
 def canonical_texts():

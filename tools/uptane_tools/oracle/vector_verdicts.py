@@ -6,9 +6,8 @@ import json
 
 from uptane_tools.oracle.reference import SCHEME, canonical, moment
 from uptane_tools.oracle.schemes import Ed25519, HmacSha256
-from uptane_tools.oracle.vector_chains import (
-    BOTH_ROOTS, Chain, members, nothing, of_key, of_role, one_key, resigned, trusted,
-)
+from uptane_tools.oracle.vector_chains import (BOTH_ROOTS, Chain, members, nothing, of_key, of_role,
+                                               one_key, resigned, trusted)
 from uptane_tools.oracle.vector_fleet import DAY, FIRST, NOW, key
 
 YES, NO, OLD = "accepted", "refused", "old"
@@ -58,8 +57,7 @@ def of_order(it):
     yield kind, name + "the image of a target behind it", OLD, lacks(2), REPLACED
     yield "none", "an ECU was replaced, and the reply names the one in its place", YES, it.director(
         "targets", lambda signed: signed["targets"][1].update(ecu="left-2")), REPLACED | {
-            "installs": {"gw": "gateway-2.bin", "left-2": "brake-2.bin", "right": "brake-2.bin"}
-        }
+            "installs": {"gw": "gateway-2.bin", "left-2": "brake-2.bin", "right": "brake-2.bin"}}
 
 
 def with_others(text, *more):
@@ -86,13 +84,11 @@ def of_more_signatures(it):
     for name, one in (("that is wrong", second | {"sig": first["sig"]}),
                       ("that names another method", second | {"method": OTHER_METHOD})):
         yield kind, "a Root with a signature more, %s" % name, YES, {
-            "director/2.root.json": with_others(made, one)
-        } | it.reply(root=2), {}
+            "director/2.root.json": with_others(made, one)} | it.reply(root=2), {}
     text = it.files["image/timestamp.json"]
     one = json.loads(text)["signatures"][0] | {"sig": first["sig"]}
     yield kind, "the Image repository's Timestamp with a wrong signature more", YES, {
-        "image/timestamp.json": with_others(text, one)
-    }, {}
+        "image/timestamp.json": with_others(text, one)}, {}
     more = {"more": 1.5}
     name = "a member with a fraction beside what is signed"
     yield kind, name, YES, it.reply(targets=told | more), {}
@@ -128,14 +124,13 @@ def of_trusted_roots(it):
     name = "the trusted Root is of version 64, and there is a newer one"
     yield "none", name, YES, own | newer | it.reply(root=65), {}
     change = of_role("targets", [*FIRST["director"]["targets"]["keys"][:2], key(0x99)], 2)
-    made = it.root(change, roots) | it.director(
-        "targets", nothing, FIRST["director"]["targets"]["keys"][:2], root=2)
+    made = it.root(change, roots) | it.director("targets", nothing,
+                                                FIRST["director"]["targets"]["keys"][:2], root=2)
     name = "a Root with a key that is new to the vehicle, and enough others sign"
     shows = SCHEME is Ed25519
     yield "none" if shows else "arbitrary software", name, YES if shows else NO, made, {}
     yield "none", "a reply of more than 65,536 bytes", YES, {
-        "reply": it.files["reply"] + 65536 * " "
-    }, {}
+        "reply": it.files["reply"] + 65536 * " "}, {}
     whole = it.files["reply"].replace('{"root":1,', '{"root":1.0,')
     yield "arbitrary software", "a reply whose root is 1.0", NO, {"reply": whole}, {}
 
@@ -145,22 +140,17 @@ def of_old_replies(it):
     old = json.loads(it.old)
     kind = "rollback"
     yield kind, "the reply to a manifest before it, for another vehicle", NO, {
-        "reply": canonical(old | {"vehicle": "VIN-2"})
-    }, {}
+        "reply": canonical(old | {"vehicle": "VIN-2"})}, {}
     yield kind, "the reply to a manifest before it, whose Targets are no envelope", OLD, {
-        "reply": canonical(old | {"targets": {}})
-    }, {}
+        "reply": canonical(old | {"targets": {}})}, {}
     yield kind, "the reply to a manifest before it, and a Root that the old keys didn't sign", NO, {
-        "reply": it.old
-    } | it.root(nothing, BOTH_ROOTS[1]), {}
+        "reply": it.old} | it.root(nothing, BOTH_ROOTS[1]), {}
     told = json.loads(it.files["reply"])
     del told["version"]
     yield kind, "a reply without version: no newer Root is asked for", NO, {
-        "reply": canonical(told)
-    }, {}
+        "reply": canonical(told)}, {}
 
 
 CASES = {
     "update": (of_order, of_more_signatures, of_image_targets, of_trusted_roots),
-    "rotation": (of_old_replies, ),
-}
+    "rotation": (of_old_replies, ), }
