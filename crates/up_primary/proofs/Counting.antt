@@ -14,7 +14,7 @@ use Rattle.up_sign.specs.declared.envelope.Envelope.{Envelope}
 use Rattle.up_sign.proofs.Accepted.{bytes_eq-refl}
 use Rattle.up_metadata.specs.declared.keys.RoleSecrets.{RoleSecrets}
 use Rattle.up_metadata.specs.Files.{root_key, role_keys}
-use Rattle.up_primary.specs.Verifiers.{Verifier, has_signed, is_signed_for}
+use Rattle.up_verify.specs.Verifiers.{Verifier, has_signed, is_signed_for}
 use Rattle.up_primary.specs.Following.{can_read}
 
 -- ---- counts

@@ -16,17 +16,17 @@ use Rattle.up_metadata.specs.declared.role_files.RoleTexts.{RoleTexts}
 use Rattle.up_metadata.specs.Files.{root_file}
 use Rattle.up_machine.specs.State.{Entry, Vehicle, empty_state, nth}
 use Rattle.up_machine.specs.Machine.{run}
-use Rattle.up_primary.specs.declared.trust.Trust.{Trust}
-use Rattle.up_primary.specs.declared.trust.Primary.{Primary}
-use Rattle.up_primary.specs.declared.served.Reply.{Reply}
-use Rattle.up_primary.specs.declared.served.Served.{Served}
-use Rattle.up_primary.specs.declared.served.Checked.{Checked}
-use Rattle.up_primary.specs.declared.served.Accepted.{Accepted}
-use Rattle.up_primary.specs.Verifiers.{Verifier, is_signed_for}
-use Rattle.up_primary.specs.Roots.{follow, latest}
-use Rattle.up_primary.specs.declared.asked.Asked.{Asked}
-use Rattle.up_primary.specs.Files.{check_file, check_timestamp, check_files}
-use Rattle.up_primary.specs.Verify.{are_of_version, check_reply, director_now, trusting, verify}
+use Rattle.up_verify.specs.declared.trust.Trust.{Trust}
+use Rattle.up_verify.specs.declared.trust.Primary.{Primary}
+use Rattle.up_verify.specs.declared.served.Reply.{Reply}
+use Rattle.up_verify.specs.declared.served.Served.{Served}
+use Rattle.up_verify.specs.declared.served.Checked.{Checked}
+use Rattle.up_verify.specs.declared.served.Accepted.{Accepted}
+use Rattle.up_verify.specs.Verifiers.{Verifier, is_signed_for}
+use Rattle.up_verify.specs.Roots.{follow, latest}
+use Rattle.up_verify.specs.declared.asked.Asked.{Asked}
+use Rattle.up_verify.specs.Files.{check_file, check_timestamp, check_files}
+use Rattle.up_verify.specs.Verify.{are_of_version, check_reply, director_now, trusting, verify}
 use Rattle.up_primary.specs.Following.{FollowsRoot}
 use Rattle.up_primary.specs.Forging.{IsEntryAt}
 use Rattle.up_primary.specs.Laws.{DirectorIsFresh}

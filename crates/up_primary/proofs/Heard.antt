@@ -28,17 +28,17 @@ use Rattle.up_machine.specs.Replies.{assigned_target, reply_metadata}
 use Rattle.up_machine.specs.Sound.{IsGrounded, IsSound}
 use Rattle.up_machine.proofs.Keeping.{nth_at, there}
 use Rattle.up_machine.proofs.Places.{nth_stays}
-use Rattle.up_primary.specs.declared.trust.Trust.{Trust}
-use Rattle.up_primary.specs.declared.trust.Primary.{Primary}
-use Rattle.up_primary.specs.declared.served.Reply.{Reply}
-use Rattle.up_primary.specs.declared.served.Served.{Served}
-use Rattle.up_primary.specs.declared.served.Checked.{Checked}
-use Rattle.up_primary.specs.declared.served.Accepted.{Accepted}
-use Rattle.up_primary.specs.Verifiers.{Verifier, is_signed_for}
-use Rattle.up_primary.specs.Roots.{follow, latest}
-use Rattle.up_primary.specs.declared.asked.Asked.{Asked}
-use Rattle.up_primary.specs.Files.{same_vehicle, check_file, check_targets, check_files}
-use Rattle.up_primary.specs.Verify.{check_reply, check_target, director_now, image_now, trusting, check_installs, verify}
+use Rattle.up_verify.specs.declared.trust.Trust.{Trust}
+use Rattle.up_verify.specs.declared.trust.Primary.{Primary}
+use Rattle.up_verify.specs.declared.served.Reply.{Reply}
+use Rattle.up_verify.specs.declared.served.Served.{Served}
+use Rattle.up_verify.specs.declared.served.Checked.{Checked}
+use Rattle.up_verify.specs.declared.served.Accepted.{Accepted}
+use Rattle.up_verify.specs.Verifiers.{Verifier, is_signed_for}
+use Rattle.up_verify.specs.Roots.{follow, latest}
+use Rattle.up_verify.specs.declared.asked.Asked.{Asked}
+use Rattle.up_verify.specs.Files.{same_vehicle, check_file, check_targets, check_files}
+use Rattle.up_verify.specs.Verify.{check_reply, check_target, director_now, image_now, trusting, check_installs, verify}
 use Rattle.up_primary.specs.Following.{FollowsRoot}
 use Rattle.up_primary.specs.Forging.{IsEntryAt}
 use Rattle.up_primary.specs.Laws.{DirectorIsHeard}

@@ -18,7 +18,7 @@ use Rattle.up_metadata.specs.Files.{Root, root_file}
 use Rattle.up_metadata.proofs.Lists.{each_weaker}
 use Rattle.up_machine.specs.State.{empty_state, root_at}
 use Rattle.up_machine.specs.Machine.{Timed, run}
-use Rattle.up_primary.specs.Verifiers.{Verifier, has_signed, is_signed_for}
+use Rattle.up_verify.specs.Verifiers.{Verifier, has_signed, is_signed_for}
 use Rattle.up_primary.specs.Forging.{WasSigned, IsEnvelopeOf, IsUnforged, is_safe}
 use Rattle.up_primary.proofs.Counting.{one_alone}
 

@@ -1,7 +1,6 @@
 pub mod Rising
 pub mod Lasting
 pub mod Counting
-pub mod Steps
 pub mod NextRoot
 pub mod ManyRoots
 pub mod Sets
@@ -20,4 +19,4 @@ pub mod Registered
 pub mod StayingTrue
 pub mod Fetching
 pub mod Fresh
-pub mod Checking
+pub mod Rounds

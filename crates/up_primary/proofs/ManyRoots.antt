@@ -13,12 +13,12 @@ use Rattle.up_metadata.specs.Files.{Root, keys_of, root_file, root_text}
 use Rattle.up_machine.specs.State.{State, nth, root_at}
 use Rattle.up_machine.specs.Files.{File, numbered_root_name, numbered_roots, root_text_at}
 use Rattle.up_machine.proofs.Places.{nth_at_place}
-use Rattle.up_primary.specs.declared.trust.Trust.{Trust}
+use Rattle.up_verify.specs.declared.trust.Trust.{Trust}
 use Rattle.up_primary.specs.Following.{AreUpTo}
 use Rattle.up_primary.specs.Machine.{roots_behind}
-use Rattle.up_primary.specs.declared.roots.Followed.{Followed}
-use Rattle.up_primary.specs.Roots.{same_keys, kept_if, same_listing_keys, with_root, next_root, go_on, follow}
-use Rattle.up_primary.specs.Verifiers.{Verifier}
+use Rattle.up_verify.specs.declared.roots.Followed.{Followed}
+use Rattle.up_verify.specs.Roots.{same_keys, kept_if, same_listing_keys, with_root, next_root, go_on, follow}
+use Rattle.up_verify.specs.Verifiers.{Verifier}
 use Rattle.up_primary.proofs.NextRoot.{Known, IsRoot, ReadRoles, next_is}
 
 -- ---- lists

@@ -25,11 +25,11 @@ use Rattle.up_metadata.specs.Files.{Root, keys_of, root_key, role_keys, root_sig
 use Rattle.up_metadata.proofs.Lists.{and_right, all_weaker}
 use Rattle.up_metadata.proofs.RoleFiles.{role_signs, secrets_fit, keys_are_few, roles_fit}
 use Rattle.up_metadata.proofs.RootFiles.{root_file_is_fit, signers_seal}
-use Rattle.up_primary.specs.Verifiers.{Verifier, is_known, are_known, is_signed_for}
-use Rattle.up_primary.specs.Roots.{same_repository, or_unread, next_root}
+use Rattle.up_verify.specs.Verifiers.{Verifier, is_known, are_known, is_signed_for}
+use Rattle.up_verify.specs.Roots.{same_repository, or_unread, next_root}
 use Rattle.up_primary.specs.Following.{all_secrets, can_read}
 use Rattle.up_primary.proofs.Counting.{any_of_filter, any_of, signed_for}
-use Rattle.up_primary.proofs.Steps.{go_ok, pass}
+use Rattle.up_verify.proofs.Steps.{go_ok, pass}
 
 -- ---- what is known of the scheme and of the formats
 

@@ -4,6 +4,7 @@ use Rattle.std.specs.Prelude.{◌==◌, bytes_eq}
 use Rattle.std.specs.List.{AllByRecursion, Contains, list_any}
 use Rattle.std.specs.FinMap as table
 use Rattle.std.specs.Cmp.Lexicographic.{pointwise, bytes_decides}
+use Rattle.std.specs.Option.{option_eq}
 use Rattle.std.proofs.lemmas.Bool.{and_parts, eqb-true, leb-true}
 use Rattle.std.proofs.lemmas.List.Elements.{All-contains_itself, All-from_recursion, recursion_from_All}
 use Rattle.std.proofs.lemmas.Slice.Eq.{slice_eq-Decides, bytes_eq-Decides}
@@ -23,18 +24,17 @@ use Rattle.up_machine.specs.State.{State, empty_state}
 use Rattle.up_machine.specs.Files.{target_of}
 use Rattle.up_machine.specs.Laws.{IsLater}
 use Rattle.up_machine.specs.Machine.{run}
-use Rattle.up_machine.specs.Repositories.{same_hash}
 use Rattle.up_machine.specs.Sound.{IsSound}
 use Rattle.up_machine.proofs.Installing.{found_is}
 use Rattle.up_machine.proofs.Lists.{found_passes}
 use Rattle.up_machine.proofs.Values.{any_found}
-use Rattle.up_primary.specs.declared.refused.Refused.TheVariants.{UnnamedEcu}
-use Rattle.up_primary.specs.declared.trust.OwnEcu.{OwnEcu}
-use Rattle.up_primary.specs.declared.trust.Trust.{Trust}
-use Rattle.up_primary.specs.declared.trust.Primary.{Primary}
-use Rattle.up_primary.specs.Verifiers.{is_signed_for}
-use Rattle.up_primary.specs.Roots.{follow, latest}
-use Rattle.up_primary.specs.Verify.{same_target, own_ecu, not_own, check_target_for, check_target}
+use Rattle.up_verify.specs.declared.refused.Refused.TheVariants.{UnnamedEcu}
+use Rattle.up_verify.specs.declared.trust.OwnEcu.{OwnEcu}
+use Rattle.up_verify.specs.declared.trust.Trust.{Trust}
+use Rattle.up_verify.specs.declared.trust.Primary.{Primary}
+use Rattle.up_verify.specs.Verifiers.{is_signed_for}
+use Rattle.up_verify.specs.Roots.{follow, latest}
+use Rattle.up_verify.specs.Verify.{same_target, own_ecu, not_own, check_target_for, check_target}
 use Rattle.up_primary.specs.Following.{FollowsRoot}
 use Rattle.up_primary.specs.Laws.{IsRegistered, OnlyRegisteredIsInstalled}
 use Rattle.up_primary.proofs.Heard.{accepted_parts}
@@ -78,7 +78,7 @@ each_parts p images (t ∷ ts) us h = first_ok _ _ _ _ h (λ u is h. first_ok _ 
 
 -- ---- the image that it is
 
-same_hashes : (a b : Option (List ℕ)) → same_hash a b ≡ true → a ≡ b
+same_hashes : (a b : Option (List ℕ)) → option_eq bytes_eq a b ≡ true → a ≡ b
 same_hashes None None h = refl
 same_hashes (Some a) (Some b) h = ap Some ((bytes_decides a b).0 h)
 same_hashes None (Some b) h = cc

@@ -23,17 +23,17 @@ use Rattle.up_metadata.specs.Keys.{role_fits, repository_fits}
 use Rattle.up_metadata.specs.Files.{Root, keys_of, role_keys, root_file, MetadataSet, targets_file, snapshot_file, snapshot_text, timestamp_file, role_texts}
 use Rattle.up_metadata.proofs.RoleFiles.{roles_fit}
 use Rattle.up_laws.specs.Readings.{AreReadAgain}
-use Rattle.up_primary.specs.declared.refused.Role.TheVariants.{Timestamp, Snapshot, Targets}
-use Rattle.up_primary.specs.declared.trust.Versions.{Versions}
-use Rattle.up_primary.specs.declared.trust.Trust.{Trust}
-use Rattle.up_primary.specs.Verifiers.{Verifier, is_signed_for}
-use Rattle.up_primary.specs.Roots.{same_repository, or_unread}
-use Rattle.up_primary.specs.declared.asked.Asked.{Asked}
-use Rattle.up_primary.specs.declared.asked.Says.{Says}
-use Rattle.up_primary.specs.Files.{same_vehicle, of_file, check_file, check_timestamp, check_snapshot, check_targets, check_files}
+use Rattle.up_verify.specs.declared.refused.Role.TheVariants.{Timestamp, Snapshot, Targets}
+use Rattle.up_verify.specs.declared.trust.Versions.{Versions}
+use Rattle.up_verify.specs.declared.trust.Trust.{Trust}
+use Rattle.up_verify.specs.Verifiers.{Verifier, is_signed_for}
+use Rattle.up_verify.specs.Roots.{same_repository, or_unread}
+use Rattle.up_verify.specs.declared.asked.Asked.{Asked}
+use Rattle.up_verify.specs.declared.asked.Says.{Says}
+use Rattle.up_verify.specs.Files.{same_vehicle, of_file, check_file, check_timestamp, check_snapshot, check_targets, check_files}
 use Rattle.up_primary.specs.Following.{can_read, AreUpTo}
 use Rattle.up_primary.proofs.NextRoot.{Known, ReadRoles, sealed_for, same_one, among_itself}
-use Rattle.up_primary.proofs.Steps.{go_ok, pass}
+use Rattle.up_verify.proofs.Steps.{go_ok, pass}
 
 same_name : (vehicle : Option Name) → same_vehicle vehicle vehicle ≡ true
 same_name None = refl

@@ -4,6 +4,7 @@ use Rattle.std.specs.Prelude.{◌&&◌, ◌||◌, ◌==◌, length, bytes_eq, fi
 use Rattle.std.specs.List.{AllByRecursion, list_any, cons_option}
 use Rattle.std.specs.FinMap as table
 use Rattle.std.specs.Cmp.Lexicographic.{pointwise}
+use Rattle.std.specs.Option.{option_eq}
 use Rattle.std.proofs.lemmas.Bool.{eq-eqb, lt-ltb}
 use Rattle.std.proofs.lemmas.Bool.Decides.{nat_tests}
 use Rattle.std.proofs.lemmas.List.Elements.{recursion_from_All}
@@ -24,23 +25,22 @@ use Rattle.up_plan.specs.Images.{ImageData}
 use Rattle.up_metadata.specs.Files.{Root, keys_of, root_file, targets_file, role_texts}
 use Rattle.up_machine.specs.State.{Entry, Vehicle, State, root_at, version}
 use Rattle.up_machine.specs.Files.{image_metadata, target_of}
-use Rattle.up_machine.specs.Repositories.{same_hash}
 use Rattle.up_machine.specs.Replies.{assigned_target, reply_metadata}
 use Rattle.up_machine.proofs.Values.{found_any}
 use Rattle.up_laws.specs.Readings.{RepliesAreReadAgain}
-use Rattle.up_primary.specs.declared.refused.Fault.TheVariants.{Expired}
-use Rattle.up_primary.specs.declared.refused.Role.TheVariants.{Root as RootRole}
-use Rattle.up_primary.specs.declared.refused.Refused.TheVariants.{UnnamedEcu}
-use Rattle.up_primary.specs.declared.trust.Trust.{Trust}
-use Rattle.up_primary.specs.declared.trust.Primary.{Primary}
-use Rattle.up_primary.specs.declared.served.Served.{Served}
-use Rattle.up_primary.specs.declared.served.Checked.{Checked}
-use Rattle.up_primary.specs.declared.served.Accepted.{Accepted}
-use Rattle.up_primary.specs.Verifiers.{Verifier}
-use Rattle.up_primary.specs.declared.roots.Followed.{Followed}
-use Rattle.up_primary.specs.Roots.{follow, unless_expired, latest}
-use Rattle.up_primary.specs.Files.{of_file, check_files}
-use Rattle.up_primary.specs.Verify.{check_reply, same_target, not_own, check_target_for, check_target, director_now, image_now, trusting, check_installs, verify}
+use Rattle.up_verify.specs.declared.refused.Fault.TheVariants.{Expired}
+use Rattle.up_verify.specs.declared.refused.Role.TheVariants.{Root as RootRole}
+use Rattle.up_verify.specs.declared.refused.Refused.TheVariants.{UnnamedEcu}
+use Rattle.up_verify.specs.declared.trust.Trust.{Trust}
+use Rattle.up_verify.specs.declared.trust.Primary.{Primary}
+use Rattle.up_verify.specs.declared.served.Served.{Served}
+use Rattle.up_verify.specs.declared.served.Checked.{Checked}
+use Rattle.up_verify.specs.declared.served.Accepted.{Accepted}
+use Rattle.up_verify.specs.Verifiers.{Verifier}
+use Rattle.up_verify.specs.declared.roots.Followed.{Followed}
+use Rattle.up_verify.specs.Roots.{follow, unless_expired, latest}
+use Rattle.up_verify.specs.Files.{of_file, check_files}
+use Rattle.up_verify.specs.Verify.{check_reply, same_target, not_own, check_target_for, check_target, director_now, image_now, trusting, check_installs, verify}
 use Rattle.up_primary.specs.Machine.{reply_for, roots_behind, served_in}
 use Rattle.up_primary.specs.Following.{FollowsRoot, AreUpTo, Follows, Suits}
 use Rattle.up_primary.specs.Laws.{ImageFilesAreReadAgain, RootsAreSmall, RepliesAreTaken}
@@ -48,7 +48,7 @@ use Rattle.up_primary.proofs.ManyRoots.{Reached, roots_reached, number_within}
 use Rattle.up_primary.proofs.NextRoot.{Known, read_roles}
 use Rattle.up_primary.proofs.Serving.{repository_keys_fit, sound_root, serves_roots}
 use Rattle.up_primary.proofs.Sets.{all_of, set_checked}
-use Rattle.up_primary.proofs.Steps.{go_ok, pass}
+use Rattle.up_verify.proofs.Steps.{go_ok, pass}
 
 -- ---- the latest Root
 
@@ -74,7 +74,7 @@ pub list_any-map : {A B : Type 0} (p : B → Bool) (f : A → B) (xs : List A) �
 list_any-map p f [] = refl
 list_any-map p f (x ∷ xs) = ap (λ b. p (f x) || b) (list_any-map p f xs)
 
-same_hashes : (h : Option (List ℕ)) → same_hash h h ≡ true
+same_hashes : (h : Option (List ℕ)) → option_eq bytes_eq h h ≡ true
 same_hashes None = refl
 same_hashes (Some x) = bytes_eq-refl x
 

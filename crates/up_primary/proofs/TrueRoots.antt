@@ -15,13 +15,13 @@ use Rattle.up_roles.specs.Root.{root_in}
 use Rattle.up_metadata.specs.Files.{root_file}
 use Rattle.up_machine.specs.State.{empty_state}
 use Rattle.up_machine.specs.Machine.{Timed, run}
-use Rattle.up_primary.specs.declared.refused.Fault.{Fault}
-use Rattle.up_primary.specs.declared.refused.Role.{Role}
-use Rattle.up_primary.specs.declared.trust.Trust.{Trust}
-use Rattle.up_primary.specs.Verifiers.{Verifier, is_signed_for}
-use Rattle.up_primary.specs.declared.roots.Followed.{Followed}
-use Rattle.up_primary.specs.Roots.{same_repository, or_unread, next_root, with_root, go_on, follow, unless_expired, latest}
-use Rattle.up_primary.specs.Files.{of_file}
+use Rattle.up_verify.specs.declared.refused.Fault.{Fault}
+use Rattle.up_verify.specs.declared.refused.Role.{Role}
+use Rattle.up_verify.specs.declared.trust.Trust.{Trust}
+use Rattle.up_verify.specs.Verifiers.{Verifier, is_signed_for}
+use Rattle.up_verify.specs.declared.roots.Followed.{Followed}
+use Rattle.up_verify.specs.Roots.{same_repository, or_unread, next_root, with_root, go_on, follow, unless_expired, latest}
+use Rattle.up_verify.specs.Files.{of_file}
 use Rattle.up_primary.specs.Following.{FollowsRoot, KeysAgree}
 use Rattle.up_primary.specs.Forging.{IsUnforged, AreSafeFrom}
 use Rattle.up_primary.specs.Laws.{AreGiven}
@@ -50,7 +50,7 @@ latest_parts : (now : ℕ) (t x : Trust) (fault : Option Fault) → unless_expir
 latest_parts now t x (Some fault) h = cc
 latest_parts now t x None h = by_test (nat_lt now t.root.expires) h
   where
-    by_test : (b : Bool) → ◌≡◌ {A = Result Trust Fault} (if b then Ok t else Err Rattle.up_primary.specs.declared.refused.Fault.TheVariants.Expired) (Ok x) → t ≡ x
+    by_test : (b : Bool) → ◌≡◌ {A = Result Trust Fault} (if b then Ok t else Err Rattle.up_verify.specs.declared.refused.Fault.TheVariants.Expired) (Ok x) → t ≡ x
     by_test true h = same_ok _ _ h
     by_test false h = cc
 

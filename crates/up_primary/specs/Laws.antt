@@ -21,13 +21,13 @@ use Rattle.up_machine.specs.Sound.{IsSound}
 use Rattle.up_laws.specs.Plans.{HasOwnPlans}
 use Rattle.up_laws.specs.Readings.{AreReadAgain}
 use Rattle.up_laws.specs.Typed.{IsTyped, command_is_typed}
-use Rattle.up_primary.specs.declared.trust.OwnEcu.{OwnEcu}
-use Rattle.up_primary.specs.declared.trust.Primary.{Primary}
-use Rattle.up_primary.specs.declared.served.Served.{Served}
-use Rattle.up_primary.specs.declared.served.Accepted.{Accepted}
-use Rattle.up_primary.specs.Verifiers.{Verifier}
-use Rattle.up_primary.specs.Roots.{follow}
-use Rattle.up_primary.specs.Verify.{verify, after}
+use Rattle.up_verify.specs.declared.trust.OwnEcu.{OwnEcu}
+use Rattle.up_verify.specs.declared.trust.Primary.{Primary}
+use Rattle.up_verify.specs.declared.served.Served.{Served}
+use Rattle.up_verify.specs.declared.served.Accepted.{Accepted}
+use Rattle.up_verify.specs.Verifiers.{Verifier}
+use Rattle.up_verify.specs.Roots.{follow}
+use Rattle.up_verify.specs.Verify.{verify, after}
 use Rattle.up_primary.specs.Machine.{reply_for, served_in}
 use Rattle.up_primary.specs.Forging.{IsEntryAt, IsUnforged, AreUnforged, AreSafeFrom, AreSafeTimestamps}
 use Rattle.up_primary.specs.Following.{FollowsRoot, AreUpTo, Follows, KnowsKeys, KeysAgree, KnowsEcu, Suits, IsFresh}

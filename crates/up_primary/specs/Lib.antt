@@ -1,9 +1,5 @@
-pub mod Verifiers
-pub mod Roots
-pub mod Files
-pub mod Verify
-pub mod Results
 pub mod Machine
 pub mod Forging
 pub mod Following
 pub mod Laws
+pub mod Rounds

@@ -32,7 +32,8 @@ LANES = {
         "up_plan": "plans",
         "up_machine": "state, decisions",
         "up_laws": "laws of replies",
-        "up_primary": "a verified Primary",
+        "up_verify": "a Primary's checks",
+        "up_primary": "a Primary's laws",
         "up_uptane": "Uptane's laws",
     },
     "the database": {

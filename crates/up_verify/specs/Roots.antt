@@ -11,12 +11,11 @@ use Rattle.up_roles.specs.declared.root.RootKey.{RootKey}
 use Rattle.up_roles.specs.declared.root.RoleKeys.{RoleKeys}
 use Rattle.up_roles.specs.declared.root.RootFile.{RootFile}
 use Rattle.up_roles.specs.Root.{root_in}
-use Rattle.up_primary.specs.declared.refused.Fault.{Fault}
-use Rattle.up_primary.specs.declared.refused.Fault.TheVariants.{Unread, OtherRepository, NotNext, UnknownKey, NotSignedBefore, NotSigned, Expired}
-use Rattle.up_primary.specs.declared.trust.Versions.{Versions}
-use Rattle.up_primary.specs.declared.trust.Trust.{Trust}
-use Rattle.up_primary.specs.declared.roots.Followed.{Followed}
-use Rattle.up_primary.specs.Verifiers.{Verifier, are_known, is_signed_for}
+use Rattle.up_verify.specs.declared.refused.Fault.{Fault}
+use Rattle.up_verify.specs.declared.refused.Fault.TheVariants.{Unread, OtherRepository, NotNext, UnknownKey, NotSignedBefore, NotSigned, Expired}
+use Rattle.up_verify.specs.declared.trust.Trust.{Trust}
+use Rattle.up_verify.specs.declared.roots.Followed.{Followed}
+use Rattle.up_verify.specs.Verifiers.{Verifier, are_known, is_signed_for}
 
 abbrev pub same_repository : Repository → Repository → Bool
 same_repository Director Director = true

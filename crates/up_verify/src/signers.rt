@@ -2,7 +2,7 @@
 ghost use Rattle.std.specs.Prelude.{◌≡◌, ◌&&◌, IfOk, bytes_eq, count_by, nat_le};
 ghost use Rattle.std.specs.List.{list_all, list_any};
 ghost use Rattle.up_sign.specs.Envelopes.{is_satisfied};
-ghost use Rattle.up_primary.specs.Verifiers.{verifier, is_of as is_of_key, is_known as is_known_to, are_known as are_known_to, has_signed as has_signed_by, is_signed_for as is_signed_for_role};
+ghost use Rattle.up_verify.specs.Verifiers.{verifier, is_of as is_of_key, is_known as is_known_to, are_known as are_known_to, has_signed as has_signed_by, is_signed_for as is_signed_for_role};
 
 use crate::known_key::KnownKey;
 use std::alloc::{AllocError, Global};

@@ -57,3 +57,15 @@ pub struct Primary {
     pub director: Trust,
     pub image: Trust,
 }
+
+impl Duplicate for Primary {
+    fn copy(&self, alloc: Global) -> Result<Primary, AllocError> {
+        Ok(Primary {
+            vehicle: self.vehicle.copy(alloc)?,
+            ecus: self.ecus.copy(alloc)?,
+            replaced: self.replaced.copy(alloc)?,
+            director: self.director.copy(alloc)?,
+            image: self.image.copy(alloc)?,
+        })
+    }
+}

@@ -14,18 +14,18 @@ use Rattle.up_roles.specs.Snapshot.{snapshot_in}
 use Rattle.up_roles.specs.Targets.{targets_in}
 use Rattle.up_roles.specs.Timestamp.{timestamp_in}
 use Rattle.up_metadata.specs.declared.role_files.RoleTexts.{RoleTexts}
-use Rattle.up_primary.specs.declared.refused.Fault.{Fault}
-use Rattle.up_primary.specs.declared.refused.Fault.TheVariants.{OtherRepository, OtherVehicle, NotSigned, NotNamed, GoesBack, Expired}
-use Rattle.up_primary.specs.declared.refused.Role.{Role}
-use Rattle.up_primary.specs.declared.refused.Role.TheVariants.{Timestamp, Snapshot, Targets}
-use Rattle.up_primary.specs.declared.refused.Refused.{Refused}
-use Rattle.up_primary.specs.declared.refused.Refused.TheVariants.{File}
-use Rattle.up_primary.specs.declared.trust.Trust.{Trust}
-use Rattle.up_primary.specs.declared.served.Checked.{Checked}
-use Rattle.up_primary.specs.declared.asked.Asked.{Asked}
-use Rattle.up_primary.specs.declared.asked.Says.{Says}
-use Rattle.up_primary.specs.Verifiers.{Verifier, is_signed_for}
-use Rattle.up_primary.specs.Roots.{same_repository, or_unread}
+use Rattle.up_verify.specs.declared.refused.Fault.{Fault}
+use Rattle.up_verify.specs.declared.refused.Fault.TheVariants.{OtherRepository, OtherVehicle, NotSigned, NotNamed, GoesBack, Expired}
+use Rattle.up_verify.specs.declared.refused.Role.{Role}
+use Rattle.up_verify.specs.declared.refused.Role.TheVariants.{Timestamp, Snapshot, Targets}
+use Rattle.up_verify.specs.declared.refused.Refused.{Refused}
+use Rattle.up_verify.specs.declared.refused.Refused.TheVariants.{File}
+use Rattle.up_verify.specs.declared.trust.Trust.{Trust}
+use Rattle.up_verify.specs.declared.served.Checked.{Checked}
+use Rattle.up_verify.specs.declared.asked.Asked.{Asked}
+use Rattle.up_verify.specs.declared.asked.Says.{Says}
+use Rattle.up_verify.specs.Verifiers.{Verifier, is_signed_for}
+use Rattle.up_verify.specs.Roots.{same_repository, or_unread}
 
 -- both name the same vehicle, or none
 abbrev pub same_vehicle : Option Name → Option Name → Bool

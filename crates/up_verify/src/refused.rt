@@ -41,7 +41,7 @@ pub enum Fault {
 
 impl From<Refusal> for Fault {
     ghost use Rattle.std.specs.Prelude.{◌≡◌};
-    ghost use Rattle.up_primary.specs.declared.refused.Fault.TheVariants.{Unread};
+    ghost use Rattle.up_verify.specs.declared.refused.Fault.TheVariants.{Unread};
 
     ghost from_gives = { λ r e. e ≡ Unread r };
 
@@ -53,7 +53,7 @@ impl From<Refusal> for Fault {
 impl From<AllocError> for Fault {
     ghost use Rattle.std.specs.Prelude.{◌≡◌};
     ghost use Rattle.up_canon.specs.declared.refusal.Refusal.TheVariants.{Memory};
-    ghost use Rattle.up_primary.specs.declared.refused.Fault.TheVariants.{Unread};
+    ghost use Rattle.up_verify.specs.declared.refused.Fault.TheVariants.{Unread};
 
     ghost from_gives = { λ _ e. e ≡ Unread Memory };
 
@@ -93,7 +93,7 @@ pub enum Refused {
 
 impl From<AllocError> for Refused {
     ghost use Rattle.std.specs.Prelude.{◌≡◌};
-    ghost use Rattle.up_primary.specs.declared.refused.Refused.TheVariants.{Memory};
+    ghost use Rattle.up_verify.specs.declared.refused.Refused.TheVariants.{Memory};
 
     ghost from_gives = { λ _ e. e ≡ Memory };
 
@@ -104,7 +104,7 @@ impl From<AllocError> for Refused {
 
 impl<T: Drop> From<AllocFailed<T>> for Refused {
     ghost use Rattle.std.specs.Prelude.{◌≡◌};
-    ghost use Rattle.up_primary.specs.declared.refused.Refused.TheVariants.{Memory};
+    ghost use Rattle.up_verify.specs.declared.refused.Refused.TheVariants.{Memory};
 
     ghost from_gives = { λ _ e. e ≡ Memory };
 

@@ -7,11 +7,11 @@ use Rattle.up_sign.specs.Envelopes.{is_satisfied, is_accepted}
 use Rattle.up_sign.specs.Schemes.{Rules}
 use Rattle.up_sign.specs.declared.envelope.Envelope.{Envelope}
 use Rattle.up_roles.specs.declared.root.RootFile.{RootFile}
-use Rattle.up_primary.specs.declared.refused.Fault.{Fault}
-use Rattle.up_primary.specs.declared.roots.Followed.{Followed}
-use Rattle.up_primary.specs.declared.trust.Trust.{Trust}
-use Rattle.up_primary.specs.Results.{lacks_memory, ChecksFile, Follows}
-use Rattle.up_primary.specs.Roots.{go_on}
+use Rattle.up_verify.specs.declared.refused.Fault.{Fault}
+use Rattle.up_verify.specs.declared.roots.Followed.{Followed}
+use Rattle.up_verify.specs.declared.trust.Trust.{Trust}
+use Rattle.up_verify.specs.Results.{lacks_memory, ChecksFile, Follows}
+use Rattle.up_verify.specs.Roots.{go_on}
 
 -- ---- counts
 

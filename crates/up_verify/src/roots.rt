@@ -2,9 +2,9 @@
 ghost use Rattle.std.specs.Prelude.{◌≡◌, ◌==◌, ◌+◌};
 ghost use Rattle.std.specs.List.{list_all, list_any};
 ghost use Rattle.up_roles.specs.Root.{root_in};
-ghost use Rattle.up_primary.specs.Results.{ChecksFile, Follows};
-ghost use Rattle.up_primary.specs.Roots.{same_repository as same_repository_as, or_unread, next_root as next_root_of, has_id as has_id_in, same_keys as same_keys_as, kept_if as kept_if_of, same_listing_keys as same_listing_keys_as, with_root as with_root_of, follow as follow_roots};
-ghost use Rattle.up_primary.specs.Verifiers.{verifier};
+ghost use Rattle.up_verify.specs.Results.{ChecksFile, Follows};
+ghost use Rattle.up_verify.specs.Roots.{same_repository as same_repository_as, or_unread, next_root as next_root_of, has_id as has_id_in, same_keys as same_keys_as, kept_if as kept_if_of, same_listing_keys as same_listing_keys_as, with_root as with_root_of, follow as follow_roots};
+ghost use Rattle.up_verify.specs.Verifiers.{verifier};
 
 use crate::known_key::KnownKey;
 use crate::refused::Fault;

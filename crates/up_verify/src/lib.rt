@@ -1,0 +1,13 @@
+//! Full verification by a Primary, as the Uptane Standard 2.1.0 asks: what it trusts, and what it takes of what is served.
+#![tactic(auto)]
+
+pub mod asked;
+mod files;
+mod installs;
+pub mod known_key;
+pub mod refused;
+pub mod roots;
+pub mod served;
+mod signers;
+pub mod trust;
+pub mod verify;
