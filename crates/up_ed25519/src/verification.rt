@@ -1,6 +1,6 @@
 //! Whether a signature is valid.
 ghost use Rattle.std.specs.Prelude.{◌≡◌, ◌<◌, ℕ, length, take, drop, Some};
-ghost use Rattle.up_field.specs.Points.{AreTight, Writes};
+ghost use Rattle.up_field.specs.Points.{Writes};
 ghost use Rattle.up_curve.specs.Curve.{Point, order, base as base_point, add, multiple};
 ghost use Rattle.up_curve.specs.LittleEndian.{number};
 ghost use Rattle.up_curve.specs.Encoding.{decode as decode_of};
@@ -81,8 +81,6 @@ fn equation_of(
 fn equation(s: &[u8], k: &[u8; 32], a: Extended, r: Extended) -> bool
     requires first { length s.now ≡ 32 }
     requires below { number s.now < order }
-    requires public { AreTight a }
-    requires nonce { AreTight r }
     ensures { (m n : Point) → Writes a m → Writes r n
         → result ≡ is_same_point (multiple (number s.now) base_point) (add n (multiple (number k.now) m)) }
 {

@@ -1,5 +1,5 @@
 -- Multiples of the base point by a list of sums, each of them checked by its coordinates.
-use Rattle.std.proofs.Common.{◌≡◌, ◌≢◌, ℕ, zero, suc, ◌+◌, ◌*◌, ◌-◌, ◌^◌, ◌%◌, ◌<◌, Bool, true, false, ◌&&◌, eqb, ltb, eqb-true, ltb-true, List, [], ◌∷◌, length, get_or, refl, sym, ◌∙◌, ap, ap₂, subst, arith, mod-eq_of_lt}
+use Rattle.std.proofs.Common.{◌≡◌, ◌≢◌, ℕ, zero, suc, ◌+◌, ◌*◌, ◌-◌, ◌%◌, ◌<◌, Bool, true, false, ◌&&◌, eqb, ltb, eqb-true, ltb-true, List, [], ◌∷◌, length, get_or, refl, sym, ◌∙◌, ap, ap₂, subst, arith, mod-eq_of_lt}
 use Rattle.up_curve.specs.Field.{p, inverse}
 use Rattle.up_curve.specs.Curve.{d, Point, add, multiple, base, neutral}
 use Rattle.up_curve.specs.Points.{IsPoint}
@@ -9,9 +9,8 @@ use Rattle.up_curve.proofs.Prime.{prime_p}
 use Rattle.up_curve.proofs.Curve.{inverts, nonsquare, sum_of, add_point, add_comm, add_neutral, add_associative, multiple_point, multiple-add, multiple-one, base_point}
 use Rattle.up_curve.proofs.Negated.{negated_point, add_negated}
 use Rattle.up_field.specs.declared.affine.Affine.{Affine}
-use Rattle.up_field.specs.declared.limbs.Field.{Field}
-use Rattle.up_field.specs.Affine.{AreAffine, Keeps}
-use Rattle.up_field.specs.Points.{IsTight, number}
+use Rattle.up_field.specs.Affine.{Keeps}
+use Rattle.up_field.specs.Points.{number}
 
 -- ---- the sum of two points is the one whose coordinates fit
 
@@ -92,14 +91,10 @@ abbrev pub is_linked : Bool → Known → Known → Known → Bool
 is_linked false a b r = eqb r.n (a.n + b.n) && is_sum (point_of a) (point_of b) (point_of r)
 is_linked true a b r = eqb (r.n + a.n) b.n && is_sum (point_of r) (point_of a) (point_of b)
 
-abbrev pub is_tight : Field → Bool
-is_tight f = ltb f.l0 (2 ^ 52) && (ltb f.l1 (2 ^ 52) && (ltb f.l2 (2 ^ 52) && (ltb f.l3 (2 ^ 52) && ltb f.l4 (2 ^ 52))))
-
 abbrev pub is_kept : Known → Affine → Bool
 is_kept k e =
-    (is_tight e.plus && (is_tight e.minus && is_tight e.t))
-    && (eqb (number e.plus % p) ((k.y + k.x) % p)
-    && (eqb (number e.minus % p) ((k.y + (p - 1) * k.x) % p) && eqb (number e.t % p) ((2 * d * (k.x * k.y)) % p)))
+    eqb (number e.plus % p) ((k.y + k.x) % p)
+    && (eqb (number e.minus % p) ((k.y + (p - 1) * k.x) % p) && eqb (number e.t % p) ((2 * d * (k.x * k.y)) % p))
 
 abbrev pub is_shown : Bool → Known → List Affine → Bool
 is_shown false k ts = true
@@ -137,9 +132,8 @@ pub record IsKnown (k : Known) : Type 0 where
 pub record AllKnown (ks : List Known) : Type 0 where
   pub each : (i : ℕ) → IsKnown (get_or ks i first)
 
--- an entry of limbs below 2^52 that keeps a multiple
+-- an entry that keeps a multiple
 pub record IsEntry (e : Affine) (n : ℕ) : Type 0 where
-  pub tight : AreAffine e
   pub keeps : Keeps e (multiple n base)
 
 both : (a b : Bool) → (a && b) ≡ true → (a ≡ true) × (b ≡ true)
@@ -195,26 +189,12 @@ linked_is true a b r h k l e =
           ∙ sym (sum_fits (point_of r) (point_of a) (point_of b) l h.point k.point x.1));
     }
 
-tight_is : (f : Field) → is_tight f ≡ true → IsTight f
-tight_is f e =
-    let a = both _ _ e in
-    let b = both _ _ a.1 in
-    let c = both _ _ b.1 in
-    let g = both (ltb f.l3 (2 ^ 52)) (ltb f.l4 (2 ^ 52)) c.1 in
-    record { l0 = ltb-true f.l0 (2 ^ 52) a.0; l1 = ltb-true f.l1 (2 ^ 52) b.0; l2 = ltb-true f.l2 (2 ^ 52) c.0; l3 = ltb-true f.l3 (2 ^ 52) g.0; l4 = ltb-true f.l4 (2 ^ 52) g.1 }
-
 kept_is : (k : Known) (e : Affine) → IsKnown k → is_kept k e ≡ true → IsEntry e k.n
 kept_is k e h t =
-    let a = both _ _ t in
-    let b = both (is_tight e.plus) (is_tight e.minus && is_tight e.t) a.0 in
-    let c = both (is_tight e.minus) (is_tight e.t) b.1 in
-    let u = both _ _ a.1 in
+    let u = both _ _ t in
     let v = both _ _ u.1 in
     let keeps : Keeps e (point_of k) = record { point = h.point; holds = record { plus_is = eqb-true _ _ u.0; minus_is = eqb-true _ _ v.0; t_is = eqb-true _ _ v.1 } } in
-    record {
-      tight = record { plus = tight_is e.plus b.0; minus = tight_is e.minus c.0; t = tight_is e.t c.1 };
-      keeps = subst (Keeps e) (sym h.is) keeps;
-    }
+    record { keeps = subst (Keeps e) (sym h.is) keeps }
 
 -- the table's entries keep the multiples by the numbers that are shown
 pub chain_is : (ss : List Step) (ks : List Known) (ts : List Affine) → AllKnown ks → is_chain ss ks ts ≡ true

@@ -36,12 +36,12 @@ unscaled c x y z t a h r = record {
 
 module _ (x y z t : ℕ) (a : Point) (m : Represents x y z t a) (s u v c h n q e g f rx ry rz rt : ℕ)
     (hs : s % p ≡ (x * x) % p) (hu : u % p ≡ (y * y) % p) (hv : v % p ≡ (z * z) % p) (hc : c % p ≡ (v + v) % p) (hh : h % p ≡ (s + u) % p)
-    (hn : n % p ≡ (x + y) % p) (hq : q % p ≡ (n * n) % p) (he : (e + q) % p ≡ (h + 4 * p) % p)
-    (w : ℕ) (hw : (w + u) % p ≡ (s + 4 * p) % p) (hg : g % p ≡ w % p) (hf : f % p ≡ (c + g) % p)
+    (hn : n % p ≡ (x + y) % p) (hq : q % p ≡ (n * n) % p) (he : (e + q) % p ≡ h % p)
+    (hg : (g + u) % p ≡ s % p) (hf : f % p ≡ (c + g) % p)
     (hx : rx % p ≡ (e * f) % p) (hy : ry % p ≡ (g * h) % p) (hz : rz % p ≡ (f * g) % p) (ht : rt % p ≡ (e * h) % p) where
   -- a term for each number
   xs : List ℕ
-  xs = x ∷ y ∷ z ∷ t ∷ a.x ∷ a.y ∷ d ∷ s ∷ u ∷ v ∷ c ∷ h ∷ n ∷ q ∷ e ∷ g ∷ f ∷ w ∷ []
+  xs = x ∷ y ∷ z ∷ t ∷ a.x ∷ a.y ∷ d ∷ s ∷ u ∷ v ∷ c ∷ h ∷ n ∷ q ∷ e ∷ g ∷ f ∷ []
 
   X : Term
   X = var 0
@@ -65,7 +65,7 @@ module _ (x y z t : ℕ) (a : Point) (m : Represents x y z t a) (s u v c h n q e
   unfolding xs X Y
   e_is =
       same_by p (times (num 2) (plus (times X Y) (times X Y))) (times (num (p - 2)) (var 14)) xs
-      ((num 2, plus (var 14) (var 13), plus (var 11) (num (4 * p)))
+      ((num 2, plus (var 14) (var 13), var 11)
       ∷ (minus (num 2), var 13, sq (var 12))
       ∷ (num 2, var 11, plus (var 7) (var 8))
       ∷ (num 2, var 7, sq X)
@@ -85,13 +85,12 @@ module _ (x y z t : ℕ) (a : Point) (m : Represents x y z t a) (s u v c h n q e
   unfolding xs X Y
   g_is =
       same_by p (times (num 2) (plus (sq (var 2)) (times (var 6) (sq (var 3))))) (times (num (p - 2)) (var 15)) xs
-      ((num 2, var 15, var 17)
-      ∷ (num 2, plus (var 17) (var 8), plus (var 7) (num (4 * p)))
+      ((num 2, plus (var 15) (var 8), var 7)
       ∷ (num 2, var 7, sq X)
       ∷ (minus (num 2), var 8, sq Y)
       ∷ (minus (num 2), sq Y, plus (sq X) (plus (sq (var 2)) (times (var 6) (sq (var 3)))))
       ∷ [])
-      (hg, (hw, (hs, (hu, (curve, tt))))) refl
+      (hg, (hs, (hu, (curve, tt)))) refl
 
   f_is : f_of z t z t % p ≡ (2 * f) % p
   unfolding xs X Y

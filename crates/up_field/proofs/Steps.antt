@@ -54,12 +54,12 @@ picked_first w u v s c a b hw hs hu hv e =
     ap (λ t. if t then Some c else (if eqb ((b * (c * c) + a) % p) 0 then Some ((c * i) % p) else None))
     (ap₂ eqb (sym (square_is w v s c b hw hs hv)) (sym hu) ∙ e)
 
-second : (w u v s c a b x : ℕ) → w % p ≡ (v * s) % p → s % p ≡ (c * c) % p → u % p ≡ a % p → v % p ≡ b % p → x ≡ w + u
+second : (w u v s c a b x : ℕ) → w % p ≡ (v * s) % p → s % p ≡ (c * c) % p → u % p ≡ a % p → v % p ≡ b % p → x % p ≡ (w + u) % p
     → (b * (c * c) + a) % p ≡ x % p
 second w u v s c a b x hw hs hu hv hx =
-    mod_plus p (b * (c * c)) w a u (sym (square_is w v s c b hw hs hv)) (sym hu) ∙ ap (λ n. n % p) (sym hx)
+    mod_plus p (b * (c * c)) w a u (sym (square_is w v s c b hw hs hv)) (sym hu) ∙ sym hx
 
-pub picked_second : (w u v s c a b x : ℕ) → w % p ≡ (v * s) % p → s % p ≡ (c * c) % p → u % p ≡ a % p → v % p ≡ b % p → x ≡ w + u
+pub picked_second : (w u v s c a b x : ℕ) → w % p ≡ (v * s) % p → s % p ≡ (c * c) % p → u % p ≡ a % p → v % p ≡ b % p → x % p ≡ (w + u) % p
     → eqb (w % p) (u % p) ≡ false → eqb (x % p) 0 ≡ true → root_of a b c ≡ Some ((c * i) % p)
 unfolding root_of
 picked_second w u v s c a b x hw hs hu hv hx e f =
@@ -67,7 +67,7 @@ picked_second w u v s c a b x hw hs hu hv hx e f =
     (ap₂ eqb (sym (square_is w v s c b hw hs hv)) (sym hu) ∙ e)
     ∙ ap (λ t. if t then Some ((c * i) % p) else None) (ap (λ n. eqb n 0) (second w u v s c a b x hw hs hu hv hx) ∙ f)
 
-pub picked_none : (w u v s c a b x : ℕ) → w % p ≡ (v * s) % p → s % p ≡ (c * c) % p → u % p ≡ a % p → v % p ≡ b % p → x ≡ w + u
+pub picked_none : (w u v s c a b x : ℕ) → w % p ≡ (v * s) % p → s % p ≡ (c * c) % p → u % p ≡ a % p → v % p ≡ b % p → x % p ≡ (w + u) % p
     → eqb (w % p) (u % p) ≡ false → eqb (x % p) 0 ≡ false → root_of a b c ≡ None
 unfolding root_of
 picked_none w u v s c a b x hw hs hu hv hx e f =
@@ -104,15 +104,15 @@ root_positive (suc (suc s)) zero h e f = absurd (omega arith)
 
 -- ---- u and v
 
-pub u_steps : (y s one t u : ℕ) → s % p ≡ (y * y) % p → one ≡ 1 → t + one ≡ s + 4 * p → u % p ≡ t % p → u % p ≡ u_of y % p
+pub u_steps : (y s one t u : ℕ) → s % p ≡ (y * y) % p → one ≡ 1 → (t + one) % p ≡ s % p → u % p ≡ t % p → u % p ≡ u_of y % p
 u_steps y s one t u hs ho ht hu =
     hu ∙ same_by p (var 2) (plus (times (var 0) (var 0)) (num (p - 1))) (y ∷ s ∷ t ∷ one ∷ [])
-    ((num 1, plus (var 2) (var 3), plus (var 1) (num (4 * p))) ∷ (num 1, var 1, times (var 0) (var 0)) ∷ (num (p - 1), var 3, num 1) ∷ [])
-    (ap (λ n. n % p) ht, (hs, (ap (λ n. n % p) ho, tt))) refl
+    ((num 1, plus (var 2) (var 3), var 1) ∷ (num 1, var 1, times (var 0) (var 0)) ∷ (num (p - 1), var 3, num 1) ∷ [])
+    (ht, (hs, (ap (λ n. n % p) ho, tt))) refl
 
-pub v_steps : (y s one n t x v : ℕ) → s % p ≡ (y * y) % p → one ≡ 1 → n ≡ d → t % p ≡ (s * n) % p → x ≡ t + one → v % p ≡ x % p → v % p ≡ v_of y % p
+pub v_steps : (y s one n t x v : ℕ) → s % p ≡ (y * y) % p → one ≡ 1 → n ≡ d → t % p ≡ (s * n) % p → x % p ≡ (t + one) % p → v % p ≡ x % p → v % p ≡ v_of y % p
 v_steps y s one n t x v hs ho hn ht hx hv =
-    hv ∙ ap (λ z. z % p) hx
+    hv ∙ hx
     ∙ mod_plus p t (d * (y * y)) one 1
     (ht ∙ mod_times p s (y * y) n d hs (ap (λ z. z % p) hn) ∙ ap (λ z. z % p) (let e : y * y * d ≡ d * (y * y) = omega arith in e)) (ap (λ z. z % p) ho)
 

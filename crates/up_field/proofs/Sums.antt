@@ -10,15 +10,15 @@ abbrev minus : Term → Term
 minus t = times (num (p - 1)) t
 
 -- y - x, modulo p
-pub difference : (r x y w : ℕ) → (w + x) % p ≡ (y + 4 * p) % p → r % p ≡ w % p → r % p ≡ (y + (p - 1) * x) % p
+pub difference : (r x y w : ℕ) → (w + x) % p ≡ y % p → r % p ≡ w % p → r % p ≡ (y + (p - 1) * x) % p
 difference r x y w h k =
     k ∙ same_by p (var 2) (plus (var 1) (minus (var 0))) (x ∷ y ∷ w ∷ [])
-    ((num 1, plus (var 2) (var 0), plus (var 1) (num (4 * p))) ∷ []) (h, tt) refl
+    ((num 1, plus (var 2) (var 0), var 1) ∷ []) (h, tt) refl
 
 module _ (x1 y1 z1 t1 x2 y2 z2 t2 bp bm bz bt i j s u c z e f g h rx ry rz rt : ℕ) (a b : Point) (m : Represents x1 y1 z1 t1 a) (n : Represents x2 y2 z2 t2 b)
     (kp : bp % p ≡ (y2 + x2) % p) (km : bm % p ≡ (y2 + (p - 1) * x2) % p) (kz : bz % p ≡ (2 * z2) % p) (kt : bt % p ≡ (2 * d * t2) % p)
-    (hi : (i + x1) % p ≡ (y1 + 4 * p) % p) (hj : j % p ≡ (y1 + x1) % p) (hs : s % p ≡ (i * bm) % p) (hu : u % p ≡ (j * bp) % p)
-    (hc : c % p ≡ (t1 * bt) % p) (hz : z % p ≡ (z1 * bz) % p) (he : (e + s) % p ≡ (u + 4 * p) % p) (hf : (f + c) % p ≡ (z + 4 * p) % p)
+    (hi : (i + x1) % p ≡ y1 % p) (hj : j % p ≡ (y1 + x1) % p) (hs : s % p ≡ (i * bm) % p) (hu : u % p ≡ (j * bp) % p)
+    (hc : c % p ≡ (t1 * bt) % p) (hz : z % p ≡ (z1 * bz) % p) (he : (e + s) % p ≡ u % p) (hf : (f + c) % p ≡ z % p)
     (hg : g % p ≡ (z + c) % p) (hh : h % p ≡ (u + s) % p)
     (hx : rx % p ≡ (e * f) % p) (hy : ry % p ≡ (g * h) % p) (hw : rz % p ≡ (f * g) % p) (ht : rt % p ≡ (e * h) % p) where
   xs : List ℕ
@@ -37,7 +37,7 @@ module _ (x1 y1 z1 t1 x2 y2 z2 t2 bp bm bz bt i j s u c z e f g h rx ry rz rt : 
   unfolding xs
   e_is =
       same_by p (var 10) (times (num 2) (plus (times (var 0) (var 3)) (times (var 2) (var 1)))) xs
-      ((num 1, plus (var 10) (var 8), plus (var 9) (num (4 * p)))
+      ((num 1, plus (var 10) (var 8), var 9)
       ∷ (num 1, var 9, times (plus (var 1) (var 0)) (plus (var 3) (var 2)))
       ∷ (minus (num 1), var 8, times (plus (var 1) (minus (var 0))) (plus (var 3) (minus (var 2))))
       ∷ [])
@@ -57,7 +57,7 @@ module _ (x1 y1 z1 t1 x2 y2 z2 t2 bp bm bz bt i j s u c z e f g h rx ry rz rt : 
   unfolding ys
   f_is =
       same_by p (var 9) (times (num 2) (plus (times (var 0) (var 1)) (minus (times (var 4) (times (var 2) (var 3)))))) ys
-      ((num 1, plus (var 9) (var 7), plus (var 8) (num (4 * p)))
+      ((num 1, plus (var 9) (var 7), var 8)
       ∷ (num 1, var 8, times (var 0) (var 5))
       ∷ (var 0, var 5, times (num 2) (var 1))
       ∷ (minus (num 1), var 7, times (var 2) (var 6))

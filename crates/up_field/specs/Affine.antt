@@ -3,14 +3,8 @@ use Rattle.std.specs.Prelude.{◌≡◌, ℕ, ◌+◌, ◌*◌, ◌-◌, ◌%◌
 use Rattle.up_curve.specs.Field.{p}
 use Rattle.up_curve.specs.Curve.{d, Point}
 use Rattle.up_curve.specs.Points.{IsPoint}
-use Rattle.up_field.specs.Points.{IsTight, number}
+use Rattle.up_field.specs.Points.{number}
 use Rattle.up_field.specs.declared.affine.Affine.{Affine}
-
--- its numbers are in limbs of little more than 51 bits
-pub record AreAffine (q : Affine) : Type 0 where
-  pub plus : IsTight q.plus
-  pub minus : IsTight q.minus
-  pub t : IsTight q.t
 
 -- it has y + x, y - x and 2 d t of x, y and t
 pub record Holds (q : Affine) (x y t : ℕ) : Type 0 where

@@ -3,15 +3,8 @@ use Rattle.std.specs.Prelude.{◌≡◌, ℕ, ◌+◌, ◌*◌, ◌-◌, ◌%◌
 use Rattle.up_curve.specs.Field.{p}
 use Rattle.up_curve.specs.Curve.{d, Point}
 use Rattle.up_curve.specs.Coordinates.{Represents}
-use Rattle.up_field.specs.Points.{IsTight, number}
+use Rattle.up_field.specs.Points.{number}
 use Rattle.up_field.specs.declared.cached.Cached.{Cached}
-
--- its numbers are in limbs of little more than 51 bits
-pub record AreReady (q : Cached) : Type 0 where
-  pub plus : IsTight q.plus
-  pub minus : IsTight q.minus
-  pub z : IsTight q.z
-  pub t : IsTight q.t
 
 -- it has y + x, y - x, 2 z and 2 d t of four numbers that write the point
 pub record Stores (q : Cached) (a : Point) : Type 0 where

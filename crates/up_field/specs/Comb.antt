@@ -1,9 +1,8 @@
 -- A comb: multiples of the base point by sums and differences of powers of two that are 51 bits apart.
 use Rattle.std.specs.Prelude.{◌≡◌, ℕ, zero, suc, ◌<◌, ◌+◌, ◌*◌, ◌/◌, ◌%◌, ◌^◌, List, slice_index_or}
 use Rattle.up_curve.specs.Curve.{Point, add, base, multiple}
-use Rattle.up_field.specs.Limbs.{AreBelow}
-use Rattle.up_field.specs.Affine.{AreAffine, Keeps}
-use Rattle.up_field.specs.Points.{Writes}
+use Rattle.up_field.specs.Affine.{Keeps}
+use Rattle.up_field.specs.Points.{number, Writes}
 use Rattle.up_field.specs.declared.affine.Affine.{Affine}
 use Rattle.up_field.specs.declared.limbs.Field.{Field}
 use Rattle.up_field.specs.declared.points.Extended.{Extended}
@@ -32,15 +31,11 @@ column k i c =
     thirds k (c.l0 / 2 ^ i) + 2 ^ 51 * thirds k (c.l1 / 2 ^ i) + 2 ^ 102 * thirds k (c.l2 / 2 ^ i)
     + 2 ^ 153 * thirds k (c.l3 / 2 ^ i) + 2 ^ 204 * thirds k (c.l4 / 2 ^ i)
 
--- each entry is in limbs of little more than 51 bits
-pub record AllAffine (t : List Affine) : Type 0 where
-  pub each : (k : ℕ) → k < 272 → (q : Affine) → AreAffine (slice_index_or t k q)
-
--- all limbs are 0
+-- its numbers are 0
 pub record IsClear (q : Affine) : Type 0 where
-  pub plus : AreBelow 1 q.plus.l0 q.plus.l1 q.plus.l2 q.plus.l3 q.plus.l4
-  pub minus : AreBelow 1 q.minus.l0 q.minus.l1 q.minus.l2 q.minus.l3 q.minus.l4
-  pub t : AreBelow 1 q.t.l0 q.t.l1 q.t.l2 q.t.l3 q.t.l4
+  pub plus : number q.plus ≡ 0
+  pub minus : number q.minus ≡ 0
+  pub t : number q.t ≡ 0
 
 -- it keeps the multiple by 8^r times the signs of a digit of which the highest is 1 and k has the others
 pub record IsOdd (q : Affine) (r k : ℕ) : Type 0 where

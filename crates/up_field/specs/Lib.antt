@@ -9,4 +9,3 @@ pub mod Powers
 pub mod Sides
 pub mod Sparse
 pub mod Tables
-pub mod Wide

@@ -3,7 +3,7 @@ use Rattle.std.specs.Prelude.{◌≡◌, ℕ, ◌*◌, ◌%◌}
 use Rattle.up_curve.specs.Field.{p}
 use Rattle.up_curve.specs.Curve.{Point}
 use Rattle.up_curve.specs.Coordinates.{Represents}
-use Rattle.up_field.specs.Points.{IsTight, number}
+use Rattle.up_field.specs.Points.{number}
 use Rattle.up_field.specs.declared.sides.Sides.{Sides}
 use Rattle.up_field.specs.declared.sides.Projective.{Projective}
 
@@ -11,12 +11,6 @@ use Rattle.up_field.specs.declared.sides.Projective.{Projective}
 pub record Yields (s : Sides) (a : Point) : Type 0 where
   pub each : (x y z t : ℕ) → x % p ≡ (number s.e * number s.f) % p → y % p ≡ (number s.g * number s.h) % p
       → z % p ≡ (number s.f * number s.g) % p → t % p ≡ (number s.e * number s.h) % p → Represents x y z t a
-
--- limbs of little more than 51 bits
-pub record AreFlat (q : Projective) : Type 0 where
-  pub x : IsTight q.x
-  pub y : IsTight q.y
-  pub z : IsTight q.z
 
 -- with T its coordinates are those of the point
 abbrev pub Lies : Projective → Point → Type 0

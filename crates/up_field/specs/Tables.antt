@@ -2,23 +2,18 @@
 use Rattle.std.specs.Prelude.{ℕ, ◌<◌, ◌+◌, ◌*◌, List, slice_index_or}
 use Rattle.up_field.specs.declared.affine.Affine.{Affine}
 use Rattle.up_field.specs.declared.cached.Cached.{Cached}
-use Rattle.up_field.specs.Affine.{AreAffine, Keeps}
-use Rattle.up_field.specs.Cached.{AreReady, Stores}
+use Rattle.up_field.specs.Affine.{Keeps}
+use Rattle.up_field.specs.Cached.{Stores}
 use Rattle.up_curve.specs.Curve.{Point, add, base, multiple}
 
 -- a sum of multiples of two points
 abbrev pub pair : ℕ → ℕ → Point → Point → Point
 pair c e m n = add (multiple c m) (multiple e n)
 
--- each entry is in limbs of little more than 51 bits
-pub record AllReady (t : List Cached) : Type 0 where
-  pub each : (k : ℕ) → k < 8 → (q : Cached) → AreReady (slice_index_or t k q)
-
 -- the k-th entry is made of 2 k + 1 times the point
 pub record IsTable (t : List Cached) (m : Point) : Type 0 where
   pub each : (k : ℕ) → k < 8 → (q : Cached) → Stores (slice_index_or t k q) (multiple (2 * k + 1) m)
 
--- the k-th entry keeps 2 k + 1 times the base point, in limbs of little more than 51 bits
+-- the k-th entry keeps 2 k + 1 times the base point
 pub record AreOddMultiples (t : List Affine) : Type 0 where
-  pub limits : (k : ℕ) → k < 64 → (q : Affine) → AreAffine (slice_index_or t k q)
   pub keeps : (k : ℕ) → k < 64 → (q : Affine) → Keeps (slice_index_or t k q) (multiple (2 * k + 1) base)

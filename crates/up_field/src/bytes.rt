@@ -80,26 +80,3 @@ pub(crate) fn to_bytes(a: Field) -> [u8; 32]
     }
     out
 }
-
-/// The lowest 255 bits of a number of 256 bits, and the last bit.
-#[inline(always)]
-pub(crate) fn split(a: Field) -> (Field, u64)
-    requires limit { AreBelow (2 ^ 51) a.l0 a.l1 a.l2 a.l3 0 }
-    requires last { a.l4 < 2 ^ 52 }
-    ensures value { limbs result.0.l0 result.0.l1 result.0.l2 result.0.l3 result.0.l4
-        ≡ (limbs a.l0 a.l1 a.l2 a.l3 a.l4) % 2 ^ 255 }
-    ensures limit { AreBelow (2 ^ 51) result.0.l0 result.0.l1 result.0.l2 result.0.l3 result.0.l4 }
-    ensures bit { result.1 ≡ (limbs a.l0 a.l1 a.l2 a.l3 a.l4) / 2 ^ 255 }
-    ensures one { result.1 < 2 }
-{
-    (
-        Field {
-            l0: a.l0,
-            l1: a.l1,
-            l2: a.l2,
-            l3: a.l3,
-            l4: a.l4 % (1 << 51),
-        },
-        a.l4 >> 51,
-    )
-}

@@ -1,9 +1,8 @@
 //! Multiples of the base point, by numbers that may be secret.
 ghost use Rattle.std.specs.Prelude.{◌≡◌, ℕ, ◌+◌, ◌*◌, ◌<◌, ◌^◌, length};
-ghost use Rattle.up_field.specs.Affine.{AreAffine};
 ghost use Rattle.up_field.specs.Comb.{Balances, column as column_of, eights, IsShare, spread, teeth};
 ghost use Rattle.up_field.specs.Limbs.{AreBelow};
-ghost use Rattle.up_field.specs.Points.{AreTight, Writes};
+ghost use Rattle.up_field.specs.Points.{Writes};
 ghost use Rattle.up_curve.specs.Curve.{base as base_point, multiple};
 ghost use Rattle.up_curve.specs.LittleEndian.{number};
 
@@ -18,8 +17,7 @@ use crate::sides::twice;
 
 /// A number times the base point. The number is secret: no branch and no place of a table depends on it.
 pub fn times_base(scalar: &[u8; 32]) -> Extended
-    ensures limits { AreTight result }
-    ensures writes { Writes result (multiple (number scalar.now) base_point) }
+    ensures { Writes result (multiple (number scalar.now) base_point) }
 {
     let c = centred(scalar);
     let r = column(neutral(), c, 2);
@@ -29,11 +27,9 @@ pub fn times_base(scalar: &[u8; 32]) -> Extended
 
 /// A point and an entry of each row of the comb, by every third place of the number.
 fn column(r: Extended, c: Field, i: u32) -> Extended
-    requires so_far { AreTight r }
     requires limit { AreBelow (2 ^ 51) c.l0 c.l1 c.l2 c.l3 c.l4 }
     requires place { i < 3 }
-    ensures limits { AreTight result }
-    ensures balances { (s n : ℕ) → Balances r s n → Balances result (s + teeth * eights 17) (n + 2 * column_of 17 i c) }
+    ensures { (s n : ℕ) → Balances r s n → Balances result (s + teeth * eights 17) (n + 2 * column_of 17 i c) }
 {
     let mut q = r;
     for k in 0..17u32 {
@@ -48,8 +44,7 @@ fn column(r: Extended, c: Field, i: u32) -> Extended
 fn entry(row: usize, d: u64) -> Affine
     requires row { row < 17 }
     requires digit { d < 32 }
-    ensures limits { AreAffine result }
-    ensures share { IsShare result (8 ^ row * teeth) (2 * (8 ^ row * spread d)) }
+    ensures { IsShare result (8 ^ row * teeth) (2 * (8 ^ row * spread d)) }
 {
     let sign = d / 16;
     let place = choice(sign, d % 16, 15 - d % 16);

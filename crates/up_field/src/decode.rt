@@ -1,27 +1,28 @@
 //! The point that 32 bytes write.
 ghost use Rattle.std.specs.Prelude.{◌≡◌, ℕ, ◌+◌, ◌*◌, ◌%◌, ◌/◌, ◌^◌, ◌<◌, ◌&&◌, eqb, length};
 ghost use Rattle.up_curve.specs.Field.{p};
-ghost use Rattle.up_field.specs.Limbs.{AreBelow};
-ghost use Rattle.up_field.specs.Points.{AreTight, IsTight, number, Writes};
+ghost use Rattle.up_field.specs.Points.{number, Writes};
 ghost use Rattle.up_curve.specs.Curve.{d as d_of, Point};
 ghost use Rattle.up_curve.specs.Field.{sqrt_minus_one as i_of};
 ghost use Rattle.up_curve.specs.Encoding.{candidate, root_of, u_of, v_of, signed as signed_of, with_root, decode as decode_of};
 ghost use Rattle.up_curve.specs.Points.{IsPoint};
 ghost use Rattle.up_field.specs.Decoded.{IsReduced, IsRoot, IsMaybe};
 
-use crate::bytes::{from_bytes, split};
+use crate::bytes::from_bytes;
 use crate::canonical::{are_same, canonical, is_reduced, is_zero};
-use crate::limbs::{Field, add, one, sub, weak, zero};
+use crate::linear::{add, sub};
 use crate::points::Extended;
 use crate::power::root_power;
-use crate::products::{mul, square};
+use crate::products::mul;
+use crate::squares::square;
+use crate::words::{Words, in_words, one, split, zero};
 
 /// The point that 32 bytes write.
 pub fn decode(bytes: &[u8]) -> Option<Extended>
     requires { length bytes.now ≡ 32 }
     ensures { IsMaybe result (decode_of bytes.now) }
 {
-    let n = from_bytes(bytes);
+    let n = in_words(from_bytes(bytes));
     let (y, sign) = split(n);
     if is_reduced(y) {
         with_sign(y, sign)
@@ -32,38 +33,32 @@ pub fn decode(bytes: &[u8]) -> Option<Extended>
 
 /// The number d of the curve.
 #[inline(always)]
-fn d() -> Field
-    ensures limit { IsTight result }
-    ensures value { number result ≡ d_of }
+fn d() -> Words
+    ensures { number result ≡ d_of }
 {
-    Field {
-        l0: 929955233495203,
-        l1: 466365720129213,
-        l2: 1662059464998953,
-        l3: 2033849074728123,
-        l4: 1442794654840575,
+    Words {
+        a: 8496970652267935907,
+        b: 31536524315187371,
+        c: 10144147576115030168,
+        d: 5909686906226998899,
     }
 }
 
 /// A root of -1.
 #[inline(always)]
-fn root_of_minus_one() -> Field
-    ensures limit { IsTight result }
-    ensures value { number result ≡ i_of }
+fn root_of_minus_one() -> Words
+    ensures { number result ≡ i_of }
 {
-    Field {
-        l0: 1718705420411056,
-        l1: 234908883556509,
-        l2: 2233514472574048,
-        l3: 2117202627021982,
-        l4: 765476049583133,
+    Words {
+        a: 14190309331451158704,
+        b: 3405592160176694392,
+        c: 3120150775007532967,
+        d: 3135389899092516619,
     }
 }
 
 /// The candidate for a root of u / v.
-fn candidate_of(u: Field, v: Field) -> Field
-    requires numerator { IsTight u }
-    requires denominator { IsTight v }
+fn candidate_of(u: Words, v: Words) -> Words
     ensures value { (a b : ℕ) → number u % p ≡ a % p → number v % p ≡ b % p → number result ≡ candidate a b }
     ensures limit { IsReduced result }
 {
@@ -79,9 +74,7 @@ fn candidate_of(u: Field, v: Field) -> Field
 }
 
 /// The root of u / v, if there is one.
-fn root(u: Field, v: Field) -> Option<Field>
-    requires numerator { IsTight u }
-    requires denominator { IsTight v }
+fn root(u: Words, v: Words) -> Option<Words>
     ensures { (a b : ℕ) → number u % p ≡ a % p → number v % p ≡ b % p → IsRoot result (root_of a b (candidate a b)) }
 {
     let c = candidate_of(u, v);
@@ -100,11 +93,8 @@ fn root(u: Field, v: Field) -> Option<Field>
 
 /// A point by its coordinates.
 #[inline(always)]
-fn affine(x: Field, y: Field) -> Extended
-    requires first { IsTight x }
-    requires second { IsTight y }
-    ensures limits { AreTight result }
-    ensures writes { (m : Point) → IsPoint m → number x % p ≡ m.x → number y % p ≡ m.y → Writes result m }
+fn affine(x: Words, y: Words) -> Extended
+    ensures { (m : Point) → IsPoint m → number x % p ≡ m.x → number y % p ≡ m.y → Writes result m }
 {
     Extended {
         x,
@@ -115,7 +105,7 @@ fn affine(x: Field, y: Field) -> Extended
 }
 
 /// Whether a root is 0 and its sign is 1.
-fn is_refused(r: Field, sign: u64) -> bool
+fn is_refused(r: Words, sign: u64) -> bool
     requires { IsReduced r }
     ensures { result ≡ (eqb (number r) 0 && eqb sign 1) }
 {
@@ -123,7 +113,7 @@ fn is_refused(r: Field, sign: u64) -> bool
 }
 
 /// The point with a root and whether its first coordinate is odd.
-fn signed(y: Field, sign: u64, r: Field) -> Option<Extended>
+fn signed(y: Words, sign: u64, r: Words) -> Option<Extended>
     requires second { IsReduced y }
     requires bit { sign < 2 }
     requires root { IsReduced r }
@@ -133,15 +123,15 @@ fn signed(y: Field, sign: u64, r: Field) -> Option<Extended>
     if is_refused(r, sign) {
         return None;
     }
-    if r.l0 % 2 == sign {
+    if r.a % 2 == sign {
         return Some(affine(r, y));
     }
-    let x = weak(sub(zero(), r));
+    let x = sub(zero(), r);
     Some(affine(x, y))
 }
 
 /// The point with a second coordinate and whether its first is odd.
-fn with_sign(y: Field, sign: u64) -> Option<Extended>
+fn with_sign(y: Words, sign: u64) -> Option<Extended>
     requires second { IsReduced y }
     requires bit { sign < 2 }
     ensures { IsMaybe result
@@ -149,9 +139,9 @@ fn with_sign(y: Field, sign: u64) -> Option<Extended>
         (root_of (u_of (number y)) (v_of (number y)) (candidate (u_of (number y)) (v_of (number y))))) }
 {
     let s = square(y);
-    let u = weak(sub(s, one()));
+    let u = sub(s, one());
     let t = mul(s, d());
-    let v = weak(add(t, one()));
+    let v = add(t, one());
     match root(u, v) {
         None => None,
         Some(r) => signed(y, sign, r),

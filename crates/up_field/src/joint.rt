@@ -1,12 +1,12 @@
 //! Sums of a multiple of a point and one of the base point, neither of them secret.
 ghost use Rattle.std.specs.Prelude.{◌≡◌, ℕ, ◌+◌, ◌*◌, ◌%◌, ◌<◌, false, true, length};
-ghost use Rattle.up_field.specs.Points.{AreSides, AreTight, Writes};
+ghost use Rattle.up_field.specs.Points.{Writes};
 ghost use Rattle.up_curve.specs.Curve.{Point, base as base_point};
 ghost use Rattle.up_curve.specs.LittleEndian.{number};
 ghost use Rattle.up_curve.specs.Points.{IsPoint};
-ghost use Rattle.up_field.specs.Sides.{AreFlat, Lies, Yields};
+ghost use Rattle.up_field.specs.Sides.{Lies, Yields};
 ghost use Rattle.up_field.specs.Sparse.{IsDigit};
-ghost use Rattle.up_field.specs.Tables.{pair, AllReady, IsTable};
+ghost use Rattle.up_field.specs.Tables.{pair, IsTable};
 
 use crate::bytes::from_bytes;
 use crate::cached::{Cached, ready, sum_cached};
@@ -20,9 +20,7 @@ use crate::words::in_words;
 
 /// A multiple of a point and one of the base point. How long it takes depends on both numbers and on the point.
 pub fn joint(k: &[u8; 32], a: Extended, s: &[u8; 32]) -> Extended
-    requires { AreTight a }
-    ensures limits { AreTight result }
-    ensures writes { (m : Point) → Writes a m → Writes result (pair (number k.now) (number s.now) m base_point) }
+    ensures { (m : Point) → Writes a m → Writes result (pair (number k.now) (number s.now) m base_point) }
 {
     let multiples = odd_multiples(a);
     let x = scatter(in_words(from_bytes(k)), false);
@@ -36,9 +34,7 @@ pub fn joint(k: &[u8; 32], a: Extended, s: &[u8; 32]) -> Extended
 
 /// The first eight odd multiples of a point.
 fn odd_multiples(q: Extended) -> [Cached; 8]
-    requires { AreTight q }
-    ensures limits { AllReady result }
-    ensures writes { (m : Point) → Writes q m → IsTable result m }
+    ensures { (m : Point) → Writes q m → IsTable result m }
 {
     let two = ready(twice(q));
     let mut r = q;
@@ -52,12 +48,9 @@ fn odd_multiples(q: Extended) -> [Cached; 8]
 
 /// Twice a sum of multiples, and a digit more of each.
 fn next(r: Projective, t: &[Cached; 8], d: u8, e: u8) -> Projective
-    requires so_far { AreFlat r }
-    requires table { AllReady t.now }
     requires digit { IsDigit false d }
     requires other { IsDigit true e }
-    ensures limits { AreFlat result }
-    ensures lies { (m : Point) (x y : ℕ) → IsPoint m → IsTable t.now m → Lies r (pair x y m base_point)
+    ensures { (m : Point) (x y : ℕ) → IsPoint m → IsTable t.now m → Lies r (pair x y m base_point)
         → Lies result (pair (2 * x + d) (2 * y + e) m base_point) }
 {
     let s = doubled(r);
@@ -69,11 +62,8 @@ fn next(r: Projective, t: &[Cached; 8], d: u8, e: u8) -> Projective
 /// A digit's multiple of the point more.
 #[inline(always)]
 fn with_point(s: Sides, t: &[Cached; 8], d: u8) -> Sides
-    requires so_far { AreSides s.e s.f s.g s.h }
-    requires table { AllReady t.now }
-    requires digit { IsDigit false d }
-    ensures limits { AreSides result.e result.f result.g result.h }
-    ensures yields { (m : Point) (x y : ℕ) → IsPoint m → IsTable t.now m → Yields s (pair x y m base_point)
+    requires { IsDigit false d }
+    ensures { (m : Point) (x y : ℕ) → IsPoint m → IsTable t.now m → Yields s (pair x y m base_point)
         → Yields result (pair (x + d) y m base_point) }
 {
     if d == 0 {
@@ -86,10 +76,8 @@ fn with_point(s: Sides, t: &[Cached; 8], d: u8) -> Sides
 /// A digit's multiple of the base point more.
 #[inline(always)]
 fn with_base(s: Sides, d: u8) -> Sides
-    requires so_far { AreSides s.e s.f s.g s.h }
-    requires digit { IsDigit true d }
-    ensures limits { AreSides result.e result.f result.g result.h }
-    ensures yields { (m : Point) (x y : ℕ) → IsPoint m → Yields s (pair x y m base_point)
+    requires { IsDigit true d }
+    ensures { (m : Point) (x y : ℕ) → IsPoint m → Yields s (pair x y m base_point)
         → Yields result (pair x (y + d) m base_point) }
 {
     if d == 0 {

@@ -1,19 +1,17 @@
 //! An entry of a table at a secret place, without a branch.
 ghost use Rattle.std.specs.Prelude.{◌≡◌, ◌+◌, ◌*◌, ◌<◌, slice_index_or};
-ghost use Rattle.up_field.specs.Affine.{AreAffine};
-ghost use Rattle.up_field.specs.Comb.{AllAffine, IsClear};
+ghost use Rattle.up_field.specs.Comb.{IsClear};
 
 use crate::affine::Affine;
-use crate::limbs::{merged, zero};
+use crate::linear::merged;
+use crate::words::zero;
 
 /// An entry of a row of a table, by reading all of the row. One bit of `w` stands, and comes to its end at the entry.
 #[inline(always)]
 pub(crate) fn pick(table: &[Affine; 272], row: usize, k: u64) -> Affine
-    requires limits { AllAffine table.now }
     requires row { row < 17 }
     requires digit { k < 16 }
-    ensures limits { AreAffine result }
-    ensures value { (q : Affine) → result ≡ slice_index_or table.now (16 * row + k) q }
+    ensures { (q : Affine) → result ≡ slice_index_or table.now (16 * row + k) q }
 {
     let mut r = clear();
     let mut w = 1u64 << (k as u32);
@@ -26,12 +24,10 @@ pub(crate) fn pick(table: &[Affine; 272], row: usize, k: u64) -> Affine
     r
 }
 
-/// An entry or another whose limbs are 0 so far, without a branch.
+/// An entry or another that is 0 so far, without a branch.
 #[inline(always)]
 fn merged_entries(bit: u64, a: Affine, r: Affine) -> Affine
     requires bit { bit < 2 }
-    requires first { AreAffine a }
-    requires second { AreAffine r }
     requires clear { bit ≡ 1 → IsClear r }
     ensures zero { bit ≡ 0 → result ≡ r }
     ensures one { bit ≡ 1 → result ≡ a }
@@ -43,7 +39,7 @@ fn merged_entries(bit: u64, a: Affine, r: Affine) -> Affine
     }
 }
 
-/// Limbs of 0.
+/// Numbers that are 0.
 fn clear() -> Affine
     ensures { IsClear result }
 {

@@ -1,25 +1,24 @@
 //! Points of the curve, in extended homogeneous coordinates (RFC 8032, section 5.1.4).
 ghost use Rattle.std.specs.Prelude.{◌≡◌, ◌%◌, ◌*◌, ◌+◌};
 ghost use Rattle.up_curve.specs.Field.{p};
-ghost use Rattle.up_field.specs.Points.{AreProducts, AreSides, AreTight, Writes};
+ghost use Rattle.up_field.specs.Points.{AreProducts, Writes};
 ghost use Rattle.up_curve.specs.Curve.{neutral as neutral_point};
 
-use crate::limbs::{Field, one, zero};
 use crate::products::mul;
+use crate::words::{Words, one, zero};
 
 /// A point.
 #[derive(Clone, Copy)]
 pub struct Extended {
-    pub x: Field,
-    pub y: Field,
-    pub z: Field,
-    pub t: Field,
+    pub x: Words,
+    pub y: Words,
+    pub z: Words,
+    pub t: Words,
 }
 
 /// The neutral point.
 pub fn neutral() -> Extended
-    ensures limits { AreTight result }
-    ensures writes { Writes result neutral_point }
+    ensures { Writes result neutral_point }
 {
     let o = one();
     let n = zero();
@@ -33,10 +32,8 @@ pub fn neutral() -> Extended
 
 /// The point of the last four factors of a formula, E, F, G and H (RFC 8032, section 5.1.4).
 #[inline(always)]
-pub(crate) fn completed(e: Field, f: Field, g: Field, h: Field) -> Extended
-    requires { AreSides e f g h }
-    ensures limits { AreTight result }
-    ensures values { AreProducts result e f g h }
+pub(crate) fn completed(e: Words, f: Words, g: Words, h: Words) -> Extended
+    ensures { AreProducts result e f g h }
 {
     Extended {
         x: mul(e, f),

@@ -1,18 +1,16 @@
 //! Powers with fixed exponents.
 ghost use Rattle.std.specs.Prelude.{◌≡◌, ◌+◌, ◌*◌, ◌-◌, ◌/◌, ◌%◌, ◌<◌, ◌^◌};
 ghost use Rattle.up_curve.specs.Field.{p};
-ghost use Rattle.up_field.specs.Limbs.{limbs, AreBelow};
+ghost use Rattle.up_field.specs.Points.{number};
 ghost use Rattle.up_field.specs.Powers.{IsPower};
 
-use crate::limbs::Field;
-use crate::products::{mul, square};
+use crate::products::mul;
+use crate::squares::square;
+use crate::words::Words;
 
 /// A number squared n times.
-fn squares(a: Field, n: u32) -> Field
-    requires { AreBelow (2 ^ 52) a.l0 a.l1 a.l2 a.l3 a.l4 }
-    ensures value { IsPower (limbs result.l0 result.l1 result.l2 result.l3 result.l4) (limbs a.l0 a.l1 a.l2 a.l3 a.l4)
-        (2 ^ n) }
-    ensures limit { AreBelow (2 ^ 52) result.l0 result.l1 result.l2 result.l3 result.l4 }
+fn squares(a: Words, n: u32) -> Words
+    ensures { IsPower (number result) (number a) (2 ^ n) }
 {
     let mut r = a;
     for i in 0..n {
@@ -22,14 +20,9 @@ fn squares(a: Field, n: u32) -> Field
 }
 
 /// The powers with 11 and 2^250 - 1.
-fn towards(a: Field) -> (Field, Field)
-    requires { AreBelow (2 ^ 52) a.l0 a.l1 a.l2 a.l3 a.l4 }
-    ensures low { IsPower (limbs result.0.l0 result.0.l1 result.0.l2 result.0.l3 result.0.l4)
-        (limbs a.l0 a.l1 a.l2 a.l3 a.l4) 11 }
-    ensures low_limit { AreBelow (2 ^ 52) result.0.l0 result.0.l1 result.0.l2 result.0.l3 result.0.l4 }
-    ensures high { IsPower (limbs result.1.l0 result.1.l1 result.1.l2 result.1.l3 result.1.l4)
-        (limbs a.l0 a.l1 a.l2 a.l3 a.l4) (2 ^ 250 - 1) }
-    ensures high_limit { AreBelow (2 ^ 52) result.1.l0 result.1.l1 result.1.l2 result.1.l3 result.1.l4 }
+fn towards(a: Words) -> (Words, Words)
+    ensures low { IsPower (number result.0) (number a) 11 }
+    ensures high { IsPower (number result.1) (number a) (2 ^ 250 - 1) }
 {
     let a2 = square(a);
     let a8 = squares(a2, 2);
@@ -55,11 +48,8 @@ fn towards(a: Field) -> (Field, Field)
 }
 
 /// The power with 2^255 - 21, which is the inverse.
-pub(crate) fn inverse(a: Field) -> Field
-    requires { AreBelow (2 ^ 52) a.l0 a.l1 a.l2 a.l3 a.l4 }
-    ensures value { IsPower (limbs result.l0 result.l1 result.l2 result.l3 result.l4) (limbs a.l0 a.l1 a.l2 a.l3 a.l4)
-        (p - 2) }
-    ensures limit { AreBelow (2 ^ 52) result.l0 result.l1 result.l2 result.l3 result.l4 }
+pub(crate) fn inverse(a: Words) -> Words
+    ensures { IsPower (number result) (number a) (p - 2) }
 {
     let (a11, b) = towards(a);
     let c = squares(b, 5);
@@ -67,11 +57,8 @@ pub(crate) fn inverse(a: Field) -> Field
 }
 
 /// The power with 2^252 - 3.
-pub(crate) fn root_power(a: Field) -> Field
-    requires { AreBelow (2 ^ 52) a.l0 a.l1 a.l2 a.l3 a.l4 }
-    ensures value { IsPower (limbs result.l0 result.l1 result.l2 result.l3 result.l4) (limbs a.l0 a.l1 a.l2 a.l3 a.l4)
-        ((p - 5) / 8) }
-    ensures limit { AreBelow (2 ^ 52) result.l0 result.l1 result.l2 result.l3 result.l4 }
+pub(crate) fn root_power(a: Words) -> Words
+    ensures { IsPower (number result) (number a) ((p - 5) / 8) }
 {
     let (_, b) = towards(a);
     let c = squares(b, 2);

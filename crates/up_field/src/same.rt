@@ -1,6 +1,6 @@
 //! Whether two points are the same.
 ghost use Rattle.std.specs.Prelude.{◌≡◌};
-ghost use Rattle.up_field.specs.Points.{AreTight, Writes};
+ghost use Rattle.up_field.specs.Points.{Writes};
 ghost use Rattle.up_curve.specs.Curve.{Point};
 ghost use Rattle.up_curve.specs.Signatures.{is_same_point};
 
@@ -10,8 +10,6 @@ use crate::products::mul;
 
 /// Whether two points are the same.
 pub fn are_same_points(a: Extended, b: Extended) -> bool
-    requires first { AreTight a }
-    requires second { AreTight b }
     ensures { (m n : Point) → Writes a m → Writes b n → result ≡ is_same_point m n }
 {
     let s = mul(a.x, b.z);

@@ -3,40 +3,40 @@ ghost use Rattle.std.specs.Prelude.{◌≡◌, ℕ, ◌%◌, ◌*◌};
 ghost use Rattle.up_curve.specs.Field.{p};
 ghost use Rattle.up_curve.specs.Coordinates.{Represents};
 ghost use Rattle.up_curve.specs.Curve.{Point, add as add_of};
-ghost use Rattle.up_field.specs.Affine.{AreAffine, Holds, Keeps};
-ghost use Rattle.up_field.specs.Cached.{AreReady, Stores};
-ghost use Rattle.up_field.specs.Points.{AreSides, AreTight, IsTight, number, Writes};
-ghost use Rattle.up_field.specs.Sides.{AreFlat, Lies, Yields};
+ghost use Rattle.up_field.specs.Affine.{Holds, Keeps};
+ghost use Rattle.up_field.specs.Cached.{Stores};
+ghost use Rattle.up_field.specs.Points.{number, Writes};
+ghost use Rattle.up_field.specs.Sides.{Lies, Yields};
 
 use crate::affine::Affine;
 use crate::cached::Cached;
-use crate::limbs::{Field, add, sub, weak};
+use crate::linear::{add, sub};
 use crate::points::{Extended, completed};
-use crate::products::{mul, square};
+use crate::products::mul;
+use crate::squares::square;
+use crate::words::Words;
 
 /// E, F, G and H.
 #[derive(Clone, Copy)]
 pub(crate) struct Sides {
-    pub e: Field,
-    pub f: Field,
-    pub g: Field,
-    pub h: Field,
+    pub e: Words,
+    pub f: Words,
+    pub g: Words,
+    pub h: Words,
 }
 
 /// A point without T, which only a sum needs.
 #[derive(Clone, Copy)]
 pub(crate) struct Projective {
-    pub x: Field,
-    pub y: Field,
-    pub z: Field,
+    pub x: Words,
+    pub y: Words,
+    pub z: Words,
 }
 
 /// The same point, without T.
 #[inline(always)]
 pub(crate) fn without_t(a: Extended) -> Projective
-    requires { AreTight a }
-    ensures limits { AreFlat result }
-    ensures lies { (m : Point) → Writes a m → Lies result m }
+    ensures { (m : Point) → Writes a m → Lies result m }
 {
     Projective {
         x: a.x,
@@ -48,9 +48,7 @@ pub(crate) fn without_t(a: Extended) -> Projective
 /// The point, with T.
 #[inline(always)]
 pub(crate) fn whole(s: Sides) -> Extended
-    requires { AreSides s.e s.f s.g s.h }
-    ensures limits { AreTight result }
-    ensures writes { (m : Point) → Yields s m → Writes result m }
+    ensures { (m : Point) → Yields s m → Writes result m }
 {
     completed(s.e, s.f, s.g, s.h)
 }
@@ -58,9 +56,7 @@ pub(crate) fn whole(s: Sides) -> Extended
 /// The point, without T.
 #[inline(always)]
 pub(crate) fn flat(s: Sides) -> Projective
-    requires { AreSides s.e s.f s.g s.h }
-    ensures limits { AreFlat result }
-    ensures lies { (m : Point) → Yields s m → Lies result m }
+    ensures { (m : Point) → Yields s m → Lies result m }
 {
     Projective {
         x: mul(s.e, s.f),
@@ -71,9 +67,7 @@ pub(crate) fn flat(s: Sides) -> Projective
 
 /// The point with T made again.
 pub(crate) fn extended(a: Projective) -> Extended
-    requires { AreFlat a }
-    ensures limits { AreTight result }
-    ensures writes { (m : Point) → Lies a m → Writes result m }
+    ensures { (m : Point) → Lies a m → Writes result m }
 {
     Extended {
         x: mul(a.x, a.z),
@@ -86,28 +80,24 @@ pub(crate) fn extended(a: Projective) -> Extended
 /// Twice a point.
 #[inline(always)]
 pub(crate) fn doubled(a: Projective) -> Sides
-    requires { AreFlat a }
-    ensures limits { AreSides result.e result.f result.g result.h }
-    ensures yields { (m : Point) → Lies a m → Yields result (add_of m m) }
+    ensures { (m : Point) → Lies a m → Yields result (add_of m m) }
 {
     let s = square(a.x);
     let u = square(a.y);
     let z = square(a.z);
-    let c = weak(add(z, z));
-    let h = weak(add(s, u));
+    let c = add(z, z);
+    let h = add(s, u);
     let n = add(a.x, a.y);
     let q = square(n);
     let e = sub(h, q);
-    let g = weak(sub(s, u));
+    let g = sub(s, u);
     let f = add(c, g);
     Sides { e, f, g, h }
 }
 
 /// Twice a point, with T.
 pub(crate) fn twice(a: Extended) -> Extended
-    requires { AreTight a }
-    ensures limits { AreTight result }
-    ensures writes { (m : Point) → Writes a m → Writes result (add_of m m) }
+    ensures { (m : Point) → Writes a m → Writes result (add_of m m) }
 {
     whole(doubled(without_t(a)))
 }
@@ -115,23 +105,16 @@ pub(crate) fn twice(a: Extended) -> Extended
 /// The sum of two points, one of them by its coordinates.
 #[inline(always)]
 pub(crate) fn affine_sides(a: Extended, b: Affine) -> Sides
-    requires first { AreTight a }
-    requires second { AreAffine b }
-    ensures limits { AreSides result.e result.f result.g result.h }
-    ensures yields { (m n : Point) → Writes a m → Keeps b n → Yields result (add_of m n) }
+    ensures { (m n : Point) → Writes a m → Keeps b n → Yields result (add_of m n) }
 {
-    let y = add(a.z, a.z);
-    let z = weak(y);
+    let z = add(a.z, a.z);
     summed_sides(a, b, z)
 }
 
 /// The sum of two points, one of them made ready.
 #[inline(always)]
 pub(crate) fn cached_sides(a: Extended, b: Cached) -> Sides
-    requires first { AreTight a }
-    requires second { AreReady b }
-    ensures limits { AreSides result.e result.f result.g result.h }
-    ensures yields { (m n : Point) → Writes a m → Stores b n → Yields result (add_of m n) }
+    ensures { (m n : Point) → Writes a m → Stores b n → Yields result (add_of m n) }
 {
     let z = mul(a.z, b.z);
     let q = Affine {
@@ -144,12 +127,8 @@ pub(crate) fn cached_sides(a: Extended, b: Cached) -> Sides
 
 /// The sum of two points (RFC 8032, section 5.1.4). `z` is D, twice the product of the two points' z.
 #[inline(always)]
-fn summed_sides(a: Extended, b: Affine, z: Field) -> Sides
-    requires first { AreTight a }
-    requires second { AreAffine b }
-    requires third { IsTight z }
-    ensures limits { AreSides result.e result.f result.g result.h }
-    ensures yields { (m n : Point) (x2 y2 z2 t2 : ℕ) → Writes a m → Represents x2 y2 z2 t2 n → Holds b x2 y2 t2
+fn summed_sides(a: Extended, b: Affine, z: Words) -> Sides
+    ensures { (m n : Point) (x2 y2 z2 t2 : ℕ) → Writes a m → Represents x2 y2 z2 t2 n → Holds b x2 y2 t2
         → number z % p ≡ (number a.z * (2 * z2)) % p → Yields result (add_of m n) }
 {
     let i = sub(a.y, a.x);

@@ -107,8 +107,8 @@ def odd(count: int) -> Chain:
     return chain
 
 
-def limbs(n: int) -> list[int]:
-    return [n >> 51 * place & 2**51 - 1 for place in range(5)]
+def words(n: int) -> list[int]:
+    return [n >> 64 * place & 2**64 - 1 for place in range(4)]
 
 
 def entry(point: Point) -> tuple[int, int, int]:
@@ -126,9 +126,9 @@ def source(chain: Chain, title: str, uses: str, text: str, name: str) -> str:
     for _, point in chain.shown:
         lines.append('        Affine {')
         for field, number in zip(('plus', 'minus', 't'), entry(point)):
-            lines.append(f'            {field}: Field {{')
+            lines.append(f'            {field}: Words {{')
             lines += [
-                f'                l{place}: {limb},' for place, limb in enumerate(limbs(number))
+                f'                {place}: {word},' for place, word in zip('abcd', words(number))
             ]
             lines.append('            },')
         lines.append('        },')
@@ -136,21 +136,20 @@ def source(chain: Chain, title: str, uses: str, text: str, name: str) -> str:
 
 
 COMB_USES = '''ghost use Rattle.std.specs.Prelude.{◌≡◌};
-ghost use Rattle.up_field.specs.Comb.{AllAffine, IsComb};
+ghost use Rattle.up_field.specs.Comb.{IsComb};
 
 use crate::affine::Affine;
-use crate::limbs::Field;
+use crate::words::Words;
 '''
 COMB_TEXT = '''/// Seventeen rows of sixteen entries: sums and differences of the base point's multiples by 1, 2^51, 2^102, 2^153 and 2^204, in
 /// each row eight times those of the row before. The place of an entry has a bit for each but the highest: it is added where it is 1.
 pub(crate) fn comb_table() -> &'static [Affine; 272]
-    ensures limits { AllAffine result.now }
-    ensures keeps { IsComb result.now }'''
+    ensures { IsComb result.now }'''
 ODD_USES = '''ghost use Rattle.std.specs.Prelude.{◌≡◌};
 ghost use Rattle.up_field.specs.Tables.{AreOddMultiples};
 
 use crate::affine::Affine;
-use crate::limbs::Field;
+use crate::words::Words;
 '''
 ODD_TEXT = '''/// The first 64 odd multiples of the base point.
 pub(crate) fn odd_table() -> &'static [Affine; 64]

@@ -1,4 +1,4 @@
 use Rattle.up_field.proofs.affine.sum_affine.Goals as goal
 
-pub returns-clause-writes : goal.returns-clause-writes
-returns-clause-writes c = λ m n h k. c.whole.ensures.writes _ (c.affine_sides.ensures.yields m n h k)
+pub returns : goal.returns
+returns c = λ m n h k. c.whole.ensures _ (c.affine_sides.ensures m n h k)

@@ -23,11 +23,11 @@ turned_minus x y q h e =
     e ∙ same_by p (plus (var 0) (var 1)) (plus (var 0) (times (num (p - 1)) (var 2))) (y ∷ x ∷ (p - x) % p ∷ [])
     ((num 1, plus (var 2) (var 1), num 0) ∷ []) (opposite x h, tt) refl
 
-turned_t : (x y q r w : ℕ) → x < p → q % p ≡ (2 * d * (x * y)) % p → (w + q) % p ≡ (0 + 4 * p) % p → r % p ≡ w % p
+turned_t : (x y q r w : ℕ) → x < p → q % p ≡ (2 * d * (x * y)) % p → (w + q) % p ≡ 0 % p → r % p ≡ w % p
     → r % p ≡ (2 * d * ((p - x) % p * y)) % p
 turned_t x y q r w h e k l =
     l ∙ same_by p (var 3) (times (num (2 * d)) (times (var 2) (var 0))) (y ∷ x ∷ (p - x) % p ∷ w ∷ q ∷ [])
-    ((num 1, plus (var 3) (var 4), plus (num 0) (num (4 * p)))
+    ((num 1, plus (var 3) (var 4), num 0)
     ∷ (num (p - 1), var 4, times (num (2 * d)) (times (var 1) (var 0)))
     ∷ (times (num (p - 1)) (times (num (2 * d)) (var 0)), plus (var 2) (var 1), num 0)
     ∷ [])
@@ -50,7 +50,7 @@ returns-clause-other c = λ m h e. record {
     plus_is = ap (λ z. number z % p) (c.chosen.ensures.zero e) ∙ turned_plus m.x m.y (number c.args.e.minus) h.point.x_below h.holds.minus_is;
     minus_is = ap (λ z. number z % p) (c.chosen-2.ensures.zero e) ∙ turned_minus m.x m.y (number c.args.e.plus) h.point.x_below h.holds.plus_is;
     t_is = ap (λ z. number z % p) (c.chosen-3.ensures.zero e)
-        ∙ turned_t m.x m.y (number c.args.e.t) (number c.weak-n.result) (number c.sub.result) h.point.x_below h.holds.t_is
-        (exact (c.sub.ensures.value ∙ ap (λ z. z + 4 * p) c.zero.ensures.value)) c.weak-n.ensures.value;
+        ∙ turned_t m.x m.y (number c.args.e.t) (number c.sub-n.result) (number c.sub-n.result) h.point.x_below h.holds.t_is
+        (c.sub-n.ensures ∙ exact c.zero.ensures) refl;
   };
 }

@@ -2,9 +2,13 @@ use Rattle.std.proofs.Common.{◌≡◌, ℕ, [], ◌∷◌, ◌++◌, ◌+◌, 
 use Rattle.std.proofs.Math.Nat.{div-one, div-div-eq-div-mul}
 use Rattle.std.proofs.Math.Seq.{take-length}
 use Rattle.std.proofs.lemmas.List.{take_more_set, length-set}
-use Rattle.up_field.specs.Points.{number}
+use Rattle.up_field.specs.Limbs.{limbs}
+use Rattle.up_field.specs.declared.limbs.Field.{Field}
 use Rattle.up_field.proofs.ByteLists.{bytes, bytes-more}
 use Rattle.up_field.proofs.bytes.to_bytes.Goals as goal
+
+abbrev number : Field → ℕ
+number f = limbs f.l0 f.l1 f.l2 f.l3 f.l4
 
 pub loop-i-init : goal.loop-i-init
 unfolding bytes

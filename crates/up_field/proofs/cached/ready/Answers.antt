@@ -10,17 +10,17 @@ use Rattle.up_field.proofs.cached.ready.Goals as goal
 exact : {a b : ℕ} → a ≡ b → a % p ≡ b % p
 exact e = ap (λ n. n % p) e
 
-pub returns-clause-writes : goal.returns-clause-writes
-returns-clause-writes c = λ m h. record {
+pub returns : goal.returns
+returns c = λ m h. record {
   x = number c.args.a.x;
   y = number c.args.a.y;
   z = number c.args.a.z;
   t = number c.args.a.t;
   writes = h;
-  plus_is = c.weak.ensures.value ∙ exact c.add.ensures.value;
-  minus_is = difference (number c.weak-2.result) (number c.args.a.x) (number c.args.a.y) (number c.sub.result) (exact c.sub.ensures.value) c.weak-2.ensures.value;
-  z_is = c.weak-3.ensures.value ∙ exact c.add-2.ensures.value ∙ exact (let e : number c.args.a.z + number c.args.a.z ≡ 2 * number c.args.a.z = omega arith in e);
+  plus_is = c.add.ensures;
+  minus_is = difference (number c.sub.result) (number c.args.a.x) (number c.args.a.y) (number c.sub.result) c.sub.ensures refl;
+  z_is = c.add-2.ensures ∙ exact (let e : number c.args.a.z + number c.args.a.z ≡ 2 * number c.args.a.z = omega arith in e);
   t_is =
-      c.mul.ensures.value ∙ mod_times p (number c.args.a.t) (number c.args.a.t) (number c.two_d.result) (2 * d) refl c.two_d.ensures.value
+      c.mul.ensures ∙ mod_times p (number c.args.a.t) (number c.args.a.t) (number c.two_d.result) (2 * d) refl c.two_d.ensures
       ∙ exact (let e : number c.args.a.t * (2 * d) ≡ 2 * d * number c.args.a.t = omega arith in e);
 }

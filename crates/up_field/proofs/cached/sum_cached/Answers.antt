@@ -1,4 +1,4 @@
 use Rattle.up_field.proofs.cached.sum_cached.Goals as goal
 
-pub returns-clause-writes : goal.returns-clause-writes
-returns-clause-writes c = λ m n h k. c.whole.ensures.writes _ (c.cached_sides.ensures.yields m n h k)
+pub returns : goal.returns
+returns c = λ m n h k. c.whole.ensures _ (c.cached_sides.ensures m n h k)

@@ -6,6 +6,7 @@ use Rattle.up_field.proofs.canonical.canonical.Goals as goal
 once : (n q : ℕ) → n < 2 * p → q ≡ (n + 19) / 2 ^ 255 → (n + 19 * q) % 2 ^ 255 ≡ n % p
 once n q h e = omega (arith, h, e)
 
-pub returns-clause-value : goal.returns-clause-value
-returns-clause-value c =
-    c.less.ensures.value ∙ once (number c.weak-b.result) c.quotient.result (omega arith) c.quotient.ensures.value ∙ c.weak-b.ensures.value
+pub returns : goal.returns
+returns c =
+    c.less.ensures ∙ once (number c.folded-b.result) c.quotient.result (omega arith) c.quotient.ensures.value
+    ∙ (let e : number c.folded-b.result % p ≡ number c.args.a % p = omega (arith, c.folded-b.ensures.value) in e)

@@ -44,23 +44,21 @@ grown k i d c h =
 pub loop-k-init : goal.loop-k-init
 unfolding eights thirds
 loop-k-init c = record {
-  limits = c.requires.so_far;
   balances = λ s n h. moved c.args.r s n _ _ (omega arith) (omega arith) h;
 }
 
 pub loop-k-preserved : goal.loop-k-preserved
 loop-k-preserved c = record {
-  limits = c.sum_affine-q.ensures.limits;
   balances = λ s n h.
       let b = c.loop-k.invariant.balances s n h in
-      let e = c.entry-e.ensures.share in
+      let e = c.entry-e.ensures in
       moved c.sum_affine-q.result _ _ _ _
       (let z : s + teeth * eights c.loop-k.k + 8 ^ c.loop-k.k * teeth ≡ s + teeth * eights (c.loop-k.k + 1) = omega (arith, eights-more c.loop-k.k) in z)
       (let z : n + 2 * column c.loop-k.k c.args.i c.args.c + 2 * (8 ^ c.loop-k.k * spread c.digit-d.result) ≡ n + 2 * column (c.loop-k.k + 1) c.args.i c.args.c =
       omega (arith, grown c.loop-k.k c.args.i c.digit-d.result c.args.c c.digit-d.ensures.value) in z)
       (record {
         point = _;
-        writes = c.sum_affine-q.ensures.writes b.point e.point b.writes e.keeps;
+        writes = c.sum_affine-q.ensures b.point e.point b.writes e.keeps;
         is = together b.point e.point _ _ _ _ b.writes.point e.keeps.point b.is e.is;
       });
 }
@@ -68,7 +66,4 @@ loop-k-preserved c = record {
 pub returns : goal.returns
 returns c =
     let e : c.loop-k.k ≡ 17 = omega arith in
-    record {
-      limits = c.loop-k.invariant.limits;
-      balances = λ s n h. subst (λ z. Balances c.loop-k.q (s + teeth * eights z) (n + 2 * column z c.args.i c.args.c)) e (c.loop-k.invariant.balances s n h);
-    }
+    λ s n h. subst (λ z. Balances c.loop-k.q (s + teeth * eights z) (n + 2 * column z c.args.i c.args.c)) e (c.loop-k.invariant.balances s n h)

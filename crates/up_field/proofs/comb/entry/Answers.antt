@@ -40,8 +40,8 @@ low_place zero d place l one none = omega (arith, none refl)
 low_place (suc zero) d place l one none = omega (arith, one refl)
 low_place (suc (suc s)) d place l one none = absurd (omega (arith, l))
 
-pub returns-clause-share : goal.returns-clause-share
-returns-clause-share c =
+pub returns : goal.returns
+returns c =
     let d : ℕ = c.args.d in
     let place : ℕ = c.choice-place.result in
     let j : ℕ = 16 * c.args.row + place in
@@ -49,7 +49,7 @@ returns-clause-share c =
     let row : j / 16 ≡ c.args.row = omega (arith, low) in
     let col : j % 16 ≡ place = omega (arith, low) in
     let odd : IsOdd c.pick-e.result (j / 16) (j % 16) =
-    subst (λ q. IsOdd q (j / 16) (j % 16)) (sym (c.pick-e.ensures.value c.pick-e.result)) (c.comb_table.ensures.keeps.each j (omega (arith, low)) c.pick-e.result) in
+    subst (λ q. IsOdd q (j / 16) (j % 16)) (sym (c.pick-e.ensures c.pick-e.result)) (c.comb_table.ensures.each j (omega (arith, low)) c.pick-e.result) in
     shared (d / 16) c.args.row d place c.pick-e.result c.turned.result (omega arith) (omega arith) c.choice-place.ensures.one c.choice-place.ensures.zero
     (subst (λ z. IsOdd c.pick-e.result c.args.row z) col (subst (λ z. IsOdd c.pick-e.result z (j % 16)) row odd))
     c.turned.ensures.same c.turned.ensures.other

@@ -42,13 +42,13 @@ all_eights : (o : ℕ) → o ≡ teeth * eights 17 → 0 + o + (0 + o) + o + (0 
 unfolding eights
 all_eights o e = let k : teeth * eights 17 * 7 ≡ 2 ^ 255 - 1 = refl in omega (arith, e, k)
 
-pub returns-clause-writes : goal.returns-clause-writes
-returns-clause-writes c =
+pub returns : goal.returns
+returns c =
     let f : Field = c.centred-c.result in
-    let start : Balances c.neutral.result 0 0 = record { point = neutral; writes = c.neutral.ensures.writes; is = nothing } in
-    let one = c.column-r.ensures.balances 0 0 start in
-    let two = c.column-s.ensures.balances _ _ (twice_as c.column-r.result c.twice.result _ _ c.twice.ensures.writes one) in
-    let all = c.column.ensures.balances _ _ (twice_as c.column-s.result c.twice-2.result _ _ c.twice-2.ensures.writes two) in
+    let start : Balances c.neutral.result 0 0 = record { point = neutral; writes = c.neutral.ensures; is = nothing } in
+    let one = c.column-r.ensures 0 0 start in
+    let two = c.column-s.ensures _ _ (twice_as c.column-r.result c.twice.result _ _ c.twice.ensures one) in
+    let all = c.column.ensures _ _ (twice_as c.column-s.result c.twice-2.result _ _ c.twice-2.ensures two) in
     let l = c.centred-c.ensures.limit in
     let sum : column 17 0 f + 2 * column 17 1 f + 4 * column 17 2 f ≡ limbs f.l0 f.l1 f.l2 f.l3 f.l4 = whole f l.l0 l.l1 l.l2 l.l3 l.l4 in
     let n : 0 + 2 * column 17 2 f + (0 + 2 * column 17 2 f) + 2 * column 17 1 f + (0 + 2 * column 17 2 f + (0 + 2 * column 17 2 f) + 2 * column 17 1 f) + 2 * column 17 0 f

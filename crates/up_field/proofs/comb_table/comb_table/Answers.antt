@@ -1,6 +1,6 @@
 use Rattle.std.proofs.Common.{◌≡◌, ℕ, zero, suc, ◌+◌, ◌*◌, ◌/◌, ◌^◌, ◌%◌, ◌<◌, Bool, true, false, ◌&&◌, eqb, eqb-true, List, [], ◌∷◌, length, get_or, refl, subst, arith}
 use Rattle.up_field.specs.declared.affine.Affine.{Affine}
-use Rattle.up_field.specs.Comb.{AllAffine, IsComb, spread, teeth}
+use Rattle.up_field.specs.Comb.{IsComb, spread, teeth}
 use Rattle.up_field.proofs.Chains.{is_chain, numbers, first, all_first, chain_is}
 use Rattle.up_field.proofs.CombSteps.{steps}
 use Rattle.up_field.proofs.comb_table.comb_table.Goals as goal
@@ -34,9 +34,6 @@ long : length (numbers steps) ≡ 272
 unfolding numbers steps
 long = refl
 
-limits : (ts : List Affine) → length ts ≡ 272 → is_chain steps (first ∷ []) ts ≡ true → AllAffine ts
-limits ts l h = record { each = λ k b q. (chain_is steps (first ∷ []) ts all_first h k (omega (arith, l, b)) q).tight }
-
 keeps : (ts : List Affine) → length ts ≡ 272 → is_chain steps (first ∷ []) ts ≡ true → IsComb ts
 keeps ts l h = record {
   each = λ j b q. record {
@@ -48,10 +45,6 @@ keeps ts l h = record {
   };
 }
 
-pub returns-clause-limits : goal.returns-clause-limits
+pub returns : goal.returns
 unfolding is_chain steps
-returns-clause-limits c = limits _ refl refl
-
-pub returns-clause-keeps : goal.returns-clause-keeps
-unfolding is_chain steps
-returns-clause-keeps c = keeps _ refl refl
+returns c = keeps _ refl refl

@@ -21,10 +21,10 @@ whole bs n y s q l hn hy hs t k =
 
 pub returns-then-is_reduced : goal.returns-then-is_reduced
 returns-then-is_reduced c =
-    whole c.args.bytes.now (number c.from_bytes-n.result) (number c.split-sign.result.0) c.split-sign.result.1 c.with_sign.result c.requires
-    c.from_bytes-n.ensures.value c.split-sign.ensures.value c.split-sign.ensures.bit (sym c.is_reduced.ensures ∙ c.if-is_reduced.true) c.with_sign.ensures
+    whole c.args.bytes.now (number c.in_words-n.result) (number c.split-sign.result.0) c.split-sign.result.1 c.with_sign.result c.requires
+    (c.in_words-n.ensures ∙ c.from_bytes.ensures.value) c.split-sign.ensures.value c.split-sign.ensures.bit (sym c.is_reduced.ensures ∙ c.if-is_reduced.true) c.with_sign.ensures
 
 pub returns-else-is_reduced : goal.returns-else-is_reduced
 returns-else-is_reduced c =
     decode_is c.args.bytes.now (eq-eqb (length c.args.bytes.now) 32 c.requires)
-    ∙ point_none (little c.args.bytes.now) (ap (λ z. ltb z p) (sym (c.split-sign.ensures.value ∙ ap (λ z. z % 2 ^ 255) c.from_bytes-n.ensures.value)) ∙ sym c.is_reduced.ensures ∙ c.if-is_reduced.false)
+    ∙ point_none (little c.args.bytes.now) (ap (λ z. ltb z p) (sym (c.split-sign.ensures.value ∙ ap (λ z. z % 2 ^ 255) (c.in_words-n.ensures ∙ c.from_bytes.ensures.value))) ∙ sym c.is_reduced.ensures ∙ c.if-is_reduced.false)

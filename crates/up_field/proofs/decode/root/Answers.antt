@@ -11,7 +11,7 @@ returns-then-are_same c = λ a b hu hv.
       is =
           ap (root_of a b) (sym e)
           ∙ picked_first (number c.mul-w.result) (number c.args.u) (number c.args.v) (number c.square-s.result) (number c.candidate_of-c.result) a b
-          c.mul-w.ensures.value c.square-s.ensures.value hu hv (sym c.are_same.ensures ∙ c.if-are_same.true);
+          c.mul-w.ensures c.square-s.ensures hu hv (sym c.are_same.ensures ∙ c.if-are_same.true);
       reduced = c.candidate_of-c.ensures.limit;
     }
 
@@ -22,9 +22,9 @@ returns-then-is_zero c = λ a b hu hv.
       is =
           ap (root_of a b) (sym e)
           ∙ picked_second (number c.mul-w.result) (number c.args.u) (number c.args.v) (number c.square-s.result) (number c.candidate_of-c.result) a b (number c.add.result)
-          c.mul-w.ensures.value c.square-s.ensures.value hu hv c.add.ensures.value (sym c.are_same.ensures ∙ c.if-are_same.false) (sym c.is_zero.ensures ∙ c.if-is_zero.true)
-          ∙ ap Some (sym (c.canonical-r.ensures.value ∙ c.mul-n.ensures.value ∙ ap (λ z. (number c.candidate_of-c.result * z) % p) c.root_of_minus_one.ensures.value));
-      reduced = record { limit = c.canonical-r.ensures.limit; below = omega (arith, c.canonical-r.ensures.value) };
+          c.mul-w.ensures c.square-s.ensures hu hv c.add.ensures (sym c.are_same.ensures ∙ c.if-are_same.false) (sym c.is_zero.ensures ∙ c.if-is_zero.true)
+          ∙ ap Some (sym (c.canonical-r.ensures ∙ c.mul-n.ensures ∙ ap (λ z. (number c.candidate_of-c.result * z) % p) c.root_of_minus_one.ensures));
+      reduced = record { below = omega (arith, c.canonical-r.ensures) };
     }
 
 pub returns : goal.returns
@@ -32,4 +32,4 @@ returns c = λ a b hu hv.
     let e : number c.candidate_of-c.result ≡ candidate a b = c.candidate_of-c.ensures.value a b hu hv in
     ap (root_of a b) (sym e)
     ∙ picked_none (number c.mul-w.result) (number c.args.u) (number c.args.v) (number c.square-s.result) (number c.candidate_of-c.result) a b (number c.add.result)
-    c.mul-w.ensures.value c.square-s.ensures.value hu hv c.add.ensures.value (sym c.are_same.ensures ∙ c.if-are_same.false) (sym c.is_zero.ensures ∙ c.if-is_zero.false)
+    c.mul-w.ensures c.square-s.ensures hu hv c.add.ensures (sym c.are_same.ensures ∙ c.if-are_same.false) (sym c.is_zero.ensures ∙ c.if-is_zero.false)

@@ -1,4 +1,4 @@
-use Rattle.std.proofs.Common.{◌≡◌, ◌≢◌, ℕ, ◌+◌, ◌*◌, ◌-◌, ◌^◌, ◌%◌, ◌<◌, sym, ◌∙◌, ap, arith, mod-eq_of_lt, false, eqb, eq-eqb, ◌&&◌, ne_eqb}
+use Rattle.std.proofs.Common.{refl, ◌≡◌, ◌≢◌, ℕ, ◌+◌, ◌*◌, ◌-◌, ◌%◌, ◌<◌, sym, ◌∙◌, arith, mod-eq_of_lt, false, eqb, eq-eqb, ◌&&◌, ne_eqb}
 use Rattle.up_curve.specs.Field.{p}
 use Rattle.up_field.specs.Points.{number}
 use Rattle.up_curve.specs.Curve.{Point}
@@ -11,10 +11,7 @@ use Rattle.up_field.proofs.decode.signed.Goals as goal
 at_root : (x y : ℕ) → x < p → y < p → (v_of y * (x * x)) % p ≡ u_of y % p → IsPoint (record { x = x; y = y })
 at_root x y h k e = record { curve = root_on_curve x y e; x_below = h; y_below = k }
 
-parity : (r a b s : ℕ) → r ≡ a + 2 ^ 51 * b → eqb (a % 2) s ≡ eqb (r % 2) s
-parity r a b s e = ap (λ z. eqb z s) (omega (arith, e))
-
-negative : (x t r z : ℕ) → x % p ≡ t % p → t + r ≡ z + 4 * p → z ≡ 0 → 0 < r → r < p → x % p ≡ p - r
+negative : (x t r z : ℕ) → x % p ≡ t % p → (t + r) % p ≡ z % p → z ≡ 0 → 0 < r → r < p → x % p ≡ p - r
 negative x t r z h k e pos low = omega (arith, h, k, e, pos, low)
 
 pub returns-then-is_refused : goal.returns-then-is_refused
@@ -24,19 +21,18 @@ pub returns-then-r-sign : goal.returns-then-r-sign
 returns-then-r-sign c =
     let m : Point = record { x = number c.args.r; y = number c.args.y } in
     let h : IsPoint m = at_root (number c.args.r) (number c.args.y) c.requires.root.below c.requires.second.below c.requires.curve in
-    let f : c.args.r.l0 % 2 ≡ c.args.sign = c.if-r-sign.true in
+    let f : c.args.r.a % 2 ≡ c.args.sign = c.if-r-sign.true in
     record {
       point = m;
       is =
           signed_same c.args.sign (number c.args.y) (number c.args.r) (sym c.is_refused.ensures ∙ c.if-is_refused.false)
           (eq-eqb (number c.args.r % 2) c.args.sign (omega (arith, f)));
-      writes = c.affine.ensures.writes m h (mod-eq_of_lt {n = number c.args.r} {m = p} c.requires.root.below) (mod-eq_of_lt {n = number c.args.y} {m = p} c.requires.second.below);
-      tight = c.affine.ensures.limits;
+      writes = c.affine.ensures m h (mod-eq_of_lt {n = number c.args.r} {m = p} c.requires.root.below) (mod-eq_of_lt {n = number c.args.y} {m = p} c.requires.second.below);
     }
 
 pub returns : goal.returns
 returns c =
-    let f : c.args.r.l0 % 2 ≢ c.args.sign = c.if-r-sign.false in
+    let f : c.args.r.a % 2 ≢ c.args.sign = c.if-r-sign.false in
     let q : (eqb (number c.args.r) 0 && eqb c.args.sign 1) ≡ false = sym c.is_refused.ensures ∙ c.if-is_refused.false in
     let odd : eqb (number c.args.r % 2) c.args.sign ≡ false = ne_eqb (number c.args.r % 2) c.args.sign (λ e. f (omega (arith, e))) in
     let pos : 0 < number c.args.r = root_positive c.args.sign (number c.args.r) c.requires.bit q odd in
@@ -48,6 +44,5 @@ returns c =
     record {
       point = m;
       is = signed_other c.args.sign (number c.args.y) (number c.args.r) q odd;
-      writes = c.affine-2.ensures.writes m h (negative (number c.weak-x.result) (number c.sub.result) (number c.args.r) (number c.zero.result) c.weak-x.ensures.value c.sub.ensures.value c.zero.ensures.value pos low) (mod-eq_of_lt {n = number c.args.y} {m = p} c.requires.second.below);
-      tight = c.affine-2.ensures.limits;
+      writes = c.affine-2.ensures m h (negative (number c.sub-x.result) (number c.sub-x.result) (number c.args.r) (number c.zero.result) refl c.sub-x.ensures c.zero.ensures pos low) (mod-eq_of_lt {n = number c.args.y} {m = p} c.requires.second.below);
     }

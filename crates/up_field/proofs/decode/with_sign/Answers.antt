@@ -1,4 +1,4 @@
-use Rattle.std.proofs.Common.{◌≡◌, ℕ, ◌%◌, sym, ap, subst}
+use Rattle.std.proofs.Common.{refl, ◌≡◌, ℕ, ◌%◌, sym, ap, subst}
 use Rattle.up_curve.specs.Field.{p}
 use Rattle.up_field.specs.Points.{number}
 use Rattle.up_field.specs.Decoded.{IsMaybe}
@@ -8,12 +8,12 @@ use Rattle.up_field.proofs.decode.with_sign.Goals as goal
 
 pub signed-requires-clause-root : goal.signed-requires-clause-root
 signed-requires-clause-root c =
-    let hu : number c.weak-u.result % p ≡ u_of (number c.args.y) % p =
-    u_steps (number c.args.y) (number c.square-s.result) (number c.one.result) (number c.sub.result) (number c.weak-u.result)
-    c.square-s.ensures.value c.one.ensures.value c.sub.ensures.value c.weak-u.ensures.value in
-    let hv : number c.weak-v.result % p ≡ v_of (number c.args.y) % p =
-    v_steps (number c.args.y) (number c.square-s.result) (number c.one-2.result) (number c.d.result) (number c.mul-t.result) (number c.add.result) (number c.weak-v.result)
-    c.square-s.ensures.value c.one-2.ensures.value c.d.ensures.value c.mul-t.ensures.value c.add.ensures.value c.weak-v.ensures.value in
+    let hu : number c.sub-u.result % p ≡ u_of (number c.args.y) % p =
+    u_steps (number c.args.y) (number c.square-s.result) (number c.one.result) (number c.sub-u.result) (number c.sub-u.result)
+    c.square-s.ensures c.one.ensures c.sub-u.ensures refl in
+    let hv : number c.add-v.result % p ≡ v_of (number c.args.y) % p =
+    v_steps (number c.args.y) (number c.square-s.result) (number c.one-2.result) (number c.d.result) (number c.mul-t.result) (number c.add-v.result) (number c.add-v.result)
+    c.square-s.ensures c.one-2.ensures c.d.ensures c.mul-t.ensures c.add-v.ensures refl in
     let a : ℕ = u_of (number c.args.y) in
     let b : ℕ = v_of (number c.args.y) in
     let k = c.in-Some.ensures {u = tt} a b hu hv in
@@ -21,12 +21,12 @@ signed-requires-clause-root c =
 
 pub signed-requires-clause-curve : goal.signed-requires-clause-curve
 signed-requires-clause-curve c =
-    let hu : number c.weak-u.result % p ≡ u_of (number c.args.y) % p =
-    u_steps (number c.args.y) (number c.square-s.result) (number c.one.result) (number c.sub.result) (number c.weak-u.result)
-    c.square-s.ensures.value c.one.ensures.value c.sub.ensures.value c.weak-u.ensures.value in
-    let hv : number c.weak-v.result % p ≡ v_of (number c.args.y) % p =
-    v_steps (number c.args.y) (number c.square-s.result) (number c.one-2.result) (number c.d.result) (number c.mul-t.result) (number c.add.result) (number c.weak-v.result)
-    c.square-s.ensures.value c.one-2.ensures.value c.d.ensures.value c.mul-t.ensures.value c.add.ensures.value c.weak-v.ensures.value in
+    let hu : number c.sub-u.result % p ≡ u_of (number c.args.y) % p =
+    u_steps (number c.args.y) (number c.square-s.result) (number c.one.result) (number c.sub-u.result) (number c.sub-u.result)
+    c.square-s.ensures c.one.ensures c.sub-u.ensures refl in
+    let hv : number c.add-v.result % p ≡ v_of (number c.args.y) % p =
+    v_steps (number c.args.y) (number c.square-s.result) (number c.one-2.result) (number c.d.result) (number c.mul-t.result) (number c.add-v.result) (number c.add-v.result)
+    c.square-s.ensures c.one-2.ensures c.d.ensures c.mul-t.ensures c.add-v.ensures refl in
     let a : ℕ = u_of (number c.args.y) in
     let b : ℕ = v_of (number c.args.y) in
     let k = c.in-Some.ensures {u = tt} a b hu hv in
@@ -35,12 +35,12 @@ signed-requires-clause-curve c =
 pub returns-in-None : goal.returns-in-None
 unfolding with_root
 returns-in-None c =
-    let hu : number c.weak-u.result % p ≡ u_of (number c.args.y) % p =
-    u_steps (number c.args.y) (number c.square-s.result) (number c.one.result) (number c.sub.result) (number c.weak-u.result)
-    c.square-s.ensures.value c.one.ensures.value c.sub.ensures.value c.weak-u.ensures.value in
-    let hv : number c.weak-v.result % p ≡ v_of (number c.args.y) % p =
-    v_steps (number c.args.y) (number c.square-s.result) (number c.one-2.result) (number c.d.result) (number c.mul-t.result) (number c.add.result) (number c.weak-v.result)
-    c.square-s.ensures.value c.one-2.ensures.value c.d.ensures.value c.mul-t.ensures.value c.add.ensures.value c.weak-v.ensures.value in
+    let hu : number c.sub-u.result % p ≡ u_of (number c.args.y) % p =
+    u_steps (number c.args.y) (number c.square-s.result) (number c.one.result) (number c.sub-u.result) (number c.sub-u.result)
+    c.square-s.ensures c.one.ensures c.sub-u.ensures refl in
+    let hv : number c.add-v.result % p ≡ v_of (number c.args.y) % p =
+    v_steps (number c.args.y) (number c.square-s.result) (number c.one-2.result) (number c.d.result) (number c.mul-t.result) (number c.add-v.result) (number c.add-v.result)
+    c.square-s.ensures c.one-2.ensures c.d.ensures c.mul-t.ensures c.add-v.ensures refl in
     let a : ℕ = u_of (number c.args.y) in
     let b : ℕ = v_of (number c.args.y) in
     ap (with_root c.args.sign (number c.args.y)) (c.in-None.ensures {u = tt} a b hu hv)
@@ -48,12 +48,12 @@ returns-in-None c =
 pub returns-in-Some : goal.returns-in-Some
 unfolding with_root
 returns-in-Some c =
-    let hu : number c.weak-u.result % p ≡ u_of (number c.args.y) % p =
-    u_steps (number c.args.y) (number c.square-s.result) (number c.one.result) (number c.sub.result) (number c.weak-u.result)
-    c.square-s.ensures.value c.one.ensures.value c.sub.ensures.value c.weak-u.ensures.value in
-    let hv : number c.weak-v.result % p ≡ v_of (number c.args.y) % p =
-    v_steps (number c.args.y) (number c.square-s.result) (number c.one-2.result) (number c.d.result) (number c.mul-t.result) (number c.add.result) (number c.weak-v.result)
-    c.square-s.ensures.value c.one-2.ensures.value c.d.ensures.value c.mul-t.ensures.value c.add.ensures.value c.weak-v.ensures.value in
+    let hu : number c.sub-u.result % p ≡ u_of (number c.args.y) % p =
+    u_steps (number c.args.y) (number c.square-s.result) (number c.one.result) (number c.sub-u.result) (number c.sub-u.result)
+    c.square-s.ensures c.one.ensures c.sub-u.ensures refl in
+    let hv : number c.add-v.result % p ≡ v_of (number c.args.y) % p =
+    v_steps (number c.args.y) (number c.square-s.result) (number c.one-2.result) (number c.d.result) (number c.mul-t.result) (number c.add-v.result) (number c.add-v.result)
+    c.square-s.ensures c.one-2.ensures c.d.ensures c.mul-t.ensures c.add-v.ensures refl in
     let a : ℕ = u_of (number c.args.y) in
     let b : ℕ = v_of (number c.args.y) in
     let k = c.in-Some.ensures {u = tt} a b hu hv in

@@ -5,4 +5,4 @@ use Rattle.up_field.proofs.encode.quotient.Goals as goal
 
 pub returns-clause-value : goal.returns-clause-value
 returns-clause-value c = λ a z h hx hz.
-    c.canonical.ensures.value ∙ c.mul.ensures.value ∙ quotient_is (number c.args.x) (number c.args.inverse) a z h hx hz
+    c.canonical.ensures ∙ c.mul.ensures ∙ quotient_is (number c.args.x) (number c.args.inverse) a z h hx hz

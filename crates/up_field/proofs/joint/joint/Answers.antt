@@ -1,6 +1,6 @@
 use Rattle.std.proofs.Common.{◌≡◌, ℕ, ◌+◌, ◌*◌, ◌-◌, ◌<◌, sym, ◌∙◌, ap, ap₂, subst, arith, List, length, drop, get_or}
 use Rattle.std.proofs.lemmas.List.{drop_all}
-use Rattle.up_curve.specs.Curve.{Point, base}
+use Rattle.up_curve.specs.Curve.{base}
 use Rattle.up_curve.proofs.Curve.{base_point}
 use Rattle.up_field.specs.Points.{Writes}
 use Rattle.up_field.specs.Sides.{Lies}
@@ -23,35 +23,31 @@ more ds i h l =
 
 pub loop-i-init : goal.loop-i-init
 loop-i-init c = record {
-  limits = c.without_t-r.ensures.limits;
   lies = λ m h.
       subst (Lies c.without_t-r.result)
       (pair-none m base h.point base_point ∙ ap₂ (λ x y. pair x y m base) (sym (none c.scatter-x.result (omega arith))) (sym (none c.scatter-y.result (omega arith))))
-      (c.without_t-r.ensures.lies _ c.neutral.ensures.writes);
+      (c.without_t-r.ensures _ c.neutral.ensures);
 }
 
 pub next-r-requires : goal.next-r-requires
 next-r-requires c = record {
-  so_far = c.loop-i.invariant.limits;
-  table = c.odd_multiples-multiples.ensures.limits;
   digit = c.scatter-x.ensures.digits.each (255 - c.loop-i.i);
   other = c.scatter-y.ensures.digits.each (255 - c.loop-i.i);
 }
 
 pub loop-i-preserved : goal.loop-i-preserved
 loop-i-preserved c = record {
-  limits = c.next-r.ensures.limits;
   lies = λ m h.
       subst (Lies c.next-r.result)
       (ap₂ (λ x y. pair x y m base) (more c.scatter-x.result c.loop-i.i (omega arith) (omega arith)) (more c.scatter-y.result c.loop-i.i (omega arith) (omega arith)))
-      (c.next-r.ensures.lies m _ _ h.point (c.odd_multiples-multiples.ensures.writes m h) (c.loop-i.invariant.lies m h));
+      (c.next-r.ensures m _ _ h.point (c.odd_multiples-multiples.ensures m h) (c.loop-i.invariant.lies m h));
 }
 
-pub returns-clause-writes : goal.returns-clause-writes
-returns-clause-writes c = λ m h.
+pub returns : goal.returns
+returns c = λ m h.
     let e : 256 - c.loop-i.i ≡ 0 = omega arith in
     subst (Writes c.extended.result)
     (ap₂ (λ x y. pair x y m base)
-    (ap (λ z. scattered (drop z c.scatter-x.result)) e ∙ c.scatter-x.ensures.value ∙ c.in_words.ensures.value ∙ c.from_bytes.ensures.value)
-    (ap (λ z. scattered (drop z c.scatter-y.result)) e ∙ c.scatter-y.ensures.value ∙ c.in_words-2.ensures.value ∙ c.from_bytes-2.ensures.value))
-    (c.extended.ensures.writes _ (c.loop-i.invariant.lies m h))
+    (ap (λ z. scattered (drop z c.scatter-x.result)) e ∙ c.scatter-x.ensures.value ∙ c.in_words.ensures ∙ c.from_bytes.ensures.value)
+    (ap (λ z. scattered (drop z c.scatter-y.result)) e ∙ c.scatter-y.ensures.value ∙ c.in_words-2.ensures ∙ c.from_bytes-2.ensures.value))
+    (c.extended.ensures _ (c.loop-i.invariant.lies m h))

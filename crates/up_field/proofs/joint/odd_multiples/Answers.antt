@@ -1,6 +1,6 @@
 use Rattle.std.proofs.Common.{◌≡◌, ◌≢◌, ℕ, zero, suc, ◌+◌, ◌-◌, ◌<◌, refl, sym, ◌∙◌, ap, ap₂, ◌*◌, subst, arith, List, [], ◌∷◌, length, get_or}
 use Rattle.up_field.specs.declared.cached.Cached.{Cached}
-use Rattle.up_field.specs.Cached.{AreReady, Stores}
+use Rattle.up_field.specs.Cached.{Stores}
 use Rattle.up_field.specs.Points.{Writes}
 use Rattle.up_curve.specs.Curve.{add, multiple}
 use Rattle.std.proofs.Common.{Bool, true, false, ◌==◌, eqb, eqb-true, eq-eqb}
@@ -9,7 +9,7 @@ use Rattle.std.proofs.lemmas.List.{get_or-set_other}
 use Rattle.std.proofs.lemmas.Grind.{get_or-set_at}
 use Rattle.std.proofs.lemmas.List.{length-set}
 use Rattle.up_curve.proofs.Curve.{multiple-add, multiple-one}
-use Rattle.up_curve.specs.Curve.{Point, neutral}
+use Rattle.up_curve.specs.Curve.{Point}
 use Rattle.up_field.proofs.joint.odd_multiples.Goals as goal
 
 at_each : (r : Cached) (P : Cached → Type 0) → P r → (k : ℕ) → k < 8 → (q : Cached) → P (get_or (r ∷ r ∷ r ∷ r ∷ r ∷ r ∷ r ∷ r ∷ []) k q)
@@ -40,37 +40,28 @@ loop-i-init c =
     let one : (m : Point) → Writes c.args.q m → Writes c.args.q (multiple (2 * 1 - 1) m) = λ m h. subst (Writes c.args.q) (sym (multiple-one m h.point)) h in
     record {
       long = refl;
-      limits = record { each = at_each c.ready-t.result AreReady c.ready-t.ensures.limits };
-      tight = c.requires;
       so_far = one;
       writes = λ m h k l q.
           at_each c.ready-t.result (λ r. Stores r (multiple (2 * k + 1) m))
-          (subst (λ z. Stores c.ready-t.result (multiple z m)) (let e : 2 * 1 - 1 ≡ 2 * k + 1 = omega (arith, l) in e) (c.ready-t.ensures.writes (multiple (2 * 1 - 1) m) (one m h))) k (omega (arith, l)) q;
+          (subst (λ z. Stores c.ready-t.result (multiple z m)) (let e : 2 * 1 - 1 ≡ 2 * k + 1 = omega (arith, l) in e) (c.ready-t.ensures (multiple (2 * 1 - 1) m) (one m h))) k (omega (arith, l)) q;
     }
 
 pub loop-i-preserved : goal.loop-i-preserved
 loop-i-preserved c =
     let i : ℕ = c.loop-i.i in
     let next : (m : Point) → Writes c.args.q m → Writes c.sum_cached-r.result (multiple (2 * i + 1) m) = λ m h.
-    let two : Stores c.ready-two.result (add m m) = c.ready-two.ensures.writes (add m m) (c.twice.ensures.writes m h) in
+    let two : Stores c.ready-two.result (add m m) = c.ready-two.ensures (add m m) (c.twice.ensures m h) in
     subst (Writes c.sum_cached-r.result)
     (ap (add (multiple (2 * i - 1) m)) (ap₂ add (sym (multiple-one m h.point)) (sym (multiple-one m h.point)) ∙ sym (multiple-add 1 1 m h.point)) ∙ sym (multiple-add (2 * i - 1) (1 + 1) m h.point) ∙ ap (λ z. multiple z m) (omega arith))
-    (c.sum_cached-r.ensures.writes (multiple (2 * i - 1) m) (add m m) (c.loop-i.invariant.so_far m h) two) in
+    (c.sum_cached-r.ensures (multiple (2 * i - 1) m) (add m m) (c.loop-i.invariant.so_far m h) two) in
     record {
       long = omega (arith, length-set c.loop-i.t c.loop-i.i c.ready.result);
-      limits = record {
-        each = λ k l q. at_set (λ _ r. AreReady r) c.loop-i.t c.loop-i.i c.ready.result q k (omega arith) c.ready.ensures.limits (λ _. c.loop-i.invariant.limits.each k l q);
-      };
-      tight = c.sum_cached-r.ensures.limits;
       so_far = λ m h. subst (λ z. Writes c.sum_cached-r.result (multiple z m)) (let e : 2 * i + 1 ≡ 2 * (i + 1) - 1 = omega arith in e) (next m h);
       writes = λ m h k l q.
           at_set (λ k r. Stores r (multiple (2 * k + 1) m)) c.loop-i.t c.loop-i.i c.ready.result q k (omega arith)
-          (c.ready.ensures.writes (multiple (2 * i + 1) m) (next m h))
+          (c.ready.ensures (multiple (2 * i + 1) m) (next m h))
           (λ n. c.loop-i.invariant.writes m h k (omega (arith, l, n)) q);
     }
 
 pub returns : goal.returns
-returns c = record {
-  limits = c.loop-i.invariant.limits;
-  writes = λ m h. record { each = λ k l q. c.loop-i.invariant.writes m h k (omega (arith, l)) q };
-}
+returns c = λ m h. record { each = λ k l q. c.loop-i.invariant.writes m h k (omega (arith, l)) q }

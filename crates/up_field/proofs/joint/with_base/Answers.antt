@@ -1,5 +1,5 @@
-use Rattle.std.proofs.Common.{◌≡◌, ℕ, ◌+◌, ◌*◌, ◌/◌, ◌%◌, ◌<◌, refl, sym, ap, subst, arith}
-use Rattle.up_curve.specs.Curve.{Point, base, multiple}
+use Rattle.std.proofs.Common.{◌≡◌, ℕ, ◌+◌, ◌*◌, ◌/◌, ◌%◌, ◌<◌, subst, arith}
+use Rattle.up_curve.specs.Curve.{base, multiple}
 use Rattle.up_curve.proofs.Curve.{base_point}
 use Rattle.up_field.specs.Affine.{Keeps}
 use Rattle.up_field.specs.Sides.{Yields}
@@ -13,14 +13,14 @@ use Rattle.up_field.proofs.joint.with_base.Goals as goal
 half : (d : ℕ) → (d % 2 ≡ 0 → d ≡ 0) → 0 < d → 2 * (d / 2) + 1 ≡ d
 half d h k = grind (arith, h, k)
 
-pub returns-then-d-eq0-clause-yields : goal.returns-then-d-eq0-clause-yields
-returns-then-d-eq0-clause-yields c = λ m x y h l. subst (λ z. Yields c.args.s (pair x z m base)) (omega arith) l
+pub returns-then-d-eq0 : goal.returns-then-d-eq0
+returns-then-d-eq0 c = λ m x y h l. subst (λ z. Yields c.args.s (pair x z m base)) (omega arith) l
 
 entry_of : (t : List Affine) (d : ℕ) → AreOddMultiples t → IsDigit true d → 0 < d → (q : Affine) → Keeps (get_or t (d / 2) q) (multiple d base)
 entry_of t d h k l q = subst (λ z. Keeps (get_or t (d / 2) q) (multiple z base)) (half d k.odd l) (h.keeps (d / 2) (omega (arith, k.low)) q)
 
-pub returns-clause-yields : goal.returns-clause-yields
-returns-clause-yields c = λ m x y h l.
+pub returns : goal.returns
+returns c = λ m x y h l.
     let d : ℕ = c.args.d in
     subst (Yields c.affine_sides.result) (pair-second m base h base_point x y d)
-    (c.affine_sides.ensures.yields _ (multiple d base) (c.whole.ensures.writes _ l) (entry_of c.odd_table-t.result.now d c.odd_table-t.ensures c.requires.digit (omega arith) _))
+    (c.affine_sides.ensures _ (multiple d base) (c.whole.ensures _ l) (entry_of c.odd_table-t.result.now d c.odd_table-t.ensures c.requires (omega arith) _))

@@ -1,4 +1,4 @@
-use Rattle.std.proofs.Common.{◌≡◌, ℕ, ◌+◌, ◌*◌, ◌/◌, ◌%◌, ◌<◌, refl, sym, ap, subst, arith}
+use Rattle.std.proofs.Common.{◌≡◌, ℕ, ◌+◌, ◌*◌, ◌/◌, ◌%◌, ◌<◌, refl, subst, arith}
 use Rattle.up_curve.specs.Curve.{Point, base, multiple}
 use Rattle.up_curve.proofs.Curve.{base_point}
 use Rattle.up_field.specs.Cached.{Stores}
@@ -14,14 +14,14 @@ use Rattle.up_field.proofs.joint.with_point.Goals as goal
 half : (d : ℕ) → (d % 2 ≡ 0 → d ≡ 0) → 0 < d → 2 * (d / 2) + 1 ≡ d
 half d h k = grind (arith, h, k)
 
-pub returns-then-d-eq0-clause-yields : goal.returns-then-d-eq0-clause-yields
-returns-then-d-eq0-clause-yields c = λ m x y h k l. subst (λ z. Yields c.args.s (pair z y m base)) (omega arith) l
+pub returns-then-d-eq0 : goal.returns-then-d-eq0
+returns-then-d-eq0 c = λ m x y h k l. subst (λ z. Yields c.args.s (pair z y m base)) (omega arith) l
 
 entry_of : (t : List Cached) (m : Point) (d : ℕ) → IsTable t m → IsDigit false d → 0 < d → (q : Cached) → Stores (get_or t (d / 2) q) (multiple d m)
 entry_of t m d h k l q = subst (λ z. Stores (get_or t (d / 2) q) (multiple z m)) (half d k.odd l) (h.each (d / 2) (omega (arith, k.narrow refl)) q)
 
-pub returns-clause-yields : goal.returns-clause-yields
-returns-clause-yields c = λ m x y h k l.
+pub returns : goal.returns
+returns c = λ m x y h k l.
     let d : ℕ = c.args.d in
     subst (Yields c.cached_sides.result) (pair-first m base h base_point x y d)
-    (c.cached_sides.ensures.yields _ (multiple d m) (c.whole.ensures.writes _ l) (entry_of c.args.t.now m d k c.requires.digit (omega arith) _))
+    (c.cached_sides.ensures _ (multiple d m) (c.whole.ensures _ l) (entry_of c.args.t.now m d k c.requires (omega arith) _))

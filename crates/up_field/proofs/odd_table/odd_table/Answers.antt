@@ -1,4 +1,4 @@
-use Rattle.std.proofs.Common.{◌≡◌, ℕ, zero, suc, ◌+◌, ◌*◌, ◌<◌, Bool, true, false, ◌&&◌, eqb, eqb-true, List, [], ◌∷◌, length, get_or, refl, sym, ap, subst, ◌∙◌, arith}
+use Rattle.std.proofs.Common.{◌≡◌, ℕ, zero, suc, ◌+◌, ◌*◌, ◌<◌, Bool, true, false, ◌&&◌, eqb, eqb-true, List, [], ◌∷◌, length, get_or, refl, subst, ◌∙◌, arith}
 use Rattle.up_curve.specs.Curve.{base, multiple}
 use Rattle.up_field.specs.declared.affine.Affine.{Affine}
 use Rattle.up_field.specs.Affine.{Keeps}
@@ -32,7 +32,6 @@ long = refl
 
 made : (ts : List Affine) → length ts ≡ 64 → is_chain steps (first ∷ []) ts ≡ true → AreOddMultiples ts
 made ts l h = record {
-  limits = λ k b q. (chain_is steps (first ∷ []) ts all_first h k (omega (arith, l, b)) q).tight;
   keeps = λ k b q.
       subst (λ z. Keeps (get_or ts k q) (multiple z base)) (odd_at 0 (numbers steps) all_odd k (omega (arith, long, b)) ∙ (let e : 2 * (0 + k) + 1 ≡ 2 * k + 1 = omega arith in e))
       (chain_is steps (first ∷ []) ts all_first h k (omega (arith, l, b)) q).keeps;

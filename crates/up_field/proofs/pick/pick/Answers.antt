@@ -2,10 +2,6 @@ use Rattle.std.proofs.Common.{◌≡◌, ◌≢◌, ℕ, zero, suc, ◌+◌, ◌
 use Rattle.std.proofs.Math.Nat.{pow-zero, pow-le-pow_right}
 use Rattle.std.proofs.lemmas.List.{get_or_default}
 use Rattle.up_field.specs.declared.affine.Affine.{Affine}
-use Rattle.up_field.specs.Affine.{AreAffine}
-use Rattle.up_field.specs.Points.{IsTight}
-use Rattle.up_field.specs.Limbs.{AreBelow}
-use Rattle.up_field.specs.declared.limbs.Field.{Field}
 use Rattle.up_field.specs.Comb.{IsClear}
 use Rattle.up_field.proofs.pick.pick.Goals as goal
 
@@ -23,21 +19,10 @@ picked (suc zero) b i k t r e new d long low two same other he h0 h1 h l q =
     h1 refl ∙ he ∙ ap (λ z. get_or t (b + z) d) z ∙ get_or_default t (b + k) d q (omega (arith, long, low))
 picked (suc (suc a)) b i k t r e new d long low two same other he h0 h1 h l q = absurd (omega (arith, two))
 
-tight : (bit : ℕ) (r e new : Affine) → bit < 2 → AreAffine r → AreAffine e → (bit ≡ 0 → new ≡ r) → (bit ≡ 1 → new ≡ e) → AreAffine new
-tight zero r e new low h k h0 h1 = subst AreAffine (sym (h0 refl)) h
-tight (suc zero) r e new low h k h0 h1 = subst AreAffine (sym (h1 refl)) k
-tight (suc (suc b)) r e new low h k h0 h1 = absurd (omega (arith, low))
-
 still : (bit i k : ℕ) (r new : Affine) → bit < 2 → (bit ≡ 1 → i ≡ k) → (bit ≡ 0 → new ≡ r) → (i ≤ k → IsClear r) → i + 1 ≤ k → IsClear new
 still zero i k r new low other h0 h l = subst IsClear (sym (h0 refl)) (h (omega (arith, l)))
 still (suc zero) i k r new low other h0 h l = absurd (omega (arith, other refl, l))
 still (suc (suc b)) i k r new low other h0 h l = absurd (omega (arith, low))
-
-one_tight : (f : Field) → AreBelow 1 f.l0 f.l1 f.l2 f.l3 f.l4 → IsTight f
-one_tight f h = record { l0 = omega (arith, h.l0); l1 = omega (arith, h.l1); l2 = omega (arith, h.l2); l3 = omega (arith, h.l3); l4 = omega (arith, h.l4) }
-
-clear_tight : (q : Affine) → IsClear q → AreAffine q
-clear_tight q h = record { plus = one_tight q.plus h.plus; minus = one_tight q.minus h.minus; t = one_tight q.t h.t }
 
 small : (j : ℕ) → j ≤ 15 → 2 ^ j ≤ 2 ^ 15
 small j h = pow-le-pow_right {n = 2} (lit< tt) h
@@ -84,7 +69,6 @@ gone w k i h n l = from (placed k i)
 
 pub loop-i-init : goal.loop-i-init
 loop-i-init c = record {
-  limits = clear_tight c.clear-r.result c.clear-r.ensures;
   clear = λ _. c.clear-r.ensures;
   ahead = λ _.
       let k : ℕ = c.args.k in
@@ -98,14 +82,11 @@ loop-i-init c = record {
 pub merged_entries-r-requires : goal.merged_entries-r-requires
 merged_entries-r-requires c = record {
   bit = (omega arith);
-  first = c.requires.limits.each (16 * c.args.row + c.loop-i.i) (omega arith) _;
-  second = c.loop-i.invariant.limits;
   clear = λ e. c.loop-i.invariant.clear (omega (arith, (alone c.loop-i.w c.args.k c.loop-i.i c.loop-i.invariant.ahead c.loop-i.invariant.past) e));
 }
 
 pub loop-i-preserved : goal.loop-i-preserved
 loop-i-preserved c = record {
-  limits = tight (c.loop-i.w % 2) c.loop-i.r _ c.merged_entries-r.result (omega arith) c.loop-i.invariant.limits (c.requires.limits.each (16 * c.args.row + c.loop-i.i) (omega arith) _) c.merged_entries-r.ensures.zero c.merged_entries-r.ensures.one;
   clear = still (c.loop-i.w % 2) c.loop-i.i c.args.k c.loop-i.r c.merged_entries-r.result (omega arith) (alone c.loop-i.w c.args.k c.loop-i.i c.loop-i.invariant.ahead c.loop-i.invariant.past) c.merged_entries-r.ensures.zero c.loop-i.invariant.clear;
   ahead = nearer c.loop-i.w c.args.k c.loop-i.i c.loop-i.invariant.ahead;
   past = gone c.loop-i.w c.args.k c.loop-i.i c.loop-i.invariant.ahead c.loop-i.invariant.past;
@@ -115,4 +96,4 @@ loop-i-preserved c = record {
 }
 
 pub returns : goal.returns
-returns c = record { limits = c.loop-i.invariant.limits; value = c.loop-i.invariant.value (omega (arith, c.requires.digit)) }
+returns c = c.loop-i.invariant.value (omega (arith, c.requires.digit))

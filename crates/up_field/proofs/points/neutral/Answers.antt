@@ -7,11 +7,11 @@ use Rattle.up_field.proofs.points.neutral.Goals as goal
 exact : {a b : ℕ} → a ≡ b → a % p ≡ b % p
 exact e = ap (λ n. n % p) e
 
-pub returns-clause-writes : goal.returns-clause-writes
-returns-clause-writes c = record {
+pub returns : goal.returns
+returns c = record {
   point = neutral_point;
-  whole = λ e. omega (arith, e, c.one-o.ensures.value);
-  x_is = exact (c.zero-n.ensures.value ∙ (let e : 0 ≡ 0 * number c.one-o.result = omega arith in e));
+  whole = λ e. omega (arith, e, c.one-o.ensures);
+  x_is = exact (c.zero-n.ensures ∙ (let e : 0 ≡ 0 * number c.one-o.result = omega arith in e));
   y_is = exact (let e : number c.one-o.result ≡ 1 * number c.one-o.result = omega arith in e);
-  t_is = exact (c.zero-n.ensures.value ∙ (let e : 0 ≡ 0 * 1 * number c.one-o.result = omega arith in e));
+  t_is = exact (c.zero-n.ensures ∙ (let e : 0 ≡ 0 * 1 * number c.one-o.result = omega arith in e));
 }

@@ -19,7 +19,7 @@ itself n h = record {
   t_is = exact (let e : n.x * n.y ≡ n.x * n.y * 1 = omega arith in e);
 }
 
-pub returns-clause-yields : goal.returns-clause-yields
-returns-clause-yields c = λ m n h k.
-    c.summed_sides.ensures.yields m n n.x n.y 1 (n.x * n.y) h (itself n k.point) k.holds
-    (c.weak-z.ensures.value ∙ exact c.add-y.ensures.value ∙ exact (let e : number c.args.a.z + number c.args.a.z ≡ number c.args.a.z * (2 * 1) = omega arith in e))
+pub returns : goal.returns
+returns c = λ m n h k.
+    c.summed_sides.ensures m n n.x n.y 1 (n.x * n.y) h (itself n k.point) k.holds
+    (c.add-z.ensures ∙ exact (let e : number c.args.a.z + number c.args.a.z ≡ number c.args.a.z * (2 * 1) = omega arith in e))

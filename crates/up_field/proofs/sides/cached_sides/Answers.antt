@@ -4,8 +4,8 @@ use Rattle.up_curve.proofs.Ring.{mod_times}
 use Rattle.up_field.specs.Points.{number}
 use Rattle.up_field.proofs.sides.cached_sides.Goals as goal
 
-pub returns-clause-yields : goal.returns-clause-yields
-returns-clause-yields c = λ m n h k.
-    c.summed_sides.ensures.yields m n k.x k.y k.z k.t h k.writes
+pub returns : goal.returns
+returns c = λ m n h k.
+    c.summed_sides.ensures m n k.x k.y k.z k.t h k.writes
     (record { plus_is = k.plus_is; minus_is = k.minus_is; t_is = k.t_is })
-    (c.mul-z.ensures.value ∙ mod_times p (number c.args.a.z) (number c.args.a.z) (number c.args.b.z) (2 * k.z) refl k.z_is)
+    (c.mul-z.ensures ∙ mod_times p (number c.args.a.z) (number c.args.a.z) (number c.args.b.z) (2 * k.z) refl k.z_is)

@@ -1,6 +1,6 @@
-use Rattle.std.proofs.Common.{◌≡◌, ◌≢◌, ℕ, ◌+◌, ◌*◌, ◌-◌, ◌%◌, refl, sym, ◌∙◌, [], ◌∷◌}
+use Rattle.std.proofs.Common.{◌≡◌, ◌≢◌, ℕ, ◌*◌, ◌-◌, ◌%◌, refl, sym, ◌∙◌, [], ◌∷◌}
 use Rattle.up_curve.specs.Field.{p, inverse}
-use Rattle.up_curve.proofs.Ring.{num, var, times, same_by, mod_times}
+use Rattle.up_curve.proofs.Ring.{num, var, times, same_by}
 use Rattle.up_curve.proofs.Group as Group
 use Rattle.up_curve.proofs.Prime.{prime_p}
 use Rattle.up_curve.proofs.Curve.{inverts, nonsquare}
@@ -26,15 +26,15 @@ product t w x y z a b ht hw hx hy =
     ∷ [])
     (ht, (hx, (hy, (hw, tt)))) refl
 
-pub returns-clause-writes : goal.returns-clause-writes
-returns-clause-writes c = λ m h.
+pub returns : goal.returns
+returns c = λ m h.
     let x : ℕ = number c.args.a.x in
     let y : ℕ = number c.args.a.y in
     let z : ℕ = number c.args.a.z in
     record {
       point = h.point;
-      whole = λ e. nonzero z z h.whole h.whole (sym c.square.ensures.value ∙ e);
-      x_is = scaled (number c.mul.result) (number c.square.result) x z m.x c.mul.ensures.value c.square.ensures.value h.x_is;
-      y_is = scaled (number c.mul-2.result) (number c.square.result) y z m.y c.mul-2.ensures.value c.square.ensures.value h.y_is;
-      t_is = product (number c.mul-3.result) (number c.square.result) x y z m.x m.y c.mul-3.ensures.value c.square.ensures.value h.x_is h.y_is;
+      whole = λ e. nonzero z z h.whole h.whole (sym c.square.ensures ∙ e);
+      x_is = scaled (number c.mul.result) (number c.square.result) x z m.x c.mul.ensures c.square.ensures h.x_is;
+      y_is = scaled (number c.mul-2.result) (number c.square.result) y z m.y c.mul-2.ensures c.square.ensures h.y_is;
+      t_is = product (number c.mul-3.result) (number c.square.result) x y z m.x m.y c.mul-3.ensures c.square.ensures h.x_is h.y_is;
     }

@@ -1,8 +1,7 @@
-use Rattle.std.proofs.Common.{[], ◌∷◌, Bool, true, false, lit<, subst, ◌≡◌, ℕ, zero, suc, ◌+◌, ◌*◌, ◌^◌, ◌<◌, ◌≤◌, List, length, take, get_or, refl, sym, ◌∙◌, ap, arith, pow-suc}
-use Rattle.std.proofs.Math.Nat.{pow-zero}
+use Rattle.std.proofs.Common.{[], ◌∷◌, Bool, true, false, lit<, subst, ◌≡◌, ℕ, zero, suc, ◌+◌, ◌*◌, ◌^◌, ◌<◌, List, length, take, get_or, refl, ◌∙◌, ap, arith, pow-suc}
 use Rattle.std.proofs.lemmas.List.{length-set, take_all}
 use Rattle.up_field.specs.Sparse.{IsDigit}
-use Rattle.up_field.proofs.Scattered.{scattered, scattered-set, scattered-nil, all_set}
+use Rattle.up_field.proofs.Scattered.{scattered, scattered-set, all_set}
 use Rattle.up_field.proofs.sparse.scatter.Goals as goal
 
 zeros : ℕ → List ℕ

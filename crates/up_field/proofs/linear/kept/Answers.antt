@@ -1,6 +1,6 @@
 use Rattle.std.proofs.Common.{◌≡◌, ℕ, ◌*◌, ◌<◌, ◌≤◌, ◌^◌, ◌-◌, ◌%◌, bit_and, ◌∙◌, ap, arith}
 use Rattle.std.proofs.lemmas.Nat.{and_mask, and_le_l, and_le_r}
-use Rattle.up_field.proofs.limbs.kept.Goals as goal
+use Rattle.up_field.proofs.linear.kept.Goals as goal
 
 at_zero : (a b : ℕ) → b ≡ 0 → bit_and a (b * 18446744073709551615) ≡ 0
 at_zero a b e = let h : bit_and a (b * 18446744073709551615) ≤ b * 18446744073709551615 = and_le_r a (b * 18446744073709551615) in omega (arith, h, e)
