@@ -7,7 +7,8 @@ use crate::linear::merged;
 use crate::words::zero;
 
 /// An entry of a row of a table, by reading all of the row. One bit of `w` stands, and comes to its end at the entry.
-#[inline(always)]
+/// Apart from its caller, the compiler adds two words at a time.
+#[inline(never)]
 pub(crate) fn pick(table: &[Affine; 272], row: usize, k: u64) -> Affine
     requires row { row < 17 }
     requires digit { k < 16 }
