@@ -294,6 +294,15 @@ def manifests(program, own):
         yield "the program ends well", http_cases.ended(running)
 
 
+def builds(program):
+    """Each manifest that is to be built is taken."""
+    told = vectors("manifests", METHOD)
+    for case in told["builds"]:
+        printed = trials.printed(program, ":memory:", [*told["setup"], delivered(case["body"])])
+        wanted = "reply %s version 1 targets 0" % case["build"]["vehicle"]
+        yield "the program: build: %(name)s" % case, (printed or [None])[-1] == wanted
+
+
 def posted(running, body):
     """The status of a manifest that is posted, and the body of the answer where it is refused."""
     with contextlib.suppress(OSError, http.client.HTTPException), closing(
@@ -351,6 +360,7 @@ def by_program(program):
         yield from identifiers(program) if METHOD == HMAC else ()
         yield from signatures(program)
         yield from manifests(program, own)
+        yield from builds(program)
         yield from replies(program, own)
         yield from bases(program, own)
 
