@@ -18,35 +18,23 @@ import sqlite3
 from contextlib import closing
 
 from uptane_tools import arguments
-from uptane_tools.trial import trials
 from uptane_tools.edits.edit import edits_in, functions_below
 from uptane_tools.edits.sql import IN_A_BODY, rows_named, texts_in
+from uptane_tools.trial import trials
 
 CRATE = "up_tables"
 FOLDER, ROWS = trials.TOP / "crates" / CRATE, trials.TOP / "crates" / "up_test_tables"
 # the tables in the order in which they are made, and those that an older schema lacks
 TABLES = [
     "meta", "role_key", "repo_file", "image", "campaign", "vehicle", "ecu", "kept", "retired",
-    "image_sha512"
-]
+    "image_sha512"]
 LATER = {1: ["retired", "image_sha512"], 2: ["image_sha512"], 3: []}
 # the words of the rows that read, each with its function
 READS = {
-    "meta": "meta",
-    "keys_of": "role_keys_of",
-    "file": "file",
-    "image": "image",
-    "images": "images",
-    "campaign": "campaign",
-    "running": "running_campaigns",
-    "sha512": "image_sha512",
-    "sha512s": "image_sha512s",
-    "vehicle": "vehicle",
-    "ecus": "ecus",
-    "owner": "ecu_owner",
-    "retired": "retired_owner",
-    "kept": "kept",
-}
+    "meta": "meta", "keys_of": "role_keys_of", "file": "file", "image": "image", "images": "images",
+    "campaign": "campaign", "running": "running_campaigns", "sha512": "image_sha512",
+    "sha512s": "image_sha512s", "vehicle": "vehicle", "ecus": "ecus", "owner": "ecu_owner",
+    "retired": "retired_owner", "kept": "kept"}
 MANY = {"role_keys_of", "images", "running_campaigns", "image_sha512s", "ecus"}
 
 
@@ -100,9 +88,8 @@ class Database:
                 return told(self.db.execute(rest))
             if word in READS:
                 return self.read(READS[word], rest)
-            return self.written(
-                {"make": self.make, "put": self.put, "set": self.set, "close":
-                 self.end}[word], rest)
+            return self.written({
+                "make": self.make, "put": self.put, "set": self.set, "close": self.end}[word], rest)
         except (Refused, sqlite3.Error):
             return "Store"
         except KeyError:
@@ -154,8 +141,8 @@ class Database:
                                             "kept") else [rest] * ("?1" in self.statements[name])
         if name in ("role_keys_of", "kept"):
             values[-1] = number(values[-1])
-        taken = values[:max([int(it) for it in re.findall(r"\?(\d)", self.statements[name])],
-                            default=0)]
+        taken = values[:max([int(it)
+                             for it in re.findall(r"\?(\d)", self.statements[name])], default=0)]
         rows = self.run(name, *taken)
         if name not in MANY and len(rows) > 1:
             raise Refused
@@ -169,9 +156,8 @@ class Database:
         word, _, rest = given.partition(" ")
         {
             "image": self.put_image, "campaign": self.put_campaign, "root": self.put_root,
-            "vehicle": self.put_vehicle, "sha512": self.put_sha512, "retired":
-            lambda rest: self.run("insert_retired", *split(rest, 2))
-        }[word](rest)
+            "vehicle": self.put_vehicle, "sha512": self.put_sha512,
+            "retired": lambda rest: self.run("insert_retired", *split(rest, 2))}[word](rest)
 
     def set(self, given):
         word, _, rest = given.partition(" ")
@@ -311,14 +297,11 @@ def cases(whole):
         texts, named = as_it_stands | named_by(edit.function.name,
                                                texts_in(edit.body)[0]), rows_named(file)
         wrong = {
-            name: first_wrong(texts, all_rows[name])
-            for name in (all_rows if whole else named)
-            if name in all_rows and "on purpose" not in name
-        }
+            name: first_wrong(texts, all_rows[name]) for name in (all_rows if whole else named)
+            if name in all_rows and "on purpose" not in name}
         if whole:
-            yield "%s is seen in: %s" % (edit.label, ", ".join(name
-                                                               for name in wrong if wrong[name])
-                                         or "none"), any(wrong.values())
+            yield "%s is seen in: %s" % (edit.label, ", ".join(
+                name for name in wrong if wrong[name]) or "none"), any(wrong.values())
         for name in named:
             found = wrong.get(name)
             said = "`%s` is answered %s and not %s" % (

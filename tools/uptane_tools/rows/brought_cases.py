@@ -34,8 +34,8 @@ def key(name):
 def sealed(payload, signers):
     signed = canonical(payload)
     signatures = [{
-        "keyid": key(it)[0], "method": "ed25519", "sig": sign(secret(it), signed.encode()).hex()
-    } for it in signers]
+        "keyid": key(it)[0], "method": "ed25519", "sig": sign(secret(it), signed.encode()).hex()}
+                  for it in signers]
     return canonical({"signatures": signatures})[:-1] + ',"signed":' + signed + "}"
 
 
@@ -47,10 +47,8 @@ def root(roles, version=1, repository="director", expires=EXPIRES, keys=None):
     """The payload of a Root; of each role its threshold and its keys."""
     listed = dict(key(name) for _, names in roles.values() for name in names)
     return {
-        "expires": expires, "keys": keys or listed, "repository": repository, "roles":
-        {it: role(*told)
-         for it, told in roles.items()}, "type": "root", "version": version
-    }
+        "expires": expires, "keys": keys or listed, "repository": repository, "roles": {
+            it: role(*told) for it, told in roles.items()}, "type": "root", "version": version}
 
 
 def roles_of(who, root_keys=(2, ("ann", "bob", "eve")), targets_keys=None):
@@ -65,9 +63,8 @@ def image(name, release=1):
 
 def targets(listed, version=1, expires=EXPIRES):
     return {
-        "expires": expires, "repository": "image", "targets": listed, "type": "targets", "version":
-        version
-    }
+        "expires": expires, "repository": "image", "targets": listed, "type": "targets",
+        "version": version}
 
 
 def hexes(*names):
@@ -179,10 +176,9 @@ def targets_rows():
 
 def kept_rows():
     """Targets that stay; they may have expired."""
-    for text, answer in ((sealed(targets(LISTED, 5, GONE),
-                                 BOTH), "stay"), (sealed(targets(LISTED, 5),
-                                                         ("joe", )), "bad signature targets"),
-                         (sealed(targets(LISTED[:1], 5), BOTH), "other images")):
+    for text, answer in ((sealed(targets(LISTED, 5, GONE), BOTH), "stay"), (sealed(
+            targets(LISTED, 5), ("joe", )), "bad signature targets"), (sealed(
+                targets(LISTED[:1], 5), BOTH), "other images")):
         yield f"{IMAGE_ROOT} {text} {REGISTER}", answer
 
 

@@ -18,12 +18,8 @@ import sys
 import time
 
 from uptane_tools import arguments
-from uptane_tools.rows import computed
-from uptane_tools.rows import expected_files
-from uptane_tools.trial import http_cases
-from uptane_tools.rows import row_texts
-from uptane_tools.rows import translated
-from uptane_tools.trial import trials
+from uptane_tools.rows import computed, expected_files, row_texts, translated
+from uptane_tools.trial import http_cases, trials
 
 EXAMPLES, ROWS = trials.TOP / "examples", trials.TOP / "rows"
 PRIMARY = EXAMPLES / "primary"
@@ -37,9 +33,7 @@ def read(path):
 
 def ran(path, *words, given=""):
     """The status of a program of Python's, and what it prints."""
-    done = subprocess.run([sys.executable, path, *words],
-                          input=given.encode(),
-                          capture_output=True,
+    done = subprocess.run([sys.executable, path, *words], input=given.encode(), capture_output=True,
                           check=False)
     return done.returncode, done.stdout.decode("ascii", "replace")
 
@@ -60,11 +54,8 @@ def scripts_under_ed25519():
         lines, wanted = translated.under(script.parent, "ed25519")
         words, scheme = [sys.executable, trials.RUN, "reference", "run",
                          ":memory:"], os.environ | {"SCHEME": "ed25519"}
-        done = subprocess.run(words,
-                              input="\n".join(lines).encode(),
-                              capture_output=True,
-                              check=False,
-                              env=scheme)
+        done = subprocess.run(words, input="\n".join(lines).encode(), capture_output=True,
+                              check=False, env=scheme)
         name = "%s under Ed25519, by the rules" % script.parent.relative_to(trials.TOP)
         yield name, translated.are_as(wanted, done.stdout.decode("ascii").split("\n")[:-1])
 
@@ -76,19 +67,18 @@ def texts():
     for crate, well in computed.kept():
         yield "the input of %s is a part of what is computed" % crate, well
     for name in row_texts.REPLIES:
-        yield "replies of %s, from the formats" % name, read(ROWS / name /
-                                                             "replies") == row_texts.replies(name)
+        yield "replies of %s, from the formats" % name, read(
+            ROWS / name / "replies") == row_texts.replies(name)
     for name in row_texts.FILES:
         files = [
             line[5:] + "\n" for line in expected_files.lines(ROWS / name / "printed")
-            if line.startswith("file ")
-        ]
+            if line.startswith("file ")]
         yield "files of %s, from the formats" % name, "".join(files) == row_texts.files(name)
 
 
 def primary():
-    given, body, reply = (read(PRIMARY / name)
-                          for name in ("manifest-input.json", "manifest.json", "reply.json"))
+    given, body, reply = (
+        read(PRIMARY / name) for name in ("manifest-input.json", "manifest.json", "reply.json"))
     tool, keys = PRIMARY / "primary.py", str(PRIMARY / "director-secrets.json")
     yield "the Primary builds the manifest that the page shows", ran(tool, "build",
                                                                      given=given) == (0, body)
@@ -124,8 +114,8 @@ def reference():
     first = EXAMPLES / "first_path"
     with trials.folder() as own:
         yield "the rules print the first path", ran(
-            trials.RUN, "reference", "run", own / "desk",
-            given=read(first / "script")) == (0, read(first / "printed"))
+            trials.RUN, "reference", "run", own / "desk", given=read(
+                first / "script")) == (0, read(first / "printed"))
         page = read(trials.TOP / "docs" / "integrate" / "HTTP.md")
         with served(own / "desk") as port:
             for asked, shown in re.findall(r"^    \$ (curl [^\n]*)\n((?:    [^\n]*\n|\n(?=    ))*)",

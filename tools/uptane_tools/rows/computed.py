@@ -13,11 +13,8 @@ from pathlib import Path
 from typing import Callable, Iterator
 
 from uptane_tools import TOP, arguments
-from uptane_tools.rows import brought_cases
-from uptane_tools.rows import collect_rows
-from uptane_tools.rows import ed25519_cases
-from uptane_tools.rows import expected_stops
-from uptane_tools.rows import expected_streams
+from uptane_tools.rows import (brought_cases, collect_rows, ed25519_cases, expected_stops,
+                               expected_streams)
 from uptane_tools.trial import trials
 
 # the sections of streams that an input has are so short
@@ -27,11 +24,11 @@ Texts = Callable[[], tuple[str, str]]
 # of each crate all of it, and the part that its input has
 CRATES: dict[str, tuple[Texts, Texts]] = {
     "up_test_worked_rows": (collect_rows.texts, collect_rows.first),
-    "up_test_ed25519": (ed25519_cases.texts, ed25519_cases.first),
-    "up_test_brought": (brought_cases.texts, brought_cases.first),
+    "up_test_ed25519": (ed25519_cases.texts,
+                        ed25519_cases.first), "up_test_brought": (brought_cases.texts,
+                                                                  brought_cases.first),
     "up_test_stream": (expected_streams.texts, lambda: expected_streams.texts(SHORT)),
-    "up_test_stops": (expected_stops.texts, expected_stops.first),
-}
+    "up_test_stops": (expected_stops.texts, expected_stops.first)}
 # what a crate has been built to, by the name of its compiler
 BUILT = {"LLVM": "", "Rattle's own compiler": ".by-rattle"}
 
@@ -62,17 +59,14 @@ def carried_out(folder: Path) -> Iterator[tuple[str, bool]]:
             if ending and not program.exists():
                 continue
             with trials.folder() as own:
-                ran = subprocess.run([program.resolve()],
-                                     input=given.encode(),
-                                     capture_output=True,
-                                     cwd=own,
-                                     timeout=600,
-                                     check=False)
+                ran = subprocess.run([program.resolve()], input=given.encode(), capture_output=True,
+                                     cwd=own, timeout=600, check=False)
             had = ran.stdout.decode("utf-8", "replace")
             if had != told:
                 lines = zip(had.split("\n") + [""], told.split("\n") + [""])
-                print(next(("%.300s\nin place of\n%.300s" % it for it in lines if it[0] != it[1]),
-                           "more"))
+                print(
+                    next(("%.300s\nin place of\n%.300s" % it for it in lines if it[0] != it[1]),
+                         "more"))
             yield "%s, by %s" % (crate, compiler), had == told
 
 

@@ -45,9 +45,9 @@ def keyid(s, k):
 
 def seal(s, keys, payload):
     p = canon(payload)
-    return '{"signatures":' + canon(
-        [{"keyid": keyid(s, k), "method": s.method, "sig": s.sign(k, p.encode())}
-         for k in keys]) + ',"signed":' + p + '}'
+    return '{"signatures":' + canon([{
+        "keyid": keyid(s, k), "method": s.method, "sig": s.sign(k, p.encode())}
+                                     for k in keys]) + ',"signed":' + p + '}'
 
 
 def time(t):
@@ -65,9 +65,7 @@ MOST = 2**53 - 1
 
 def roles(first):
     return {
-        r: ([K(first + i)], 1)
-        for i, r in enumerate(["root", "targets", "snapshot", "timestamp"])
-    }
+        r: ([K(first + i)], 1) for i, r in enumerate(["root", "targets", "snapshot", "timestamp"])}
 
 
 def keyset(first):
@@ -77,9 +75,8 @@ def keyset(first):
 def root(s, repo, n, keys, at, before=None):
     ks = keys[repo]
     payload = {
-        "expires": time(at + 365 * DAY), "keys": {}, "repository": repo, "roles": {}, "type":
-        "root", "version": n
-    }
+        "expires": time(at + 365 * DAY), "keys": {}, "repository": repo, "roles": {},
+        "type": "root", "version": n}
     for r, (secrets, t) in ks.items():
         for k in secrets:
             payload["keys"][keyid(s, k)] = {"method": s.method, "public": s.show}
@@ -99,20 +96,17 @@ def three(s, repo, keys, version, at, targets, vehicle=None):
     v = {"vehicle": vehicle} if vehicle else {}
     t = seal(
         s, ks["targets"][0], {
-            "expires": time(at + a * DAY), "repository": repo, "targets": targets, "type":
-            "targets", "version": version, **v
-        })
+            "expires": time(at + a * DAY), "repository": repo, "targets": targets,
+            "type": "targets", "version": version, **v})
     sn = seal(
         s, ks["snapshot"][0], {
             "expires": time(at + b * DAY), "meta": {"targets.json": {"version": version}},
-            "repository": repo, "type": "snapshot", "version": version, **v
-        })
+            "repository": repo, "type": "snapshot", "version": version, **v})
     ts = seal(
         s, ks["timestamp"][0], {
             "expires": time(at + c * DAY), "meta": {
-                "snapshot.json": {"hashes": {"sha256": H(sn.encode())}, "version": version}
-            }, "repository": repo, "type": "timestamp", "version": version, **v
-        })
+                "snapshot.json": {"hashes": {"sha256": H(sn.encode())}, "version": version}},
+            "repository": repo, "type": "timestamp", "version": version, **v})
     return t, sn, ts
 
 
@@ -123,9 +117,8 @@ def SECOND(text):
 def target(file, content, hardware, release, ecu=None, second={}):
     hashes = {"sha256": H(content.encode()), **second}
     return {
-        "file": file, "hardware": hardware, "hashes": hashes, "length": len(content), "release":
-        release, **({"ecu": ecu} if ecu else {})
-    }
+        "file": file, "hardware": hardware, "hashes": hashes, "length": len(content),
+        "release": release, **({"ecu": ecu} if ecu else {})}
 
 
 def reply(s, keys, rootn, vehicle, version, at, targets):
@@ -142,9 +135,8 @@ def founded(s, n, version, at, keys, before=None):
     """A founding, or a rotation: the row, and a digest of both Root files and the image
     repository's three.
     """
-    files = root(s, "director", n, keys, at,
-                 before), root(s, "image", n, keys, at,
-                               before), *three(s, "image", keys, version, at, [])
+    files = root(s, "director", n, keys, at, before), root(
+        s, "image", n, keys, at, before), *three(s, "image", keys, version, at, [])
     return f"root {n} version {version} at {at} {digest(*files)}"
 
 
@@ -162,18 +154,16 @@ def registered(s, version, at, images):
 
 # what an ECU may report: a text, and its hashes
 CONTENTS = {
-    "empty": ("", {}), "abc": ("abc", {}), "both": ("abc", SECOND("abc")), "unlike":
-    ("abc", SECOND(""))
-}
+    "empty": ("", {}), "abc": ("abc", {}), "both": ("abc", SECOND("abc")), "unlike": ("abc",
+                                                                                      SECOND(""))}
 
 
 def report(s, ecu, byte, counter, file, content="empty"):
     text, second = CONTENTS[content]
     image = {"file": file, "hashes": {"sha256": H(text.encode()), **second}, "length": len(text)}
     return {
-        "attack": "", "counter": counter, "ecu": ecu, "image": image, "time": time(T0), "type":
-        "report"
-    }
+        "attack": "", "counter": counter, "ecu": ecu, "image": image, "time": time(T0),
+        "type": "report"}
 
 
 def vehicle(s, name, number, last, ecus):
@@ -197,8 +187,8 @@ def accepted(s, name, n, at, ecus, plan, image=("a7.bin", "abc", ["HS"], 7, {}))
     """
     reports = [json.loads(seal(s, [K(b)], report(s, e, b, *told))) for e, h, b, *told in ecus]
     signed = canon({
-        "counter": n, "primary": ecus[0][0], "reports": reports, "type": "manifest", "vehicle": name
-    })
+        "counter": n, "primary": ecus[0][0], "reports": reports, "type": "manifest",
+        "vehicle": name})
     text = reply(s, keyset(1), 1, name, n, at, [target(*image[:4], e, image[4]) for e in plan])
     kept = f"; kept {n} as {n} at {at} under 1 {digest(signed, text)}" + "".join(f" {e}={image[0]}"
                                                                                  for e in plan)
@@ -220,10 +210,9 @@ IMAGES = [
     target("z.bin", "", ["HS"], 1),
     target("b.bin", "abc", ["HS"], 7),
     target("a.bin", "abc", ["HS"], 2),
-    target("m.bin", "", ["HP"], 3)
-]
-A_BOTH, Z_ONE = target("a.bin", "abc", ["HS"], 2,
-                       second=SECOND("abc")), target("z.bin", "", ["HS"], 1)
+    target("m.bin", "", ["HP"], 3)]
+A_BOTH, Z_ONE = target("a.bin", "abc", ["HS"], 2, second=SECOND("abc")), target(
+    "z.bin", "", ["HS"], 1)
 
 
 def by_second_hash(s, n, report, plan):
@@ -248,65 +237,36 @@ def two_root_keys(first, keys, threshold):
 
 before, after = two_root_keys(1, [1, 9], 2), two_root_keys(81, [81, 1], 1)
 EXPECTED = {
-    "founded":
-    lambda s: founded(s, 1, 1, T0, keyset(1)),
-    "rotated":
-    lambda s: founded(s, 2, 2, T0 + DAY, keyset(81), keyset(1)),
-    "founded_with_two":
-    lambda s: founded(s, 1, 1, T0, before),
-    "rotated_to_one_of_them":
-    lambda s: founded(s, 2, 2, T0, after, before),
-    "one_key":
-    lambda s: founded(s, 1, 1, T0, one_role([1], 1)),
-    "four_keys":
-    lambda s: founded(s, 2, 2, T0, one_role([1, 2, 3, 4], 4), one_role([1], 1)),
-    "last_root":
-    lambda s: founded(s, 64, MOST, T0, keyset(1), keyset(1)),
-    **{f"image{n}": functools.partial(registered_of, n) for n in (1, 2, 3, 4)},
-    "refreshed":
-    lambda s: registered(s, 3, T0 + 3600, IMAGES[:1]),
-    "refreshed_to_the_greatest":
-    lambda s: registered(s, MOST, T0 + 3600, IMAGES[:1]),
-    "image_1024":
-    lambda s: registered(s, MOST, T0, [target(f"{n}.bin", "", ["HS"], 1) for n in range(1024)]),
-    "v1":
-    lambda s: vehicle(s, "V1", 0, 0, V1),
-    "v2":
-    lambda s: vehicle(s, "V2", 0, 0, V2),
-    "v3":
-    lambda s: vehicle(s, "V3", 0, 0, [("P3", "HP", 17)]),
-    "v32":
-    lambda s: vehicle(s, "V32", 0, 0, V32),
-    "replaced":
-    lambda s: vehicle(s, "V2", 1, 1, V2_AFTER),
-    "after_replacement":
-    lambda s: accepted(s, "V2", 2, T0, V2_REPORTED, []),
-    "replaced_again":
-    lambda s: vehicle(s, "V2", 2, 2, V2_REPORTED[:2] + [("S4", "HT", 153)]),
-    "manifest1":
-    lambda s: accepted(s, "V2", 1, T0, factory(V2), ["S2"]),
-    "manifest2":
-    lambda s: accepted(s, "V2", 2, T0 + DAY, factory(V2), ["S2"]),
-    "next_manifest":
-    lambda s: accepted(s, "V2", 2, T0, [("P2", "HP", 68, 2, "a"),
-                                        ("S2", "HS", 51, 1, "factory.bin")], ["S2"]),
-    "second_hash":
-    lambda s: registered(s, 2, T0, [A_BOTH]),
-    "second_hash_and_none":
-    lambda s: registered(s, 3, T0, [A_BOTH, Z_ONE]),
-    "second_hash_refreshed":
-    lambda s: registered(s, 9, T0 + 3600, [A_BOTH, Z_ONE]),
-    "second_hash_wanted":
-    lambda s: by_second_hash(s, 1, ["factory.bin"], ["S2"]),
-    "second_hash_unlike":
-    lambda s: by_second_hash(s, 2, ["a.bin", "unlike"], ["S2"]),
-    "second_hash_alike":
-    lambda s: by_second_hash(s, 3, ["a.bin", "both"], []),
-    "second_hash_unreported":
-    lambda s: by_second_hash(s, 4, ["a.bin", "abc"], []),
-    "manifest_of_32":
-    lambda s: accepted(s, "V32", 1, T0, factory(V32), [e for e, h, b in V32[1:]]),
-}
+    "founded": lambda s: founded(s, 1, 1, T0, keyset(1)),
+    "rotated": lambda s: founded(s, 2, 2, T0 + DAY, keyset(81), keyset(1)),
+    "founded_with_two": lambda s: founded(s, 1, 1, T0, before),
+    "rotated_to_one_of_them": lambda s: founded(s, 2, 2, T0, after, before),
+    "one_key": lambda s: founded(s, 1, 1, T0, one_role([1], 1)),
+    "four_keys": lambda s: founded(s, 2, 2, T0, one_role([1, 2, 3, 4], 4), one_role([1], 1)),
+    "last_root": lambda s: founded(s, 64, MOST, T0, keyset(1), keyset(1)), **{
+        f"image{n}": functools.partial(registered_of, n) for n in (1, 2, 3, 4)}, "refreshed": lambda
+    s: registered(s, 3, T0 + 3600, IMAGES[:1]), "refreshed_to_the_greatest": lambda s: registered(
+        s, MOST, T0 + 3600, IMAGES[:1]), "image_1024": lambda s: registered(
+            s, MOST, T0, [target(f"{n}.bin", "", ["HS"], 1) for n in range(1024)]),
+    "v1": lambda s: vehicle(s, "V1", 0, 0, V1), "v2": lambda s: vehicle(s, "V2", 0, 0, V2),
+    "v3": lambda s: vehicle(s, "V3", 0, 0, [
+        ("P3", "HP", 17)]), "v32": lambda s: vehicle(s, "V32", 0, 0, V32),
+    "replaced": lambda s: vehicle(s, "V2", 1, 1, V2_AFTER),
+    "after_replacement": lambda s: accepted(s, "V2", 2, T0, V2_REPORTED, []),
+    "replaced_again": lambda s: vehicle(s, "V2", 2, 2, V2_REPORTED[:2] + [
+        ("S4", "HT", 153)]), "manifest1": lambda s: accepted(s, "V2", 1, T0, factory(V2), ["S2"]),
+    "manifest2": lambda s: accepted(s, "V2", 2, T0 + DAY, factory(V2), ["S2"]),
+    "next_manifest": lambda s: accepted(s, "V2", 2, T0, [
+        ("P2", "HP", 68, 2, "a"),
+        ("S2", "HS", 51, 1, "factory.bin")], ["S2"]), "second_hash": lambda s: registered(
+            s, 2, T0, [A_BOTH]), "second_hash_and_none": lambda s: registered(
+                s, 3, T0, [A_BOTH, Z_ONE]), "second_hash_refreshed": lambda s: registered(
+                    s, 9, T0 + 3600, [A_BOTH, Z_ONE]),
+    "second_hash_wanted": lambda s: by_second_hash(s, 1, ["factory.bin"], [
+        "S2"]), "second_hash_unlike": lambda s: by_second_hash(s, 2, ["a.bin", "unlike"], [
+            "S2"]), "second_hash_alike": lambda s: by_second_hash(s, 3, ["a.bin", "both"], [
+            ]), "second_hash_unreported": lambda s: by_second_hash(s, 4, ["a.bin", "abc"], []),
+    "manifest_of_32": lambda s: accepted(s, "V32", 1, T0, factory(V32), [e for e, h, b in V32[1:]])}
 
 
 def both(name):

@@ -7,9 +7,8 @@ each time. Each line writes, so a log that stops does so in each of them; a data
 while it is opened, and written while it is closed. A section that is wrong on purpose has to be
 told as that.
 """
+from uptane_tools.rows import expected_streams, row_texts
 from uptane_tools.trial import each_line
-from uptane_tools.rows import expected_streams
-from uptane_tools.rows import row_texts
 
 AT, P1, ZEROS = expected_streams.AT, expected_streams.P1, 64 * "0"
 
@@ -17,12 +16,10 @@ AT, P1, ZEROS = expected_streams.AT, expected_streams.P1, 64 * "0"
 def bench(counter):
     report = {
         "counter": counter, "ecu": "P1", "file": "factory.bin", "key": P1.hex(), "length": 0,
-        "sha256": row_texts.NOTHING, "time": AT
-    }
+        "sha256": row_texts.NOTHING, "time": AT}
     line = {
-        "at": AT, "counter": counter, "do": "bench", "key": P1.hex(), "primary": "P1", "reports":
-        [report], "vehicle": "V1"
-    }
+        "at": AT, "counter": counter, "do": "bench", "key": P1.hex(), "primary": "P1", "reports": [
+            report], "vehicle": "V1"}
     return row_texts.canonical(line)
 
 
@@ -63,14 +60,12 @@ def texts():
     """The input and what is told."""
     good = steps()
     reply = good[3][2]
-    controls = [
-        ("another answer", *wrong(good, 2, first="already")),
-        ("another answer again", *wrong(good, 2, again="done")),
-        ("another reply again",
-         *wrong(good, 4, again=reply.replace(reply.split('"sig":"')[1][:64], ZEROS))),
-        ("another version", *wrong(good, 5, first="3")),
-        ("another image", *wrong(good, 6, first="factory.bin 0 " + ZEROS)),
-    ]
+    controls = [("another answer", *wrong(good, 2, first="already")),
+                ("another answer again", *wrong(good, 2, again="done")),
+                ("another reply again",
+                 *wrong(good, 4, again=reply.replace(reply.split('"sig":"')[1][:64], ZEROS))),
+                ("another version", *wrong(good, 5, first="3")),
+                ("another image", *wrong(good, 6, first="factory.bin 0 " + ZEROS))]
     given = section("two manifests", good)
     told = places("two manifests", len(LINES))
     for words, rows, says in controls:
@@ -88,8 +83,8 @@ def section(words, rows):
 def places(words, number):
     """Where each file stops: while it is opened, in the lines, and while it is closed."""
     lines = ["in row %d" % row for row in range(1, number + 1)]
-    log = "%s, a log that stops: %s\n" % (words, ", ".join(
-        ["while it is opened", *lines, "while it is closed"]))
+    log = "%s, a log that stops: %s\n" % (words, ", ".join([
+        "while it is opened", *lines, "while it is closed"]))
     return log + "%s, a database file that stops: while it is opened, while it is closed\n" % words
 
 

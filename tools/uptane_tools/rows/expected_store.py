@@ -19,8 +19,7 @@ from uptane_tools import TOP, arguments
 KEYS = {
     1: "01,02/2;0b/1;15,16,17,18/3;1f20/1 33,34/2;3d/1;47/1;51,52/1",
     2: "0102/1;6f/1;79,7a/2;83/1 97,98,99/2;a1/1;ab/1;b5/1",
-    3: "c1/1;c2/1;c3/1;c4/1 c5/1;c6/1;c7/1;c8/1",
-}
+    3: "c1/1;c2/1;c3/1;c4/1 c5/1;c6/1;c7/1;c8/1"}
 TWO, FIVE, NINE = "02" * 32, "05" * 32, "9f" * 32
 
 FRESH = ["b-v hw 090009 - 0 -", "a-v hv ff - 0 -"]
@@ -28,92 +27,46 @@ OTHER = ["b-w hw 0a - 0 -", "a-w hv 0b0b - 0 -"]
 FIRST = [f"b-v hw 090009 x/y.bin:5:{FIVE} 7 signed-b7", "a-v hv ff - 0 -"]
 SECOND = [
     f"b-v hw 090009 a.bin:9007199254740991:{NINE} 8 signed-b8",
-    f"a-v hv ff x/y.bin:0:{TWO} 1 signed-a1"
-]
+    f"a-v hv ff x/y.bin:0:{TWO} 1 signed-a1"]
 
-WRITES = [
-    ("found", 1, 1, 1000, "director-1", "image-1", "targets-1 snapshot-1 timestamp-1"),
-    ("rotate", 2, 1, 2000, "director-2", "image-2", "targets-2 snapshot-2 timestamp-2"),
-    ("refresh", 2, 2, 253402300799, "targets-3 snapshot-3 timestamp-3"),
-    ("image", f"x/y.bin 5 {FIVE} hw,hv 6 hw:4,hv:9007199254740991 a/b.bin,c.bin", 2, 3, 3000,
-     "targets-4 snapshot-4 timestamp-4"),
-    ("image", f"a.bin 9007199254740991 {NINE} hw 0 - -", 2, 4, 3001,
-     "targets-5 snapshot-5 timestamp-5"),
-    ("vehicle", "v b-v 0 0", FRESH),
-    ("vehicle", "w b-w 0 0", OTHER),
-    ("campaign", "some v,w hw:x/y.bin,hv:a.bin runs"),
-    ("campaign", "any * hw:a.bin runs"),
-    ("campaign", "else w hv:x/y.bin runs"),
-    ("close", "any * hw:a.bin closed"),
-    ("accept", 'v 3 1 4000 2 {"m":3} b-v=x/y.bin,a-v=a.bin!- {"r":3}', "v b-v 1 3", FIRST),
-    ("accept", 'v 5 2 4001 2 {"m":5} -!b-v=needs=hv {"r":5}', "v b-v 2 5", SECOND),
-    ("accept", 'w 1 1 4001 2 {"m":1} -!b-w=conflicts=c.bin {"r":1}', "w b-w 1 1", OTHER),
-]
+WRITES = [("found", 1, 1, 1000, "director-1", "image-1", "targets-1 snapshot-1 timestamp-1"),
+          ("rotate", 2, 1, 2000, "director-2", "image-2", "targets-2 snapshot-2 timestamp-2"),
+          ("refresh", 2, 2, 253402300799, "targets-3 snapshot-3 timestamp-3"),
+          ("image", f"x/y.bin 5 {FIVE} hw,hv 6 hw:4,hv:9007199254740991 a/b.bin,c.bin", 2, 3, 3000,
+           "targets-4 snapshot-4 timestamp-4"),
+          ("image", f"a.bin 9007199254740991 {NINE} hw 0 - -", 2, 4, 3001,
+           "targets-5 snapshot-5 timestamp-5"), ("vehicle", "v b-v 0 0", FRESH),
+          ("vehicle", "w b-w 0 0", OTHER), ("campaign", "some v,w hw:x/y.bin,hv:a.bin runs"),
+          ("campaign", "any * hw:a.bin runs"), ("campaign", "else w hv:x/y.bin runs"),
+          ("close", "any * hw:a.bin closed"),
+          ("accept", 'v 3 1 4000 2 {"m":3} b-v=x/y.bin,a-v=a.bin!- {"r":3}', "v b-v 1 3", FIRST),
+          ("accept", 'v 5 2 4001 2 {"m":5} -!b-v=needs=hv {"r":5}', "v b-v 2 5", SECOND),
+          ("accept", 'w 1 1 4001 2 {"m":1} -!b-w=conflicts=c.bin {"r":1}', "w b-w 1 1", OTHER)]
 
 # the ninth, behind the others: an ECU of the vehicle, with its report, is replaced
 REPLACEMENT = ("replace", "v a-v a-x hz 0c0c")
 
 # written a second time: a name, a version or a counter that is there already
-REFUSED = [
-    ("found", 1, 5, 5000, "director-6", "image-6", "targets-6 snapshot-6 timestamp-6"),
-    ("rotate", 2, 5, 5000, "director-6", "image-6", "targets-6 snapshot-6 timestamp-6"),
-    ("image", f"a.bin 1 {TWO} hw 9 - -", 2, 6, 5000, "targets-7 snapshot-7 timestamp-7"),
-    ("vehicle", "v b-v 0 0", FRESH),
-    ("campaign", "any * hw:a.bin runs"),
-    ("accept", 'v 5 3 5000 2 {"m":6} -!- {"r":6}', "v b-v 3 5", FRESH),
-    ("accept", 'v 6 3 5000 2 {"m":6} -!- {"r":6}', "v a-v 3 6", FRESH),
-    ("replace", "v b-v a-w hz 0c"),
-    ("replace", "v a-v a-y hz 0c"),
-]
+REFUSED = [("found", 1, 5, 5000, "director-6", "image-6", "targets-6 snapshot-6 timestamp-6"),
+           ("rotate", 2, 5, 5000, "director-6", "image-6", "targets-6 snapshot-6 timestamp-6"),
+           ("image", f"a.bin 1 {TWO} hw 9 - -", 2, 6, 5000, "targets-7 snapshot-7 timestamp-7"),
+           ("vehicle", "v b-v 0 0", FRESH), ("campaign", "any * hw:a.bin runs"),
+           ("accept", 'v 5 3 5000 2 {"m":6} -!- {"r":6}', "v b-v 3 5", FRESH),
+           ("accept", 'v 6 3 5000 2 {"m":6} -!- {"r":6}', "v a-v 3 6", FRESH),
+           ("replace", "v b-v a-w hz 0c"), ("replace", "v a-v a-y hz 0c")]
 
 READS = [
-    "founding",
-    "founded",
-    "file director root.json",
-    "file director 1.root.json",
-    "file image root.json",
-    "file image 2.root.json",
-    "file image targets.json",
-    "file image snapshot.json",
-    "file image timestamp.json",
-    "file director targets.json",
-    "image x/y.bin",
-    "image a.bin",
-    "images",
-    "campaign some",
-    "campaign any",
-    "campaigns v",
-    "campaigns w",
-    "running",
-    "vehicle v",
-    "ecus v",
-    "ecus w",
-    "owner a-v",
-    "owner a-x",
-    "owner v",
-    "kept v 3",
-    "kept v 5",
-    "kept w 3",
-    "latest v",
-    "latest w",
-]
+    "founding", "founded", "file director root.json", "file director 1.root.json",
+    "file image root.json", "file image 2.root.json", "file image targets.json",
+    "file image snapshot.json", "file image timestamp.json", "file director targets.json",
+    "image x/y.bin", "image a.bin", "images", "campaign some", "campaign any", "campaigns v",
+    "campaigns w", "running", "vehicle v", "ecus v", "ecus w", "owner a-v", "owner a-x", "owner v",
+    "kept v 3", "kept v 5", "kept w 3", "latest v", "latest w"]
 
 # one of each of the thirteen
 ONE_OF_EACH = [
-    "founding",
-    "founded",
-    "file image timestamp.json",
-    "image x/y.bin",
-    "images",
-    "campaign any",
-    "campaigns v",
-    "running",
-    "vehicle v",
-    "ecus v",
-    "owner a-v",
-    "kept v 3",
-    "latest v",
-]
+    "founding", "founded", "file image timestamp.json", "image x/y.bin", "images", "campaign any",
+    "campaigns v", "running", "vehicle v", "ecus v", "owner a-v", "kept v 3", "latest v"]
 
 # ---- older schemas: their statements, as databases in the field have them
 
@@ -145,26 +98,22 @@ EIGHT_TABLES = [
     "NULL, version INTEGER NOT NULL, "
     "moment INTEGER NOT NULL, root INTEGER NOT NULL, signed TEXT NOT NULL, plan_text TEXT NOT "
     "NULL, reply TEXT NOT NULL, "
-    "PRIMARY KEY (vehicle, counter), UNIQUE (vehicle, version)) STRICT",
-]
+    "PRIMARY KEY (vehicle, counter), UNIQUE (vehicle, version)) STRICT"]
 RETIRED_TABLE = (
     "CREATE TABLE retired (ecu TEXT NOT NULL PRIMARY KEY, vehicle TEXT NOT NULL REFERENCES "
     "vehicle (vehicle)) STRICT")
 TABLES_OF = {1: EIGHT_TABLES, 2: EIGHT_TABLES + [RETIRED_TABLE]}
 EIGHT_NAMES = ["meta", "role_key", "repo_file", "image", "campaign", "vehicle", "ecu", "kept"]
 NAMES_OF = {
-    1: EIGHT_NAMES, 2: EIGHT_NAMES + ["retired"], 3: EIGHT_NAMES + ["retired", "image_sha512"]
-}
+    1: EIGHT_NAMES, 2: EIGHT_NAMES + ["retired"], 3: EIGHT_NAMES + ["retired", "image_sha512"]}
 RETIRED_ECUS = [("s-v", "v"), ("r-v", "v")]
 
 # written into a database that was taken
-FURTHER = [
-    ("accept", 'v 6 3 5000 2 {"m":6} -!- {"r":6}', "v b-v 3 6", SECOND),
-    ("vehicle", "x b-x 0 0", ["b-x hw 0c - 0 -"]),
-    ("image", f"c.bin 1 {TWO} hv 1 - -", 2, 6, 5000, "targets-7 snapshot-7 timestamp-7"),
-    ("rotate", 3, 7, 6000, "director-3", "image-3", "targets-8 snapshot-8 timestamp-8"),
-    REPLACEMENT,
-]
+FURTHER = [("accept", 'v 6 3 5000 2 {"m":6} -!- {"r":6}', "v b-v 3 6", SECOND),
+           ("vehicle", "x b-x 0 0", ["b-x hw 0c - 0 -"]),
+           ("image", f"c.bin 1 {TWO} hv 1 - -", 2, 6, 5000, "targets-7 snapshot-7 timestamp-7"),
+           ("rotate", 3, 7, 6000, "director-3", "image-3", "targets-8 snapshot-8 timestamp-8"),
+           REPLACEMENT]
 
 # ---- second hashes
 
@@ -203,37 +152,28 @@ IMAGES_OF_BOTH = [
     ("image", f"d.bin 5 {FIVE}+{OTHER_HASH} hw 8 - c.bin", 1, 4, 3000,
      "targets-4 snapshot-4 timestamp-4"),
     ("image", f"b.bin 9007199254740991 {NINE}+{ONE_HASH} hw,hv 0 - -", 1, 5, 3000,
-     "targets-5 snapshot-5 timestamp-5"),
-]
+     "targets-5 snapshot-5 timestamp-5")]
 BOTH_REPORTED = [
     told("b-v", "090009", "c.bin", FIVE, 7, member(ONE_HASH.upper()), ONE_HASH),
-    told("a-v", "ff", "a.bin", FIVE, 1, ""),
-]
+    told("a-v", "ff", "a.bin", FIVE, 1, "")]
 BOTH_AGAIN = [
     told("b-v", "090009", "d.bin", NINE, 8, member(OTHER_HASH[:-1])),
-    told("a-v", "ff", "d.bin", TWO, 2, member(OTHER_HASH), OTHER_HASH),
-]
+    told("a-v", "ff", "d.bin", TWO, 2, member(OTHER_HASH), OTHER_HASH)]
 UNKNOWN_MEMBERS = [
     told("b-v", "090009", "c.bin", FIVE, 9, ',"sha384":"00"' + member("g" + ONE_HASH[1:])),
-    told("a-x", "0c0c", "c.bin", FIVE, 3, ',"sha512":7'),
-]
+    told("a-x", "0c0c", "c.bin", FIVE, 3, ',"sha512":7')]
 SECOND_HASHES = [
-    WRITES[0],
-    IMAGES_OF_BOTH[0],
-    WRITES[5],
-    ("accept", 'v 3 1 4000 1 {"m":3} -!- {"r":3}', "v b-v 1 3", BOTH_REPORTED),
-    *IMAGES_OF_BOTH[1:],
+    WRITES[0], IMAGES_OF_BOTH[0], WRITES[5],
+    ("accept", 'v 3 1 4000 1 {"m":3} -!- {"r":3}', "v b-v 1 3", BOTH_REPORTED), *IMAGES_OF_BOTH[1:],
     ("accept", 'v 5 2 4001 1 {"m":5} -!- {"r":5}', "v b-v 2 5", BOTH_AGAIN),
     ("replace", "v a-v a-x hz 0c0c"),
-    ("accept", 'v 6 3 4002 1 {"m":6} -!- {"r":6}', "v b-v 3 6", UNKNOWN_MEMBERS),
-]
+    ("accept", 'v 6 3 4002 1 {"m":6} -!- {"r":6}', "v b-v 3 6", UNKNOWN_MEMBERS)]
 SECOND_HASHES_REFUSED = [
     ("image", f"c.bin 5 {FIVE}+{OTHER_HASH} hw 6 hw:4 -", 1, 6, 3000,
      "targets-6 snapshot-6 timestamp-6"),
     ("image", f"a.bin 5 {FIVE}+{ONE_HASH} hw 7 - -", 1, 6, 3000,
      "targets-6 snapshot-6 timestamp-6"),
-    ("accept", 'v 6 4 4002 1 {"m":6} -!- {"r":6}', "v b-v 4 6", UNKNOWN_MEMBERS),
-]
+    ("accept", 'v 6 4 4002 1 {"m":6} -!- {"r":6}', "v b-v 4 6", UNKNOWN_MEMBERS)]
 SECOND_HASH_READS = ["image a.bin", "image b.bin", "image c.bin", "image d.bin", "images", "ecus v"]
 
 # after a fault: few calls, since each is made to fail in turn
@@ -331,8 +271,8 @@ class State:
             return self.kept.get((rest[0], int(rest[1])), "none")
         if word == "file":
             return self.files.get(rest, "none")
-        return {"image": self.images, "campaign": self.campaigns, "vehicle":
-                self.vehicles}[word].get(rest[0], "none")
+        return {"image": self.images, "campaign": self.campaigns,
+                "vehicle": self.vehicles}[word].get(rest[0], "none")
 
     def second_hashes(self):
         """The images that have one, in the order in which they were put in, each with it."""
@@ -344,28 +284,22 @@ class State:
         """The statements that put these rows into tables of a schema."""
         root, version, stamp = self.founding.split()[:3] if self.founding != "none" else (0, 0, 0)
         rows = {
-            "meta": [f"1, 'uptane_desk', {schema}, {root}, {version}, {stamp}"],
-            "role_key": [row for last in range(1,
-                                               int(root) + 1) for row in role_keys(last)],
-            "repo_file": [
-                f"'{repository}', '{name}', '{text}'"
-                for (repository, name), text in self.files.items()
-            ],
-            "image": [image_columns(*row.split()) for row in self.images.values()],
-            "campaign": [campaign_columns(*row.split()) for row in self.campaigns.values()],
-            "vehicle": [vehicle_columns(*row.split()) for row in self.vehicles.values()],
-            "image_sha512":
-            [f"'{file}', x'{hash}'" for file, hash in self.second_hashes()] if schema > 2 else [],
-            "ecu": [
+            "meta": [f"1, 'uptane_desk', {schema}, {root}, {version}, {stamp}"], "role_key": [
+                row for last in range(1,
+                                      int(root) + 1) for row in role_keys(last)], "repo_file": [
+                                          f"'{repository}', '{name}', '{text}'"
+                                          for (repository, name), text in self.files.items()],
+            "image": [image_columns(*row.split()) for row in self.images.values()], "campaign": [
+                campaign_columns(*row.split()) for row in self.campaigns.values()], "vehicle": [
+                    vehicle_columns(*row.split()) for row in self.vehicles.values()
+                ], "image_sha512": [f"'{file}', x'{hash}'" for file, hash in self.second_hashes()]
+            if schema > 2 else [], "ecu": [
                 ecu_columns(name, place, *row.split()) for name, ecus in self.ecus.items()
-                for place, row in enumerate(ecus)
-            ],
-            "kept": [kept_columns(*row.split()) for row in self.kept.values()],
-        }
+                for place, row in enumerate(ecus)], "kept": [
+                    kept_columns(*row.split()) for row in self.kept.values()]}
         return [
             f"INSERT INTO {table} VALUES ({row})" for table, all_rows in rows.items()
-            for row in all_rows
-        ]
+            for row in all_rows]
 
 
 # ---- columns
@@ -390,8 +324,7 @@ def role_keys(root):
 def image_columns(file, length, sha256, hardware, release, needs, conflicts):
     needs = [
         dict(zip(("hardware", "release"), (need.split(":")[0], int(need.split(":")[1]))))
-        for need in listed(needs)
-    ]
+        for need in listed(needs)]
     return (f"'{file}', {length}, x'{sha256.split('+')[0]}', {text_of(listed(hardware))}, "
             f"{release}, {text_of(needs)}, {text_of(listed(conflicts))}")
 
@@ -426,9 +359,8 @@ def kept_columns(vehicle, counter, version, moment, root, signed, plan, reply):
 def section(name, writes, refused, reads):
     state = State()
     rows = ["ask SELECT name FROM sqlite_schema => rows", "create => done"]
-    for write, answer in [(None, None)] + [(write, "done")
-                                           for write in writes] + [(write, "store")
-                                                                   for write in refused]:
+    for write, answer in [(None, None)] + [(write, "done") for write in writes] + [
+        (write, "store") for write in refused]:
         if write:
             rows.append(f"{spelled(write)} => {answer}")
             if answer == "done":
@@ -451,11 +383,11 @@ def asked(state, schema):
         f"ask SELECT name FROM sqlite_schema WHERE type = 'table' => "
         f"{rows_text([(name,) for name in NAMES_OF[schema]])}",
         f"ask SELECT vehicle, counter, signed, reply FROM kept => "
-        f"{rows_text([(row[0], row[1], row[5], row[7]) for row in kept])}",
+        f"{rows_text([(row[0], row[1], row[5], row[7]) for row in kept])}"
     ] + ([f"ask SELECT ecu, vehicle FROM retired => {rows_text(state.retired.items())}"]
          if schema > 1 else []) + ([
-             f"ask SELECT file, sha512 FROM image_sha512 => {rows_text(state.second_hashes())}"
-         ] if schema > 2 else [])
+             f"ask SELECT file, sha512 FROM image_sha512 => {rows_text(state.second_hashes())}"]
+                                   if schema > 2 else [])
 
 
 def older(name, schema, writes, further, reads):
@@ -470,8 +402,7 @@ def older(name, schema, writes, further, reads):
     made = TABLES_OF[schema] + state.inserts(schema)
     made += [
         f"INSERT INTO retired VALUES ('{ecu}', '{vehicle}')"
-        for ecu, vehicle in state.retired.items()
-    ]
+        for ecu, vehicle in state.retired.items()]
     rows = [f"run {statement} => done" for statement in made] + asked(state, schema)
     rows += ["create => store"] + asked(state, schema) + ["adopt => done"]
     rows += [f"{read} => {state.read(*read.split())}" for read in reads]
@@ -502,8 +433,7 @@ def of_both(write):
     if write[0] == "accept":
         return (*write[:-1], [
             told("b-v", "090009", "x/y.bin", FIVE, 7, member(ONE_HASH.upper()), ONE_HASH),
-            *write[-1][1:]
-        ])
+            *write[-1][1:]])
     return write
 
 
@@ -519,17 +449,14 @@ def damaged():
         rows += [
             "release => done",
             f"run UPDATE image_sha512 SET sha512 = x'{hash}' WHERE file = 'c.bin' => done",
-            "adopt => done"
-        ]
+            "adopt => done"]
         rows += ["image c.bin => store", "images => store"]
         rows += [
             f"{read} => {state.read(*read.split())}"
-            for read in ("image a.bin", "image b.bin", "image d.bin")
-        ]
+            for read in ("image a.bin", "image b.bin", "image d.bin")]
     rows += [
         "release => done", "run DELETE FROM image_sha512 WHERE file = 'c.bin' => done",
-        "adopt => done"
-    ]
+        "adopt => done"]
     state.images["c.bin"] = state.images["c.bin"].replace("+" + ONE_HASH, "")
     rows += [f"{read} => {state.read(*read.split())}" for read in SECOND_HASH_READS[:-1]]
     return "damaged second hashes\n" + "\n".join(rows) + "\n"
@@ -541,28 +468,23 @@ def older_reports(name, schema):
     """
     without = [
         write[:1] + (write[1].replace("+" + ONE_HASH, "").replace("+" + OTHER_HASH, ""), *write[2:])
-        for write in IMAGES_OF_BOTH[:2]
-    ]
+        for write in IMAGES_OF_BOTH[:2]]
     writes = [
         WRITES[0], *without, WRITES[5], WRITES[6], SECOND_HASHES[3],
-        ("accept", 'v 5 2 4001 1 {"m":5} -!- {"r":5}', "v b-v 2 5", BOTH_AGAIN)
-    ]
+        ("accept", 'v 5 2 4001 1 {"m":5} -!- {"r":5}', "v b-v 2 5", BOTH_AGAIN)]
     further = [
         IMAGES_OF_BOTH[2],
         ("accept", 'v 6 3 4002 1 {"m":6} -!- {"r":6}', "v b-v 3 6", BOTH_REPORTED),
-        ("replace", "v a-v a-x hz 0c0c")
-    ]
+        ("replace", "v a-v a-x hz 0c0c")]
     return older(name, schema, writes, further, [
         "image a.bin", "image c.bin", "image d.bin", "images", "ecus v", "ecus w", "kept v 3",
-        "latest v"
-    ])
+        "latest v"])
 
 
 def computed():
     once = {
-        write[0]: write
-        for write in reversed(WRITES) if write[-1] != "some v,w hw:x/y.bin,hv:a.bin runs"
-    }
+        write[0]: write for write in reversed(WRITES)
+        if write[-1] != "some v,w hw:x/y.bin,hv:a.bin runs"}
     in_order = [of_both(write) for write in WRITES if write in once.values()]
     return [
         section("all nine writes", [*WRITES, REPLACEMENT], REFUSED, READS),
@@ -578,8 +500,7 @@ def computed():
         older_reports("second hashes in reports of schema 1 in files", 1),
         older_reports("second hashes in reports of schema 2 in files", 2),
         older("a new database of schema 1 in files", 1, [], WRITES[:1], READS),
-        older("a new database of schema 2 in files", 2, [], WRITES[:1], READS),
-    ]
+        older("a new database of schema 2 in files", 2, [], WRITES[:1], READS)]
 
 
 def main(words: arguments.Words = None) -> int:

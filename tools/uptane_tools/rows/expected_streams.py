@@ -19,8 +19,7 @@ def key(byte):
 def roles(first):
     return {
         role: key(first + place)
-        for place, role in enumerate(("root", "targets", "snapshot", "timestamp"))
-    }
+        for place, role in enumerate(("root", "targets", "snapshot", "timestamp"))}
 
 
 FOUND = canon({"at": AT, "director": roles(1), "do": "found", "image": roles(5)})
@@ -29,25 +28,21 @@ ECU = {"ecu": "P1", "hardware": "HP", "key": P1.hex()}
 VEHICLE = canon({"at": AT, "do": "add_vehicle", "ecus": [ECU], "primary": "P1", "vehicle": "V1"})
 ITEM = {
     "attack": "", "counter": 1, "ecu": "P1", "time": AT, "key": P1.hex(), "file": "factory.bin",
-    "length": 0, "sha256": row_texts.NOTHING
-}
+    "length": 0, "sha256": row_texts.NOTHING}
 SHOW = canon({"at": AT, "do": "show", "vehicle": "V1"})
 BENCH = canon({
     "at": AT, "counter": 1, "do": "bench", "key": P1.hex(), "primary": "P1", "reports": [ITEM],
-    "vehicle": "V1"
-})
+    "vehicle": "V1"})
 
 
 def manifest():
     image = {"file": "factory.bin", "hashes": {"sha256": row_texts.NOTHING}, "length": 0}
     report = {
         "attack": "", "counter": 1, "ecu": "P1", "image": image, "time": "2026-01-01T00:00:00Z",
-        "type": "report"
-    }
+        "type": "report"}
     reports = [json.loads(row_texts.envelope(row_texts.HmacSha256, [P1], report))]
     payload = {
-        "counter": 1, "primary": "P1", "reports": reports, "type": "manifest", "vehicle": "V1"
-    }
+        "counter": 1, "primary": "P1", "reports": reports, "type": "manifest", "vehicle": "V1"}
     return row_texts.envelope(row_texts.HmacSha256, [P1], payload)
 
 
@@ -90,24 +85,19 @@ NO_HOST, ALLOW_POST, NO_LENGTH = "GET /image/root.json HTTP/1.1||", ("GET /direc
                                                                      "HTTP/1.1|Host: d||"), post()
 NOT_ALLOWED = answer("405 Method Not Allowed", error(0, "method not allowed"), "Allow: POST|")
 LENGTH_REQUIRED = answer("411 Length Required", error(0, "length required"), CLOSE)
-SHORT = [
-    (NO_HOST, BAD),
-    (NO_FILE, NO_FILE_ANSWER),
-    (ALLOW_POST, NOT_ALLOWED),
-    (NO_LENGTH, LENGTH_REQUIRED),
-    ("GET /director/b*d HTTP/1.1|Host: d||", answer("404 Not Found", error(0, "not found"))),
-    (post("Content-Length: 0|Connection: close|") + "GET",
-     answer("400 Bad Request", error(5, "NotJson"), CLOSE)),
-    ("HEAD /image/root.json HTTP/1.1|Host: d||",
-     answer("405 Method Not Allowed", error(0, "method not allowed"), "Allow: GET|", False)),
-    ("GET /image/root.json HTTP/1.1|Host: d|Transfer-Encoding: chunked||",
-     answer("501 Not Implemented", error(0, "not implemented"), CLOSE)),
-]
+SHORT = [(NO_HOST, BAD), (NO_FILE, NO_FILE_ANSWER), (ALLOW_POST, NOT_ALLOWED),
+         (NO_LENGTH, LENGTH_REQUIRED),
+         ("GET /director/b*d HTTP/1.1|Host: d||", answer("404 Not Found", error(0, "not found"))),
+         (post("Content-Length: 0|Connection: close|") + "GET",
+          answer("400 Bad Request", error(5, "NotJson"), CLOSE)),
+         ("HEAD /image/root.json HTTP/1.1|Host: d||",
+          answer("405 Method Not Allowed", error(0, "method not allowed"), "Allow: GET|", False)),
+         ("GET /image/root.json HTTP/1.1|Host: d|Transfer-Encoding: chunked||",
+          answer("501 Not Implemented", error(0, "not implemented"), CLOSE))]
 MANIFEST = manifest()
 TWICE = 2 * posted(MANIFEST)
 FILES = {
-    "director": ["root", "1.root"], "image": ["root", "1.root", "targets", "snapshot", "timestamp"]
-}
+    "director": ["root", "1.root"], "image": ["root", "1.root", "targets", "snapshot", "timestamp"]}
 
 
 def get(repository, name):
@@ -162,10 +152,9 @@ def lines_sweep(step, script, printed):
     ends = [sum(len(line) + 1 for line in script[:place + 1]) for place in range(len(script) - 1)]
 
     def told(cause, called, answered):
-        return (
-            " %s %d %d %d again," %
-            (cause, answered, sum(len(line) + 2
-                                  for line in printed[:answered]), printed[:called].count("done")))
+        return (" %s %d %d %d again," %
+                (cause, answered, sum(
+                    len(line) + 2 for line in printed[:answered]), printed[:called].count("done")))
 
     reads, size = [], len("\n".join(script))
     for had in range(0, size + step, step):
@@ -187,20 +176,18 @@ def sections():
 
     short = [row for input, wanted in SHORT for row in both(input, "1: " + wanted)]
     yield "short requests", founded + both("", "0: ") + short
-    yield "requests before the founding", both(
-        NO_FILE, "1: " + NOT_FOUNDED) + [("whole " + posted(MANIFEST), "1: " + NOT_FOUNDED)]
+    yield "requests before the founding", both(NO_FILE, "1: " + NOT_FOUNDED) + [
+        ("whole " + posted(MANIFEST), "1: " + NOT_FOUNDED)]
     named = [(repository, name) for repository, names in FILES.items() for name in names]
     files = [("whole " + get(*it), "1: " + file_answer(*it)) for it in named]
-    all_files = "".join(
-        get(*it)
-        for it in named), "%d: %s" % (len(named), "".join(file_answer(*it) for it in named))
+    all_files = "".join(get(*it) for it in named), "%d: %s" % (len(named), "".join(
+        file_answer(*it) for it in named))
     yield "files of both repositories", founded + files + both(*all_files)
     unknown = answer("404 Not Found", error(10, "UnknownVehicle"))
     yield "a manifest of an unknown vehicle", founded + both(posted(MANIFEST), "1: " + unknown)
     large = both(spaces(MOST), "1: " + NOT_JSON) + both(spaces(MOST + 1), "1: " + TOO_LARGE)
     yield "largest bodies", founded + large + [
-        ("whole " + spaces(MOST) + NO_FILE, "2: " + NOT_JSON + NO_FILE_ANSWER)
-    ]
+        ("whole " + spaces(MOST) + NO_FILE, "2: " + NOT_JSON + NO_FILE_ANSWER)]
     cut = [("cut " + 2 * NO_FILE, "2: " + 2 * NO_FILE_ANSWER)]
     yield "two requests cut anywhere", founded + cut + both(2 * NO_FILE,
                                                             "2: " + 2 * NO_FILE_ANSWER)[::-1]
@@ -208,16 +195,14 @@ def sections():
     yield "a manifest twice a byte at a time", vehicle + [("slow " + TWICE, "2: " + 2 * REPLY)]
     yield "a manifest cut anywhere", vehicle + [("cut " + posted(MANIFEST), "1: " + REPLY)]
     yield "a hundred requests", founded + [
-        ("whole <*101*%s*>" % NO_FILE, "100: " + 99 * NO_FILE_ANSWER + NO_FILE_LAST)
-    ]
+        ("whole <*101*%s*>" % NO_FILE, "100: " + 99 * NO_FILE_ANSWER + NO_FILE_LAST)]
     three = "<*3*%s*>" % NO_FILE
     yield "one call that fails", founded + [
         ("fails 1000 0 2 0 " + three, "Write 2 1: " + NO_FILE_ANSWER),
         ("fails 1000 0 0 2 " + three, "Write 2 1: " + NO_FILE_ANSWER),
         ("fails 50 3 0 0 " + three, "Read 2 2: " + 2 * NO_FILE_ANSWER),
         ("fails 1000 1 0 0 " + three, "Read 0 0: "),
-        ("fails 1000 2 0 0 " + three, "Read 3 3: " + 3 * NO_FILE_ANSWER),
-    ]
+        ("fails 1000 2 0 0 " + three, "Read 3 3: " + 3 * NO_FILE_ANSWER)]
     stands = ("do " + SHOW, "1: vehicle V1 version 1 P1=factory.bin\\n")
     unwritten = [("fails 1000 0 1 0 " + TWICE, "Write 1 0: "), stands,
                  ("whole " + posted(MANIFEST), "1: " + REPLY), stands]
@@ -232,11 +217,9 @@ def sections():
         sweep(20, post("Content-Length: %d|" % (MOST + 1)), [(head, TOO_LARGE, 0)]),
         sweep(20, NO_LENGTH, [(length(NO_LENGTH), LENGTH_REQUIRED, 0)]),
         sweep(7, 2 * NO_FILE, [(once, NO_FILE_ANSWER, 1), (twice, NO_FILE_ANSWER, 1)]),
-        sweep(10, "", []),
-    ]
+        sweep(10, "", [])]
     yield "each read and write fails in turn before the founding", [
-        sweep(20, NO_FILE, [(once, NOT_FOUNDED, 1)])
-    ]
+        sweep(20, NO_FILE, [(once, NOT_FOUNDED, 1)])]
     first = length(posted(MANIFEST))
     accepted = [(first, REPLY, 1), (2 * first, REPLY, 1)]
     rest = [(2 * first + once, NO_FILE_ANSWER, 1), (None, BAD, 0)]
@@ -247,13 +230,11 @@ def sections():
     none_fails = "lines 100 0 0 0 " + "\\n".join(script), "%d: %s" % (len(printed), "".join(
         line + "\\n" for line in printed))
     yield "each read and write fails in turn over lines", [
-        lines_sweep(100, script, printed), none_fails
-    ]
+        lines_sweep(100, script, printed), none_fails]
     refused = "refused 5 NotJson\\n"
     yield "scripts that end early", [
         ("lines 1000 0 0 0 nope\\n<*2097153* *>", "TooLong 1: " + refused),
-        ("lines 1000 0 0 0 nope\\n<*2097152* *>", "2: " + 2 * refused),
-    ]
+        ("lines 1000 0 0 0 nope\\n<*2097152* *>", "2: " + 2 * refused)]
     script = "lines 1000 0 3 0 " + "\\n".join((FOUND, VEHICLE, BENCH))
     again = ("do " + BENCH, "1: reply V1 version 1 targets 0\\n")
     yield "an unwritten line", [(script, "Write 2: done\\ndone\\n"), stands, again, stands]

@@ -62,9 +62,8 @@ def keyid(public):
 
 def seal(scheme, keys, text):
     signatures = [{
-        "keyid": keyid(scheme.public(k)), "method": scheme.method, "sig":
-        scheme.sign(k, text.encode())
-    } for k in keys]
+        "keyid": keyid(scheme.public(k)), "method": scheme.method, "sig": scheme.sign(
+            k, text.encode())} for k in keys]
     return '{"signatures":%s,"signed":%s}' % (canon(signatures), text)
 
 
@@ -81,8 +80,8 @@ def accepted(scheme, publics, threshold, envelope):
         return s["keyid"] == keyid(public) and s["method"] == scheme.method and valid(
             scheme, public, s["sig"], text)
 
-    return sum(any(signed(public, s) for s in envelope["signatures"])
-               for public in publics) >= threshold
+    return sum(
+        any(signed(public, s) for s in envelope["signatures"]) for public in publics) >= threshold
 
 
 LOWER, EITHER = r"[0-9a-f]{128}", r"[0-9A-Fa-f]{128}"
@@ -103,8 +102,7 @@ def known_target(target):
     """The members of a target that its format has, and the hashes that are hashes."""
     second = second_hash(target["hashes"], LOWER)
     return target | {
-        "hashes": {"sha256": target["hashes"]["sha256"]} | ({"sha512": second} if second else {})
-    }
+        "hashes": {"sha256": target["hashes"]["sha256"]} | ({"sha512": second} if second else {})}
 
 
 def known(v):
@@ -113,8 +111,7 @@ def known(v):
     v.update({"targets": [known_target(t) for t in v["targets"]]} if "targets" in v else {})
     if v["repository"] == "image":
         v.pop("vehicle", None)
-        v.update({"targets": [{n: x
-                               for n, x in t.items() if n != "ecu"}
+        v.update({"targets": [{n: x for n, x in t.items() if n != "ecu"}
                               for t in v["targets"]]} if "targets" in v else {})
     return v
 
@@ -126,16 +123,14 @@ def file_fields(v):
     for role in ("root", "targets", "snapshot", "timestamp") if v["type"] == "root" else ():
         keys = [
             "%s by %s [%s]" % (k, v["keys"][k]["method"], v["keys"][k]["public"])
-            for k in v["roles"][role]["keyids"]
-        ]
+            for k in v["roles"][role]["keyids"]]
         out += "; " + " ".join(["%d of" % v["roles"][role]["threshold"], *keys])
     for t in v.get("targets", ()):
         told = [
             t["ecu"] if director else "none", t["file"],
             str(t["length"]),
             hash_words(t["hashes"], LOWER),
-            str(t["release"]), *t["hardware"]
-        ]
+            str(t["release"]), *t["hardware"]]
         out += "; " + " ".join(told)
     for below in v.get("meta", {}).values():
         out += "; " + " ".join([str(below["version"]), *below.get("hashes", {}).values()])
@@ -180,8 +175,7 @@ def built(scheme, given):
     word, body = given.split(" ", 1)
     key, v = key_of(word), json.loads(body)
     v["signed"]["reports"] = [
-        json.loads(seal(scheme, [key], canon(r["signed"]))) for r in v["signed"]["reports"]
-    ]
+        json.loads(seal(scheme, [key], canon(r["signed"]))) for r in v["signed"]["reports"]]
     return "the same, 2 and 2 accepted" if seal(scheme, [key], canon(
         v["signed"])) == body else "another body"
 
@@ -226,42 +220,28 @@ def keys_kept(given):
 
 
 CALLS = {
-    "moment text": lambda g: time(int(g)),
-    "moment read": lambda g: str(second(g)),
-    "moment a week later": lambda g: str(int(g) + 7 * 86400),
-    "canonical": lambda g: canon(json.loads(g)),
-    "sha256": lambda g: hashlib.sha256(g.encode()).hexdigest(),
-    "sha512": lambda g: hashlib.sha512(g.encode()).hexdigest(),
-    "sha512 of a member": member_hash,
+    "moment text": lambda g: time(int(g)), "moment read": lambda g: str(second(g)),
+    "moment a week later": lambda g: str(int(g) + 7 * 86400), "canonical": lambda g: canon(
+        json.loads(g)), "sha256": lambda g: hashlib.sha256(g.encode()).hexdigest(),
+    "sha512": lambda g: hashlib.sha512(g.encode()).hexdigest(), "sha512 of a member": member_hash,
     "second hash of a report": report_hash,
     "hmac": lambda g: by_hmac(*(bytes.fromhex(json.loads(g)[name]) for name in ("key", "message"))),
     "key identifier": lambda g: "{0}, as text {0}".format(keyid(bytes.fromhex(json.loads(g)))),
-    "envelope": envelope_fields,
-    "keys kept": keys_kept,
-    "manifest": manifest,
-    "signed text of a manifest": lambda g: canon(json.loads(g)["signed"]),
-}
+    "envelope": envelope_fields, "keys kept": keys_kept, "manifest": manifest,
+    "signed text of a manifest": lambda g: canon(json.loads(g)["signed"])}
 UNDER = {
-    "key": key_fields,
-    "signature": lambda s, g: s.sign(key_of(g.split(" ", 1)[0]),
-                                     g.split(" ", 1)[1].encode()),
-    "verified": verified,
-    "accepted": is_accepted,
-    "seal": sealed,
-    "built manifest": built,
-    "root": role_file,
-    "targets": role_file,
-    "snapshot": role_file,
-    "timestamp": role_file,
-}
+    "key": key_fields, "signature": lambda s, g: s.sign(key_of(g.split(" ", 1)[0]),
+                                                        g.split(" ", 1)[1].encode()),
+    "verified": verified, "accepted": is_accepted, "seal": sealed, "built manifest": built,
+    "root": role_file, "targets": role_file, "snapshot": role_file, "timestamp": role_file}
 
 
 def in_full(text):
 
     def many(found):
         number, one = int(found.group(1)), found.group(2)
-        return ",".join(one.replace("#", str(i))
-                        for i in range(number)) if "#" in one else one * number
+        return ",".join(
+            one.replace("#", str(i)) for i in range(number)) if "#" in one else one * number
 
     return re.sub(r"<\*(\d+)\*(.*?)\*>", many, text)
 

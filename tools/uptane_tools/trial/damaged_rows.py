@@ -30,10 +30,9 @@ from itertools import repeat
 
 from uptane_tools import arguments
 from uptane_tools.measure import fleet
-from uptane_tools.oracle import reference
 from uptane_tools.operate import statements
-from uptane_tools.trial import tables
-from uptane_tools.trial import trials
+from uptane_tools.oracle import reference
+from uptane_tools.trial import tables, trials
 
 LOST = "refused 2 Store"
 MOST = 2**53 - 1
@@ -49,25 +48,18 @@ def vehicle(name, *ecus):
 
 def image(file, kind, release, **more):
     told = {
-        "file": file, "length": 3, "sha256": fleet.digest(file), "hardware": [kind], "release":
-        release, **more
-    }
+        "file": file, "length": 3, "sha256": fleet.digest(file), "hardware": [kind],
+        "release": release, **more}
     return fleet.line("add_image", **told)
 
 
 def campaign(name, vehicles, *items):
-    return fleet.line("open_campaign",
-                      campaign=name,
-                      vehicles=vehicles,
+    return fleet.line("open_campaign", campaign=name, vehicles=vehicles,
                       items=[{"hardware": k, "file": f} for k, f in items])
 
 
 def replaced(name, old, ecu):
-    return fleet.line("replace_ecu",
-                      vehicle=name,
-                      old=old,
-                      ecu=ecu,
-                      hardware="HS",
+    return fleet.line("replace_ecu", vehicle=name, old=old, ecu=ecu, hardware="HS",
                       key=fleet.key(7))
 
 
@@ -77,13 +69,11 @@ def delivered(name, counter, *ecus, key=7, **others):
     """
     reports = [{
         "ecu": ecu, "counter": others.get(ecu, counter), "key": fleet.key(7), "time": START,
-        **fleet.FACTORY
-    } for ecu in ecus]
+        **fleet.FACTORY} for ecu in ecus]
     reports[0]["sha512"] = fleet.second("factory")
     told = {
-        "vehicle": name, "primary": ecus[0], "key": fleet.key(key), "counter": counter, "reports":
-        reports
-    }
+        "vehicle": name, "primary": ecus[0], "key": fleet.key(key), "counter": counter,
+        "reports": reports}
     return fleet.line("deliver", body=fleet.body(told))
 
 
@@ -116,20 +106,20 @@ def told_before():
     conflict, V4 has no manifest.
     """
     yield fleet.line("found", **fleet.key_set(1))
-    yield from (vehicle("V1", ("P1", "HP"), ("S0", "HS"),
-                        ("E1", "HT")), vehicle("V2", ("P2", "HP"), ("S2", "HS")))
+    yield from (vehicle("V1", ("P1", "HP"), ("S0", "HS"), ("E1", "HT")),
+                vehicle("V2", ("P2", "HP"), ("S2", "HS")))
     yield from (vehicle("V3", ("P3", "HP"), ("S3", "HS")), vehicle("V4", ("P4", "HP")))
     yield image("a", "HP", 1, sha512=fleet.second("a"))
     yield image("b", "HS", 2, needs=[{"hardware": "HP", "release": 1}], conflicts=["z"])
-    yield from (image("n", "HP", 5, needs=NEEDED), image("k", "HP", 5,
-                                                         conflicts=REFUSED), image("u", "HT", 1))
+    yield from (image("n", "HP", 5, needs=NEEDED), image("k", "HP", 5, conflicts=REFUSED),
+                image("u", "HT", 1))
     yield from (campaign("everyone", "all", ("HP", "a")), campaign("mine", ["V1"], ("HS", "b")))
     yield from (campaign("second", ["V2"], ("HP", "n")), campaign("third", ["V3"], ("HP", "k")))
     yield from (campaign("over", ["V2", "V4"], ("HS", "b")), close("over"))
     yield from (delivered("V1", 1, "P1", "S0", "E1"), replaced("V1", "S0", "S1"))
     yield fleet.line("rotate", **of_two())
-    yield from (delivered("V1", 3, "P1", "S1",
-                          "E1"), delivered("V2", 1, "P2", "S2"), delivered("V3", 1, "P3", "S3"))
+    yield from (delivered("V1", 3, "P1", "S1", "E1"), delivered("V2", 1, "P2", "S2"),
+                delivered("V3", 1, "P3", "S3"))
 
 
 FILES = [(repository, name) for repository in ("director", "image")
@@ -144,46 +134,38 @@ def asked():
     """
     yield from (show("V%d" % number) for number in range(1, 6))
     yield from (fetch(*file) for file in FILES)
-    yield from (delivered("V1", 1, "P1", "S0",
-                          "E1"), delivered("V1", 3, "P1", "S1",
-                                           "E1"), delivered("V2", 1, "P2", "S2"))
-    yield from (delivered("V3", 1, "P3",
-                          "S3"), delivered("V1", 2, "P1", "S1",
-                                           "E1"), delivered("V1", 1, "P1", "S1", "E1"))
-    yield from (delivered("V5", 1,
-                          "P1"), delivered("V1", 4, "S1",
-                                           "P1"), delivered("V1", 4, "P1", "S1", "E1", key=8))
-    yield from (delivered("V1", 4, "P1",
-                          "S1"), delivered("V1", 4, "P1", "S1", "E1",
-                                           "S0"), delivered("V1", 4, "P1", "S1", "E1", S1=2))
+    yield from (delivered("V1", 1, "P1", "S0", "E1"), delivered("V1", 3, "P1", "S1", "E1"),
+                delivered("V2", 1, "P2", "S2"))
+    yield from (delivered("V3", 1, "P3", "S3"), delivered("V1", 2, "P1", "S1", "E1"),
+                delivered("V1", 1, "P1", "S1", "E1"))
+    yield from (delivered("V5", 1, "P1"), delivered("V1", 4, "S1", "P1"),
+                delivered("V1", 4, "P1", "S1", "E1", key=8))
+    yield from (delivered("V1", 4, "P1", "S1"), delivered("V1", 4, "P1", "S1", "E1", "S0"),
+                delivered("V1", 4, "P1", "S1", "E1", S1=2))
     yield delivered("V1", 4, "P1", "S1", "E1", S1=3)
-    yield from (delivered("V2", 4, "P2", "S2"), delivered("V3", 4, "P3",
-                                                          "S3"), delivered("V4", 4,
-                                                                           "P4"), show("V1"))
+    yield from (delivered("V2", 4, "P2", "S2"), delivered("V3", 4, "P3", "S3"),
+                delivered("V4", 4, "P4"), show("V1"))
     yield fleet.line("found", **fleet.key_set(1))
-    yield from (vehicle("V2", ("P2", "HP"),
-                        ("S2", "HS")), vehicle("V1", ("P1", "HP")), vehicle("V6", ("S0", "HP")))
-    yield from (vehicle("V6", ("S1", "HP")), vehicle("V6", ("P6", "HP"),
-                                                     ("S6", "HS")), delivered("V6", 1, "P6", "S6"))
+    yield from (vehicle("V2", ("P2", "HP"), ("S2", "HS")), vehicle("V1", ("P1", "HP")),
+                vehicle("V6", ("S0", "HP")))
+    yield from (vehicle("V6", ("S1", "HP")), vehicle("V6", ("P6", "HP"), ("S6", "HS")),
+                delivered("V6", 1, "P6", "S6"))
     yield from (replaced("V1", "E1", "S0"), replaced("V1", "E1", "S2"), replaced("V1", "S0", "E2"),
                 replaced("V1", "P1", "E2"))
-    yield from (replaced("V5", "E1", "E2"), replaced("V1", "E1",
-                                                     "E2"), delivered("V1", 5, "P1", "S1", "E2"))
+    yield from (replaced("V5", "E1", "E2"), replaced("V1", "E1", "E2"),
+                delivered("V1", 5, "P1", "S1", "E2"))
     yield from (image("a", "HP", 1, sha512=fleet.second("a")), image("a", "HP", 2),
                 image("c", "HT", 1), delivered("V2", 5, "P2", "S2"))
     yield from (campaign("mine", ["V1"], ("HS", "b")), campaign("mine", "all", ("HS", "b")),
                 campaign("over", ["V2", "V4"], ("HS", "b")))
     yield from (campaign("new", "all", ("HP", "none")), campaign("new", "all", ("HT", "a")),
                 campaign("new", ["V5"], ("HP", "a")))
-    yield from (campaign("new", ["V1", "V4"],
-                         ("HP", "a")), delivered("V4", 5,
-                                                 "P4"), close("none"), close("over"), close("mine"))
-    yield from (delivered("V1", 6, "P1", "S1",
-                          "E2"), fleet.line("refresh", version=3), fleet.line("refresh",
-                                                                              version=99))
-    yield from (delivered("V3", 5, "P3",
-                          "S3"), fleet.line("rotate",
-                                            **fleet.key_set(17)), delivered("V3", 6, "P3", "S3"))
+    yield from (campaign("new", ["V1", "V4"], ("HP", "a")), delivered("V4", 5, "P4"), close("none"),
+                close("over"), close("mine"))
+    yield from (delivered("V1", 6, "P1", "S1", "E2"), fleet.line("refresh", version=3),
+                fleet.line("refresh", version=99))
+    yield from (delivered("V3", 5, "P3", "S3"), fleet.line("rotate", **fleet.key_set(17)),
+                delivered("V3", 6, "P3", "S3"))
     yield from (show("V%d" % number) for number in range(1, 7))
     yield from (fetch(*file) for file in FILES)
 
@@ -192,9 +174,8 @@ def asked():
 
 NO_UTF8 = "CAST(x'ff' AS TEXT)"
 OTHER_TYPES = {
-    "INTEGER": ["NULL", "'x'", "CAST(%s AS TEXT)", "x'00'", "1.5"], "TEXT":
-    ["NULL", "7", "CAST(%s AS BLOB)"], "BLOB": ["NULL", "7", "hex(%s)"]
-}
+    "INTEGER": ["NULL", "'x'", "CAST(%s AS TEXT)", "x'00'", "1.5"], "TEXT": [
+        "NULL", "7", "CAST(%s AS BLOB)"], "BLOB": ["NULL", "7", "hex(%s)"]}
 COUNT = [str(MOST + 1), str(2**63 - 1), "-1"]
 MOMENT = [str(reference.LAST_MOMENT + 1), str(2**63 - 1), "-1"]
 NAME = ["''", "%s || ' '", "char(10) || %s", "printf('%.*c', 65, 'A')", NO_UTF8]
@@ -220,62 +201,44 @@ ITEMS = json_of([], [{"file": "a"}], [{"hardware": "HP"}], [{"file": "a b", "har
                 [{"file": "a", "hardware": ""}], 17 * [{"file": "a", "hardware": "HP"}])
 ASSIGNED = [{}, [{"ecu": "P1"}], [{"file": "a"}], [{"ecu": "P 1", "file": "a"}],
             [{"ecu": "P1", "file": "a b"}]]
-WITHHELD = [{}, "P1", {"ecu": "P1"}, {"file": "a"}, {"ecu": "P1", "file": ""},
-            {"ecu": "P1", "hardware": "H P"}]
+WITHHELD = [{}, "P1", {"ecu": "P1"}, {"file": "a"}, {"ecu": "P1", "file": ""}, {
+    "ecu": "P1", "hardware": "H P"}]
 PLAN = json_of({"assigned": []}, {"withheld": None},
                *({"assigned": assigned, "withheld": None} for assigned in ASSIGNED),
                *({"assigned": [], "withheld": withheld} for withheld in WITHHELD))
 WAYS = {
     "meta": {
         "id": ["2", "-1"], "app": TEXT + ["'other'"], "schema": COUNT + ["0", "4"], "root": COUNT,
-        "image_version": COUNT, "stamp": MOMENT
-    },
-    "role_key": {
-        "root": COUNT, "repository": WORD, "role": WORD, "place": COUNT, "secret": BYTES,
-        "threshold": COUNT + ["0"]
-    },
-    "repo_file": {"repository": WORD, "name": FILE_NAME, "body": TEXT},
-    "image": {
-        "file": FILE_NAME, "length": COUNT, "sha256": BYTES, "hardware": NAMES, "release_count":
-        COUNT, "needs": NEEDS, "conflicts": CONFLICTS
-    },
-    "campaign": {"name": NAME, "reach": REACH, "items": ITEMS, "running": ["2", "-1"]},
-    "vehicle": {"vehicle": NAME, "primary_ecu": NAME, "version": COUNT, "last_counter": COUNT},
-    "ecu": {
-        "ecu": NAME, "vehicle": NAME, "place": COUNT, "hardware": NAME, "public_key": BYTES, "file":
-        FILE_NAME, "length": COUNT, "sha256": BYTES, "counter": COUNT, "report": TEXT
-    },
+        "image_version": COUNT, "stamp": MOMENT}, "role_key": {
+            "root": COUNT, "repository": WORD, "role": WORD, "place": COUNT, "secret": BYTES,
+            "threshold": COUNT + ["0"]}, "repo_file": {
+                "repository": WORD, "name": FILE_NAME, "body": TEXT}, "image": {
+                    "file": FILE_NAME, "length": COUNT, "sha256": BYTES, "hardware": NAMES,
+                    "release_count": COUNT, "needs": NEEDS, "conflicts": CONFLICTS},
+    "campaign": {"name": NAME, "reach": REACH, "items": ITEMS, "running": ["2", "-1"]}, "vehicle": {
+        "vehicle": NAME, "primary_ecu": NAME, "version": COUNT, "last_counter": COUNT}, "ecu": {
+            "ecu": NAME, "vehicle": NAME, "place": COUNT, "hardware": NAME, "public_key": BYTES,
+            "file": FILE_NAME, "length": COUNT, "sha256": BYTES, "counter": COUNT, "report": TEXT},
     "kept": {
         "vehicle": NAME, "counter": COUNT, "version": COUNT, "moment": MOMENT, "root": COUNT,
-        "signed": TEXT, "plan_text": PLAN, "reply": TEXT
-    },
-    "retired": {"ecu": NAME, "vehicle": NAME},
-    "image_sha512": {"file": FILE_NAME, "sha512": BYTES},
-}
+        "signed": TEXT, "plan_text": PLAN, "reply": TEXT}, "retired": {
+            "ecu": NAME, "vehicle": NAME}, "image_sha512": {"file": FILE_NAME, "sha512": BYTES}}
 # the rows that are damaged, one after another
 ROWS = {
-    "meta": ["id = 1"],
-    "role_key": [
+    "meta": ["id = 1"], "role_key": [
         "root = 2 AND repository = 'director' AND role = 'snapshot'",
         "root = 2 AND repository = 'director' AND role = 'targets' AND place = 1",
         "root = 2 AND repository = 'image' AND role = 'root' AND place = 0",
-        "root = 1 AND repository = 'image' AND role = 'timestamp'"
-    ],
-    "repo_file": [
-        "repository = 'director' AND name = '1.root.json'",
-        "repository = 'image' AND name = 'targets.json'"
-    ],
-    "image": ["file = 'a'", "file = 'n'", "file = 'k'"],
-    "campaign": ["name = 'everyone'", "name = 'mine'", "name = 'over'"],
-    "vehicle": ["vehicle = 'V1'", "vehicle = 'V4'"],
-    "ecu": ["ecu = 'P1'", "ecu = 'S1'", "ecu = 'E1'", "ecu = 'P4'"],
-    "kept": [
-        "vehicle = 'V1' AND counter = 1", "vehicle = 'V1' AND counter = 3",
-        "vehicle = 'V2' AND counter = 1"
-    ],
-    "retired": ["ecu = 'S0'"],
-    "image_sha512": ["file = 'a'"],
-}
+        "root = 1 AND repository = 'image' AND role = 'timestamp'"], "repo_file": [
+            "repository = 'director' AND name = '1.root.json'",
+            "repository = 'image' AND name = 'targets.json'"],
+    "image": ["file = 'a'", "file = 'n'", "file = 'k'"], "campaign": [
+        "name = 'everyone'", "name = 'mine'", "name = 'over'"], "vehicle": [
+            "vehicle = 'V1'", "vehicle = 'V4'"], "ecu": [
+                "ecu = 'P1'", "ecu = 'S1'", "ecu = 'E1'", "ecu = 'P4'"], "kept": [
+                    "vehicle = 'V1' AND counter = 1", "vehicle = 'V1' AND counter = 3",
+                    "vehicle = 'V2' AND counter = 1"], "retired": ["ecu = 'S0'"], "image_sha512": [
+                        "file = 'a'"]}
 
 
 def damages():
@@ -285,8 +248,8 @@ def damages():
     with closing(sqlite3.connect(":memory:")) as db:
         for statement in statements.schema():
             db.execute(statement)
-        types = {(table, it[1]): it[2]
-                 for table in trials.TABLES for it in db.execute("PRAGMA table_info(%s)" % table)}
+        types = {(table, it[1]): it[2] for table in trials.TABLES
+                 for it in db.execute("PRAGMA table_info(%s)" % table)}
     for (table, column), kind in types.items():
         others = OTHER_TYPES[kind] if (table, column) != ("meta", "id") else []
         for row in ROWS[table]:
@@ -318,9 +281,9 @@ def loosened(path, to, table):
     """A copy in which a table takes any value, and the table's own statement."""
     shutil.copy(path, to)
     with closing(connected(to)) as db:
-        [(_, strict)
-         ] = db.execute("SELECT sql FROM sqlite_schema WHERE type = 'table' AND name = ?",
-                        (table, )).fetchone()
+        [(_, strict)] = db.execute(
+            "SELECT sql FROM sqlite_schema WHERE type = 'table' AND name = ?",
+            (table, )).fetchone()
         set_statement(db, table, loose(strict.decode()))
     return to, strict.decode()
 
@@ -343,30 +306,24 @@ def damaged(made, to, table, column, row, value):
 
 # What a look-up asks for: a row that was damaged there isn't found, and what it names is unknown or
 # free.
-KEYS = {
-    ("role_key", "root"): "the role's other keys sign without it",
-    ("role_key", "repository"): "the role's other keys sign without it",
-    ("role_key", "role"): "the role's other keys sign without it",
-    ("repo_file", "repository"): "the file is unknown",
-    ("repo_file", "name"): "the file is unknown",
-    ("image", "file"): "the image is unknown to a campaign",
-    ("campaign", "name"): "the campaign is unknown, and its name is free",
-    ("ecu", "ecu"): "the name is free",
-    ("retired", "ecu"): "the name is free",
-    ("kept", "counter"): "a repeat is stale, and a view has no plan",
-}
+KEYS = {("role_key", "root"): "the role's other keys sign without it",
+        ("role_key", "repository"): "the role's other keys sign without it",
+        ("role_key", "role"): "the role's other keys sign without it",
+        ("repo_file", "repository"): "the file is unknown",
+        ("repo_file", "name"): "the file is unknown",
+        ("image", "file"): "the image is unknown to a campaign",
+        ("campaign", "name"): "the campaign is unknown, and its name is free",
+        ("ecu", "ecu"): "the name is free", ("retired", "ecu"): "the name is free",
+        ("kept", "counter"): "a repeat is stale, and a view has no plan"}
 # Columns of which more is taken than the product writes.
 AS_THEY_STAND = {
-    ("meta", "image_version"): "no version is greater",
-    ("repo_file", "body"): "the text is served",
+    ("meta", "image_version"): "no version is greater", ("repo_file", "body"): "the text is served",
     ("campaign", "running"): "the campaign is passed over",
     ("vehicle", "version"): "the version is shown",
     ("ecu", "place"): "the ECUs are in another order",
     ("ecu", "public_key"): "nothing is signed by the key",
-    ("ecu", "report"): "the same report is another one",
-    ("kept", "version"): "the version is told",
-    ("kept", "signed"): "a repeat is stale",
-}
+    ("ecu", "report"): "the same report is another one", ("kept", "version"): "the version is told",
+    ("kept", "signed"): "a repeat is stale"}
 OTHERWISE = KEYS | AS_THEY_STAND
 # Of another product, or of another schema.
 OF_OTHERS = {("meta", column) for column in ("id", "app", "schema")}
@@ -376,9 +333,8 @@ def all_rows(path):
     """All rows of all tables in their order."""
     with closing(connected(path)) as db:
         return {
-            table: [list(row) for row in db.execute("SELECT * FROM %s ORDER BY rowid" % table)]
-            for table in trials.TABLES
-        }
+            table: [list(row) for row in db.execute("SELECT * FROM %s ORDER BY rowid" % table)
+                    ] for table in trials.TABLES}
 
 
 def breaks_the_schema(path):
@@ -413,9 +369,7 @@ class Story:
         self.begun = trials.printed(program, own / "own", told_before())
         self.path = tables.dumped(own / "own", own / "story")
         self.loose = {
-            table: loosened(self.path, own / ("loose " + table), table)
-            for table in trials.TABLES
-        }
+            table: loosened(self.path, own / ("loose " + table), table) for table in trials.TABLES}
         self.before = all_rows(self.path)
 
     def counted(self, table, row):

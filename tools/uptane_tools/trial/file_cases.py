@@ -28,11 +28,10 @@ from contextlib import closing
 
 from uptane_tools import arguments
 from uptane_tools.measure import fleet
-from uptane_tools.oracle import reference
-from uptane_tools.trial import schemas
 from uptane_tools.operate import statements
+from uptane_tools.oracle import reference
 from uptane_tools.rows import translated
-from uptane_tools.trial import trials
+from uptane_tools.trial import schemas, trials
 
 DAY = list(fleet.script(vehicles=5, ecus=3, rounds=3, images=6, campaigns=2, seed=4))
 SHOWS = [fleet.line("show", vehicle="v%06d" % number) for number in range(5)]
@@ -63,8 +62,8 @@ def modes(program, own):
     there = os.getcwd()
     os.chdir(own)
     try:
-        yield "a new file in the working folder", trials.printed(
-            program, "alone", DAY[:1]) == ["done"] and mode("alone") == 0o600
+        yield "a new file in the working folder", trials.printed(program, "alone", DAY[:1]) == [
+            "done"] and mode("alone") == 0o600
         yield "a URI is refused", trials.run(program, "file:named",
                                              DAY[:1]) == (3, b"", trials.UNOPENED["path"])
         yield "and no file is made of it", not [name for name in os.listdir() if "named" in name]
@@ -104,8 +103,8 @@ def modes(program, own):
     told = trials.run(program, own / (248 * "n"), DAY[:1])
     yield "a name too long for its journal is refused, and no file is left", told == (
         3, b"", trials.UNOPENED["path"]) and sorted(os.listdir(own)) == there
-    yield "the longest that fits is taken", trials.printed(program, own / (247 * "n"),
-                                                           DAY[:1]) == ["done"]
+    yield "the longest that fits is taken", trials.printed(program, own / (247 * "n"), DAY[:1]) == [
+        "done"]
 
 
 class Running:
@@ -113,9 +112,7 @@ class Running:
 
     def __init__(self, program, path):
         words = [str(program), "run", str(path)]
-        self.it = subprocess.Popen(words,
-                                   stdin=subprocess.PIPE,
-                                   stdout=subprocess.PIPE,
+        self.it = subprocess.Popen(words, stdin=subprocess.PIPE, stdout=subprocess.PIPE,
                                    stderr=subprocess.PIPE)
 
     def ask(self, line):
@@ -149,8 +146,8 @@ def seconds(program, own):
     answers += [first.ask(line) for line in DAY[4:]]
     yield "the first goes on", answers == trials.expected(":memory:", DAY)
     yield "and ends well", first.end() == (0, b"", b"")
-    yield "then the other is let in", trials.printed(program, path,
-                                                     DAY[:1]) == ["refused 9 AlreadyFounded"]
+    yield "then the other is let in", trials.printed(program, path, DAY[:1]) == [
+        "refused 9 AlreadyFounded"]
 
 
 def rests(program, own):
@@ -211,8 +208,7 @@ def operated(program, own):
     with trials.read(path) as db:
         asked = [
             query for query in re.findall(r"^    (SELECT .*?)\n\n", page, re.S | re.M)
-            if "AS attack" in query
-        ]
+            if "AS attack" in query]
         found = [(ecu, attack) for query in asked for _, ecu, attack in db.execute(query)]
     yield "and a query that tells the attacks", sorted(found) == attacks != []
 
@@ -273,20 +269,13 @@ def killed_day():
     are closed, between its manifests.
     """
     day = list(
-        fleet.script(vehicles=8,
-                     ecus=3,
-                     rounds=3,
-                     images=6,
-                     campaigns=2,
-                     seed=4,
-                     replaced=0.3,
+        fleet.script(vehicles=8, ecus=3, rounds=3, images=6, campaigns=2, seed=4, replaced=0.3,
                      second_hashes=0.7))
     sent = [at for at, line in enumerate(day) if '"do":"bench"' in line]
     for number in (2, 1):
         more = [
             fleet.line("refresh", version=100 * number),
-            fleet.line("rotate", **fleet.key_set(32 * number))
-        ]
+            fleet.line("rotate", **fleet.key_set(32 * number))]
         more.append(fleet.line("close_campaign", campaign="c%04d" % (number - 1)))
         place = sent[number * len(sent) // 3]
         day[place:place] = more
@@ -361,15 +350,14 @@ def survives(program, path, told, days):
         done = [0] if number == 0 else []
     else:
         done = [
-            at for at in (number, number + 1) if at < len(days.tables) and days.tables[at] == rows
-        ]
+            at for at in (number, number + 1) if at < len(days.tables) and days.tables[at] == rows]
     if told != days.answers[:number] or not done or (rows is not None and trials.faults(path)):
         return False
     again = trials.printed(program, path, days.day)
     if again is None or not all(map(is_kept, days.day, told, again)):
         return False
-    return (again, trials.rows(path)) in [days.repeated(at)
-                                          for at in done] and trials.faults(path) == []
+    return (again, trials.rows(path)) in [days.repeated(at) for at in done
+                                          ] and trials.faults(path) == []
 
 
 def kills(program, number):
@@ -391,8 +379,7 @@ def kills(program, number):
 
 def killed_soon(program, path, after):
     """Kills the program so many seconds after it began to open the file."""
-    with subprocess.Popen([str(program), "run", str(path)],
-                          stdin=subprocess.PIPE,
+    with subprocess.Popen([str(program), "run", str(path)], stdin=subprocess.PIPE,
                           stdout=subprocess.PIPE) as it:
         time.sleep(after)
         os.kill(it.pid, signal.SIGKILL)

@@ -65,8 +65,7 @@ def answer(status, body, ends=False):
     """The bytes of an answer, whose connection ends with it or goes on."""
     lines = [
         b"HTTP/1.1 " + status, b"Content-Type: application/json",
-        b"Content-Length: %d" % len(body)
-    ]
+        b"Content-Length: %d" % len(body)]
     return b"\r\n".join(lines + [b"Connection: close"] * ends) + b"\r\n\r\n" + body
 
 
@@ -107,8 +106,7 @@ def served(program, path, count, variables=None):
         *(program if isinstance(program, list) else [str(program)]), "serve",
         str(path),
         str(port),
-        str(count)
-    ]
+        str(count)]
     told = os.environ | (variables or {})
     running = subprocess.Popen(words, stdout=subprocess.PIPE, stderr=subprocess.PIPE, env=told)
     try:
@@ -182,8 +180,8 @@ def library(program, path):
         client.close()
         root = (200, root_text())
         return answers == [
-            root, (200, REPLY), (400, b'{"error":5,"text":"NotJson"}'), (404, b""), root
-        ] and ended(running)
+            root, (200, REPLY), (400, b'{"error":5,"text":"NotJson"}'),
+            (404, b""), root] and ended(running)
 
 
 def before_founding(program, _):
@@ -334,12 +332,11 @@ def listed_as_listening(port):
     """The addresses at which the kernel lists this port as listening, as it writes them."""
     found = []
     for file in map(Path, ("/proc/net/tcp", "/proc/net/tcp6")):
-        rows = [line.split() for line in file.read_text(
-            encoding="ascii").splitlines()[1:]] if file.exists() else []
+        rows = [line.split() for line in file.read_text(encoding="ascii").splitlines()[1:]
+                ] if file.exists() else []
         found += [
             row[1].split(":")[0] for row in rows
-            if row[3] == "0A" and int(row[1].split(":")[1], 16) == port
-        ]
+            if row[3] == "0A" and int(row[1].split(":")[1], 16) == port]
     return found
 
 
@@ -351,8 +348,8 @@ def loopback_alone(program, path):
         well = not [it for it in other_addresses() if accepts(it, running.port)]
         if Path("/proc/net/tcp").exists():
             # (an address of the kernel's list is a number in the machine's own order of bytes)
-            well = well and listed_as_listening(
-                running.port) == ["%08X" % struct.unpack("=I", socket.inet_aton("127.0.0.1"))]
+            well = well and listed_as_listening(running.port) == [
+                "%08X" % struct.unpack("=I", socket.inet_aton("127.0.0.1"))]
         return well and told(running, NO_FILE) == OPEN and ended(running)
 
 
@@ -390,8 +387,7 @@ def clock_once(program, path):
     with trials.read(path) as db:
         kept = [
             row[0]
-            for row in db.execute("SELECT moment FROM kept WHERE version > 1 ORDER BY version")
-        ]
+            for row in db.execute("SELECT moment FROM kept WHERE version > 1 ORDER BY version")]
     return well and kept == moments and begun <= moments[0] == moments[1] < moments[2] <= time.time(
     )
 
@@ -406,8 +402,7 @@ def early_clock(program, path, library):
         well = ended(running)
     with trials.read(path) as db:
         return well and [moment] == [
-            row[0] for row in db.execute("SELECT moment FROM kept WHERE version > 1")
-        ] == [0]
+            row[0] for row in db.execute("SELECT moment FROM kept WHERE version > 1")] == [0]
 
 
 def once_whole(program, path):
@@ -415,13 +410,11 @@ def once_whole(program, path):
     half, silence = len(MANIFEST) // 2, 1
     with served(program, path, 1) as running, connected(running, SILENCE - 2) as client:
         client.sendall(NO_FILE + POST % len(MANIFEST) + MANIFEST[:half])
-        well = client.recv(
-            len(OPEN),
-            socket.MSG_WAITALL) == OPEN and not select.select([client], [], [], silence)[0]
+        well = client.recv(len(OPEN), socket.MSG_WAITALL) == OPEN and not select.select(
+            [client], [], [], silence)[0]
         client.sendall(MANIFEST[half:] + NO_FILE[:1])
-        well = well and client.recv(
-            len(KEPT),
-            socket.MSG_WAITALL) == KEPT and not select.select([client], [], [], silence)[0]
+        well = well and client.recv(len(KEPT), socket.MSG_WAITALL) == KEPT and not select.select(
+            [client], [], [], silence)[0]
         client.sendall(NO_FILE[1:])
         return well and client.recv(len(OPEN), socket.MSG_WAITALL) == OPEN
 
@@ -521,8 +514,7 @@ def many_images(program, path):
     for number in range(60):
         told = {
             "file": "%03d.bin" % number, "length": 1, "sha256": fleet.digest(str(number)),
-            "hardware": kinds, "release": number
-        }
+            "hardware": kinds, "release": number}
         lines.append(fleet.line("add_image", **told))
     assert trials.printed(program, path, lines, 600) == len(lines) * ["done"]
     return path
@@ -543,8 +535,8 @@ def holding(program, own, whole):
     called for it.
     """
     large = many_images(program, own / "large")
-    tried = [] if whole else [(first, kind, SILENCE - 2, WAITS[kind] * SILENCE + SLACK, None)
-                              for first, kind in SILENT]
+    tried = [] if whole else [
+        (first, kind, SILENCE - 2, WAITS[kind] * SILENCE + SLACK, None) for first, kind in SILENT]
     tried += [] if whole else [(goes_on, None, GOING_ON - 2, GOING_ON + SLACK, None)]
     if whole:
         tried += [(first, kind, LEAST[kind], WHOLE + SILENCE + SLACK, None) for first, kind in SLOW]
@@ -591,9 +583,7 @@ def small_primary(program, path):
 
 def by_curl(words):
     """What this `curl -i` shows."""
-    ran = subprocess.run([*words, "-s", "-m", str(PATIENCE)],
-                         capture_output=True,
-                         check=False,
+    ran = subprocess.run([*words, "-s", "-m", str(PATIENCE)], capture_output=True, check=False,
                          cwd=PRIMARY)
     return ran.stdout.decode("ascii").replace("\r\n", "\n")
 
@@ -636,8 +626,7 @@ def exchanges(program, path):
 CLIENTS = [
     library, before_founding, half_closed, silent, held_open, unread, behind_the_last, half_a_head,
     half_a_body, reset, gone, hundredth, byte_by_byte, no_listener, second_program, small_primary,
-    loopback_alone, clock_once, once_whole
-]
+    loopback_alone, clock_once, once_whole]
 
 
 def goes_well(case, *given):

@@ -15,30 +15,22 @@ from contextlib import closing
 from datetime import datetime, timezone
 
 from uptane_tools import arguments
-from uptane_tools.operate import check_script
 from uptane_tools.measure import fleet
-from uptane_tools.operate import fleet_tables
-from uptane_tools.trial import http_cases
-from uptane_tools.operate import page_sums
+from uptane_tools.operate import check_script, fleet_tables, page_sums, statements
 from uptane_tools.oracle import reference
-from uptane_tools.trial import schemas
-from uptane_tools.operate import statements
 from uptane_tools.rows import translated
-from uptane_tools.trial import trials
+from uptane_tools.trial import http_cases, schemas, trials
 
 NOW = fleet.START
 ROLES = [
     "%s-%s" % (repository, role) for repository in reference.REPOSITORIES
-    for role in reference.ROLES
-]
+    for role in reference.ROLES]
 
 
 def made(*words, given=b""):
     """The status, the lines and the message of the maker of lines."""
-    ran = subprocess.run([sys.executable, trials.RUN, "make_lines", *map(str, words)],
-                         input=given,
-                         capture_output=True,
-                         check=False)
+    ran = subprocess.run([sys.executable, trials.RUN, "make_lines", *map(str, words)], input=given,
+                         capture_output=True, check=False)
     return ran.returncode, ran.stdout.decode("ascii").splitlines(), ran.stderr.decode("ascii")
 
 
@@ -61,13 +53,10 @@ TABLE = ("vehicle,ecu,hardware,primary,key\n"
          "V1,P1,HP,yes,%s\nV1,S1,HS,,%s\nV2,P2,HP,yes,%s\n") % tuple(map(drawn, (1, 2, 3)))
 WRONG_TABLES = {
     "an ECU twice": TABLE.replace("P2", "P1"),
-    "no Primary": TABLE.replace("P2,HP,yes", "P2,HP,"),
-    "two Primaries": TABLE.replace("S1,HS,", "S1,HS,yes"),
-    "rows apart": TABLE + "V1,S9,HS,,%s\n" % drawn(9),
-    "a short key": TABLE.replace(drawn(2), "02"),
-    "a name past its limit": TABLE.replace("V2", 65 * "V"),
-    "other columns": TABLE.replace("primary", "first"),
-}
+    "no Primary": TABLE.replace("P2,HP,yes", "P2,HP,"), "two Primaries": TABLE.replace(
+        "S1,HS,", "S1,HS,yes"), "rows apart": TABLE + "V1,S9,HS,,%s\n" % drawn(9),
+    "a short key": TABLE.replace(drawn(2), "02"), "a name past its limit": TABLE.replace(
+        "V2", 65 * "V"), "other columns": TABLE.replace("primary", "first")}
 
 
 def makers(program, own):
@@ -82,8 +71,8 @@ def makers(program, own):
               "a/2.bin", "--needs", "HP=1", "--conflicts", "old.bin"), ("rotate", second)]
     told = [made(*words, *at) for words in asked]
     lines = [line for _, out, _ in told for line in out]
-    yield "lines are made", [(status, err)
-                             for status, _, err in told] == 5 * [(0, "")] and len(lines) == 6
+    yield "lines are made", [(status, err) for status, _, err in told] == 5 * [
+        (0, "")] and len(lines) == 6
     yield "the checker finds nothing in them", list(
         check_script.amiss("\n".join(lines).encode(), NOW)) == []
     yield "the program takes them", trials.printed(program, path, lines) == 6 * ["done"]
@@ -106,8 +95,8 @@ def makers(program, own):
         by_url = made("refresh", "http://127.0.0.1:%d" % running.port, *at)
     yield from replaced(program, path, own, at)
     yield "a refresh by either way", by_file == by_url and json.loads(by_file[1][0])["version"] == 5
-    yield "the program takes it once", trials.printed(
-        program, path, 2 * by_file[1]) == ["done", "refused 28 VersionNotGreater"]
+    yield "the program takes it once", trials.printed(program, path, 2 * by_file[1]) == [
+        "done", "refused 28 VersionNotGreater"]
     yield from refusals(own, first, at)
     yield from openssl_keys(own, at)
     yield from known_keys(path, own, at)
@@ -121,15 +110,14 @@ def replaced(program, path, own, at):
     status, lines, err = made(*words)
     yield "an ECU is replaced", (status, err, len(lines)) == (0, "", 1) and list(
         check_script.amiss(lines[0].encode(), NOW)) == []
-    yield "the program replaces it once", trials.printed(
-        program, path, 2 * lines) == ["done", "refused 14 UnknownEcu S1"]
+    yield "the program replaces it once", trials.printed(program, path, 2 * lines) == [
+        "done", "refused 14 UnknownEcu S1"]
     with trials.read(path) as db:
         now = db.execute(
             "SELECT ecu, place, hardware FROM ecu WHERE vehicle = 'V1' ORDER BY place").fetchall()
         gone = db.execute("SELECT ecu, vehicle FROM retired").fetchall()
     yield "the new one stands in its place", [row[0::2] for row in now] == [
-        ("P1", "HP"), ("S3", "HS")
-    ] and gone == [("S1", "V1")]
+        ("P1", "HP"), ("S3", "HS")] and gone == [("S1", "V1")]
     words[3] = "S1"
     yield "not by itself", made(*words)[:2] == (1, [])
 
@@ -239,22 +227,18 @@ def rollouts(program, own):
     def make(*words):
         return subprocess.run(
             [sys.executable, trials.RUN, "rollout", *map(str, words), "--at",
-             str(NOW)],
-            capture_output=True,
-            text=True,
-            check=False)
+             str(NOW)], capture_output=True, text=True, check=False)
 
     asked = [
         "brakes", listed, "--item", "HP=hp-2.bin", "--steps", "1", "12.5", "99.5", "100", "--to",
-        folder
-    ]
+        folder]
     ran = make(*asked)
-    scripts = [(folder / ("brakes-%d.script" % it)).read_text("ascii").splitlines()
-               for it in (1, 2, 3, 4)]
+    scripts = [
+        (folder / ("brakes-%d.script" % it)).read_text("ascii").splitlines() for it in (1, 2, 3, 4)]
     *reached, last = [json.loads(it[0])["vehicles"] for it in scripts]
     yield "so many vehicles a step, and all at the end", ran.returncode == 0 and [
-        len(it) for it in reached
-    ] == [2, 23, 174] and len(set(sum(reached, []))) == 199 and last == "all"
+        len(it) for it in reached] == [2, 23, 174] and len(set(sum(reached,
+                                                                   []))) == 199 and last == "all"
     again = make("other", listed, "--item", "HP=hp-2.bin", "--steps", "1", "12.5", "100", "--seed",
                  "brakes", "--to", folder)
     same = json.loads((folder / "other-1.script").read_text("ascii"))["vehicles"]
@@ -262,9 +246,7 @@ def rollouts(program, own):
         0] and reached[0] != names[:2]
     rows = (folder / "brakes-steps.csv").read_text("ascii").splitlines()
     yield "a table says which step reaches a vehicle", len(rows) == 201 and {
-        row.split(",")[0]
-        for row in rows if row.endswith(",1")
-    } == set(reached[0])
+        row.split(",")[0] for row in rows if row.endswith(",1")} == set(reached[0])
     yield "the checker finds nothing in them", all(
         list(check_script.amiss("\n".join(it).encode(), NOW)) == [] for it in scripts)
 
@@ -273,15 +255,10 @@ def rollouts(program, own):
 
     lines = [
         fleet.line("found", **fleet.key_set(1)),
-        *(fleet.line("add_vehicle", vehicle=it, primary=it + "-p", ecus=ecu(it)) for it in names)
-    ]
+        *(fleet.line("add_vehicle", vehicle=it, primary=it + "-p", ecus=ecu(it)) for it in names)]
     lines.append(
-        fleet.line("add_image",
-                   file="hp-2.bin",
-                   length=3,
-                   sha256=fleet.digest("2"),
-                   hardware=["HP"],
-                   release=2))
+        fleet.line("add_image", file="hp-2.bin", length=3, sha256=fleet.digest("2"), hardware=[
+            "HP"], release=2))
     stop = (folder / "brakes-stop.script").read_text("ascii").splitlines()
     told = trials.printed(program, path, [*lines, *scripts[0], *scripts[1]])
     yield "the program takes them", set(told) == {"done"}
@@ -290,8 +267,7 @@ def rollouts(program, own):
         "brakes</code>.*>running<.*0 of 25 ECUs.*1: 0 of 2 ECUs<br>2: 0 of 23 ECUs<",
         page) is not None
     yield "one script stops what is open", trials.printed(program, path, stop) == [
-        "done", "done", "refused 25 UnknownCampaign", "refused 25 UnknownCampaign"
-    ]
+        "done", "done", "refused 25 UnknownCampaign", "refused 25 UnknownCampaign"]
     yield "and the page shows that", ">stopped<" in page_of(path).split("<h2>Rollouts</h2>")[1]
     by_copy = make("late", path, "--item", "HP=hp-2.bin", "--seed", "brakes", "--to", own / "late")
     yield "a copy of the file has the vehicles", by_copy.returncode == 0 and json.loads(
@@ -299,16 +275,14 @@ def rollouts(program, own):
     (own / "many").write_text("".join("V%05d\n" % it for it in range(5001)), encoding="ascii")
     make("many", own / "many", "--item", "HP=hp-2.bin", "--steps", "50", "--to", folder)
     parts = [
-        json.loads(line) for line in (folder / "many-1.script").read_text("ascii").splitlines()
-    ]
-    yield "a campaign names at most 1,000", [(it["campaign"], len(it["vehicles"]))
-                                             for it in parts] == [("many.1aa", 1000),
-                                                                  ("many.1ab", 1000),
-                                                                  ("many.1ac", 501)]
+        json.loads(line) for line in (folder / "many-1.script").read_text("ascii").splitlines()]
+    yield "a campaign names at most 1,000", [
+        (it["campaign"], len(it["vehicles"])) for it in parts] == [("many.1aa", 1000),
+                                                                   ("many.1ab", 1000),
+                                                                   ("many.1ac", 501)]
     wrong = [
         make("x", listed, "--item", "HP=h", "--steps", *steps, "--to", folder).returncode
-        for steps in (["0", "1"], ["5", "5"], ["50", "101"])
-    ]
+        for steps in (["0", "1"], ["5", "5"], ["50", "101"])]
     yield "steps that are none", wrong == [1, 1, 1]
 
 
@@ -323,9 +297,8 @@ KEYS = fleet.key_set(1)
 AMISS = [
     (fleet.line("add_image", NOW, **IMAGE,
                 need=[]), "look: need: no such member; it is ignored; is it needs?"),
-    (fleet.line("add_image", NOW, **IMAGE,
-                needs=[{"hardware": "HP", "release": 1, "file":
-                        "x"}]), "look: file: no such member, in needs[0]; it is ignored"),
+    (fleet.line("add_image", NOW, **IMAGE, needs=[{"hardware": "HP", "release": 1, "file": "x"}]),
+     "look: file: no such member, in needs[0]; it is ignored"),
     (fleet.line("add_image", NOW, **IMAGE | {"file": 129 * "a"}),
      "fault: file: 1 to 128 bytes of A-Z a-z 0-9 . _ - /"),
     (fleet.line("add_image", NOW, **IMAGE,
@@ -345,12 +318,7 @@ AMISS = [
                 key=fleet.key(1)), "fault: ecu: another identifier than the old ECU's"),
     (fleet.line("replace_ecu", NOW, vehicle="v", ecu="a", hardware="HP",
                 key=fleet.key(1)), "fault: old: it is missing"),
-    (fleet.line("replace_ecu",
-                NOW,
-                vehicle="v",
-                old="b",
-                ecu="a",
-                hardware=["HP"],
+    (fleet.line("replace_ecu", NOW, vehicle="v", old="b", ecu="a", hardware=["HP"],
                 key=fleet.key(1)), "fault: hardware: " + check_script.A_NAME),
     (fleet.line("show", NOW,
                 vehicle=65 * "v"), "fault: vehicle: 1 to 64 bytes of A-Z a-z 0-9 . _ -"),
@@ -372,17 +340,11 @@ AMISS = [
      "final: file: it leaves the folder in which a Primary puts images"),
     (fleet.line("add_image", NOW, **IMAGE | {"file": "a//b"}),
      "look: file: a part of its path is empty, or is a point"),
-    (fleet.line("bench",
-                NOW,
-                vehicle="v",
-                primary="a",
-                key=fleet.key(1),
-                counter=2**53 - 1,
+    (fleet.line("bench", NOW, vehicle="v", primary="a", key=fleet.key(1), counter=2**53 - 1,
                 reports=[]),
      "final: counter: none is above it: the vehicle's next manifests would be stale for good"),
     ("nope", "fault: line: no JSON"),
-    (2_097_153 * " ", "fault: line: longer than 2097152 bytes: it ends the run"),
-]
+    (2_097_153 * " ", "fault: line: longer than 2097152 bytes: it ends the run")]
 
 
 def of_the_line(text, answer):
@@ -394,28 +356,24 @@ def of_the_line(text, answer):
 
 def checker():
     for text, wanted in AMISS:
-        yield "the checker: " + wanted, list(check_script.amiss(text.encode(),
-                                                                NOW)) == ["line 1: " + wanted]
+        yield "the checker: " + wanted, list(check_script.amiss(text.encode(), NOW)) == [
+            "line 1: " + wanted]
     last = fleet.line("refresh", NOW, version=2**53 - 1) + "\n"
     ran = [
         subprocess.run([sys.executable, trials.RUN, "check_script", "--now",
-                        str(NOW), *words],
-                       input=last.encode(),
-                       capture_output=True,
-                       check=False) for words in ([], ["--final"])
-    ]
+                        str(NOW), *words], input=last.encode(), capture_output=True, check=False)
+        for words in ([], ["--final"])]
     yield "what can't be undone is refused, or only told where that is asked", [
-        (it.returncode, it.stdout.split(b": ")[1]) for it in ran
-    ] == [(1, b"final"), (1, b"look")]
+        (it.returncode, it.stdout.split(b": ")[1]) for it in ran] == [(1, b"final"), (1, b"look")]
     for name in ("/a.bin", "a.bin/..", "..", "x/../a.bin", "a..b.bin", "..a.bin"):
         leaves = check_script.checked(fleet.line("add_image", NOW, **IMAGE | {"file": name}), None,
                                       NOW, 1e12)[0]
         yield "the filename " + name, bool(leaves) == (name[0] == "/" or ".." in name.split("/"))
     backwards = [fleet.line("show", at, vehicle="v") for at in (NOW, NOW - 1)]
-    yield "moments that go back", list(check_script.amiss(
-        "\n".join(backwards).encode(), NOW)) == ["line 2: look: at: earlier than in a line before"]
-    yield "lines past the limit", list(check_script.amiss(
-        100_001 * b"\n", NOW)) == ["line 100001: fault: line: a script has at most 100000 lines"]
+    yield "moments that go back", list(check_script.amiss("\n".join(backwards).encode(), NOW)) == [
+        "line 2: look: at: earlier than in a line before"]
+    yield "lines past the limit", list(check_script.amiss(100_001 * b"\n", NOW)) == [
+        "line 100001: fault: line: a script has at most 100000 lines"]
     # random lines, some of them damaged: what the rules refuse for the line's sake is a fault, and
     # nothing else is
     faults = missed = 0
@@ -435,47 +393,45 @@ def checker():
     yield "%d lines that the rules refuse for their own sake" % faults, faults > 40 and not missed
     for script in sorted(trials.TOP.glob("examples/*/script")):
         found = check_script.amiss(script.read_bytes(), NOW, 1e12)
-        yield "the checker on %s" % script.parent.name, [it for it in found
-                                                         if "earlier" not in it] == []
+        yield "the checker on %s" % script.parent.name, [
+            it for it in found if "earlier" not in it] == []
 
 
 # ---- the checker of files
 
 # what someone does to a file of the latest schema, and what the checker has to say of it
 CHANGED = [
-    ("an index", ["CREATE INDEX by_hardware ON ecu (hardware)"],
-     ["index by_hardware on ecu: it is too much"]),
-    ("an index of one rule more", ["CREATE UNIQUE INDEX Once ON image (sha256)"],
-     ["index once on image: it is too much"]),
-    ("a trigger", ["CREATE TRIGGER told AFTER INSERT ON kept BEGIN DELETE FROM campaign; END"],
-     ["trigger told on kept: it is too much"]),
+    ("an index", ["CREATE INDEX by_hardware ON ecu (hardware)"], [
+        "index by_hardware on ecu: it is too much"]),
+    ("an index of one rule more", ["CREATE UNIQUE INDEX Once ON image (sha256)"], [
+        "index once on image: it is too much"]),
+    ("a trigger", ["CREATE TRIGGER told AFTER INSERT ON kept BEGIN DELETE FROM campaign; END"], [
+        "trigger told on kept: it is too much"]),
     ("a view", ["CREATE VIEW seen AS SELECT vehicle FROM vehicle"], ["view seen: it is too much"]),
     ("a dropped table", ["DROP TABLE image_sha512"], ["table image_sha512: it is missing"]),
     ("another table", ["CREATE TABLE notes (note TEXT)"], ["table notes: it is too much"]),
-    ("an added column", ["ALTER TABLE ecu ADD COLUMN note TEXT"],
-     ["table ecu: the column note is too much"]),
-    ("a column of another name", ["ALTER TABLE meta RENAME COLUMN stamp TO moment"],
-     ["table meta: the column stamp is missing", "table meta: the column moment is too much"]),
+    ("an added column", ["ALTER TABLE ecu ADD COLUMN note TEXT"], [
+        "table ecu: the column note is too much"]),
+    ("a column of another name", ["ALTER TABLE meta RENAME COLUMN stamp TO moment"], [
+        "table meta: the column stamp is missing", "table meta: the column moment is too much"]),
     ("a column of another name, and back", [
         "ALTER TABLE meta RENAME COLUMN stamp TO moment",
-        "ALTER TABLE meta RENAME COLUMN moment TO stamp"
-    ], []),
+        "ALTER TABLE meta RENAME COLUMN moment TO stamp"], []),
     ("statistics", ["ANALYZE"], ["table sqlite_stat1: it is too much"]),
-    ("a number set back", ["UPDATE meta SET schema = 1"],
-     ["table image_sha512: it is too much", "table retired: it is too much"]),
-    ("a number set forward", ["UPDATE meta SET schema = 4"],
-     ["it is no database of this product: its schema is 4, and not one of 1, 2, 3"]),
-    ("another product", ["UPDATE meta SET app = 'desk'"],
-     ["it is no database of this product: meta names 'desk' and not uptane_desk"]),
+    ("a number set back", ["UPDATE meta SET schema = 1"], [
+        "table image_sha512: it is too much", "table retired: it is too much"]),
+    ("a number set forward", ["UPDATE meta SET schema = 4"], [
+        "it is no database of this product: its schema is 4, and not one of 1, 2, 3"]),
+    ("another product", ["UPDATE meta SET app = 'desk'"], [
+        "it is no database of this product: meta names 'desk' and not uptane_desk"]),
     ("an empty meta", ["DELETE FROM meta"], ["meta: it has 0 rows and not one"]),
-    ("two rows in meta",
-     ["INSERT INTO meta SELECT 2, app, schema, root, image_version, stamp FROM meta"
-      ], ["meta: it has 2 rows and not one"]),
-    ("no meta", ["DROP TABLE meta", "DROP TABLE retired",
-                 "DROP TABLE image_sha512"], ["table meta: it is missing"]),
-    ("no tables", ["DROP TABLE " + table for table in reversed(trials.TABLES)],
-     ["it is no database of this product: it has no tables"]),
-]
+    ("two rows in meta", [
+        "INSERT INTO meta SELECT 2, app, schema, root, image_version, stamp FROM meta"], [
+            "meta: it has 2 rows and not one"]),
+    ("no meta", ["DROP TABLE meta", "DROP TABLE retired", "DROP TABLE image_sha512"], [
+        "table meta: it is missing"]),
+    ("no tables", ["DROP TABLE " + table for table in reversed(trials.TABLES)], [
+        "it is no database of this product: it has no tables"])]
 # the same columns, but another rule for one of them, another key or reference, or no strictness
 MADE_ANEW = [
     ("a rule of a column", "running INTEGER NOT NULL",
@@ -490,8 +446,7 @@ MADE_ANEW = [
     ("one key more", "running INTEGER NOT NULL", "running INTEGER NOT NULL, UNIQUE (reach)",
      "table campaign: the key reach is too much"),
     ("a reference", "items TEXT NOT NULL", "items TEXT NOT NULL REFERENCES image (file)",
-     "table campaign: the reference items to image is too much"),
-]
+     "table campaign: the reference items to image is too much")]
 
 
 def check(path):
@@ -499,8 +454,7 @@ def check(path):
     error, or changes what is there.
     """
     before = {it.name: it.read_bytes() for it in path.parent.iterdir() if it.is_file()}
-    ran = subprocess.run([sys.executable, trials.RUN, "check_file", path],
-                         capture_output=True,
+    ran = subprocess.run([sys.executable, trials.RUN, "check_file", path], capture_output=True,
                          check=False)
     after = {it.name: it.read_bytes() for it in path.parent.iterdir() if it.is_file()}
     return (ran.returncode,
@@ -556,8 +510,7 @@ def checked_files(program, own):
         yield "%s is none" % name, found is not None and found[0] == 1 and found[1][0].startswith(
             "it is no database of this product: ")
     ran = subprocess.run([sys.executable, trials.RUN, "check_file", own / "none"],
-                         capture_output=True,
-                         check=False)
+                         capture_output=True, check=False)
     yield "no file", (ran.returncode, ran.stdout) == (
         2, b"") and ran.stderr.count(b"\n") == 1 and not (own / "none").exists()
 
@@ -572,24 +525,17 @@ TAKEN = [
     ("a column of another name", ["ALTER TABLE meta RENAME COLUMN stamp TO moment"], (1, 2, 3, 4)),
     ("a dropped table", ["DROP TABLE kept"], (0, 1)),
     ("another dropped table", ["DROP TABLE retired"], (3, 4)),
-    ("a trigger on a table",
-     ["CREATE TRIGGER told AFTER INSERT ON campaign BEGIN DELETE FROM role_key; END"], (1, )),
-]
-REFUSED = [
-    ("a trigger on a table that refers to another",
-     ["CREATE TRIGGER told AFTER INSERT ON kept BEGIN DELETE FROM campaign; END"]),
-    ("an index of some rows", ["CREATE INDEX some ON vehicle (version) WHERE version > 1"]),
-]
+    ("a trigger on a table", [
+        "CREATE TRIGGER told AFTER INSERT ON campaign BEGIN DELETE FROM role_key; END"], (1, ))]
+REFUSED = [("a trigger on a table that refers to another", [
+    "CREATE TRIGGER told AFTER INSERT ON kept BEGIN DELETE FROM campaign; END"]),
+           ("an index of some rows", ["CREATE INDEX some ON vehicle (version) WHERE version > 1"])]
 ASKED = [
-    fleet.line("show", vehicle="V1"),
-    http_cases.FIRST_PATH[-1],
+    fleet.line("show", vehicle="V1"), http_cases.FIRST_PATH[-1],
     fleet.line("refresh", version=50),
-    fleet.line("add_vehicle",
-               vehicle="V2",
-               primary="P2",
+    fleet.line("add_vehicle", vehicle="V2", primary="P2",
                ecus=[{"ecu": it, "hardware": "HP", "key": fleet.key(2)} for it in ("P2", "S2")]),
-    fleet.line("replace_ecu", vehicle="V2", old="S2", ecu="S3", hardware="HP", key=fleet.key(3)),
-]
+    fleet.line("replace_ecu", vehicle="V2", old="S2", ecu="S3", hardware="HP", key=fleet.key(3))]
 
 
 def taken_changed(program, own):
@@ -633,8 +579,7 @@ def begin(lines, wanted):
 
 def check_beside(path):
     """The same of a file that a connection has open, whose index of the log may change."""
-    ran = subprocess.run([sys.executable, trials.RUN, "check_file", path],
-                         capture_output=True,
+    ran = subprocess.run([sys.executable, trials.RUN, "check_file", path], capture_output=True,
                          check=False)
     return ran.returncode, ran.stdout.decode("ascii").splitlines()
 
@@ -656,8 +601,7 @@ def unwrapped(page):
     lets = set(re.findall(r"\.([\w-]+) { [^}]*white-space: normal", narrow))
     texts = [
         (words[0], html.unescape(re.sub("<[^>]*>", "", words[1])))
-        for words in re.findall(r'<(?:div|span|a|td|small) class="([\w -]+)"[^>]*>(.*?)</', page)
-    ]
+        for words in re.findall(r'<(?:div|span|a|td|small) class="([\w -]+)"[^>]*>(.*?)</', page)]
     longest = max(len(text) for names, text in texts if "of" in names.split())
     return "of" in kept & lets and longest > 20 and all(
         len(text) < 49 for names, text in texts if set(names.split()) & (kept - lets))
@@ -668,14 +612,11 @@ def pages(program, own):
     lines = list(fleet.script(vehicles=10, ecus=4, rounds=3, second_hashes=0.7, replaced=0.2))
     lines += unlike(lines)
     lines.append(
-        fleet.line("add_vehicle",
-                   vehicle="new",
-                   primary="n",
-                   ecus=[{"ecu": "n", "hardware": "HP", "key": fleet.key(9)}]))
+        fleet.line("add_vehicle", vehicle="new", primary="n", ecus=[{
+            "ecu": "n", "hardware": "HP", "key": fleet.key(9)}]))
     attack = {
         "ecu": "n", "key": fleet.key(9), "counter": 1, "time": NOW, "attack": "</script><b>&",
-        **fleet.FACTORY
-    }
+        **fleet.FACTORY}
     yield "a fleet", trials.printed(program, path, lines) is not None
     made = page_of(path)
     packed = data_of(made)
@@ -688,8 +629,7 @@ def pages(program, own):
         left = dict(db.execute(query("use/TABLES.md", "SELECT campaign.name, count(ecu.ecu)")))
         secrets = [
             row[0].hex()
-            for row in db.execute("SELECT secret FROM role_key UNION SELECT public_key FROM ecu")
-        ]
+            for row in db.execute("SELECT secret FROM role_key UNION SELECT public_key FROM ecu")]
     with fleet_tables.opened(path) as db:
         schema = fleet_tables.meta_of(db)["schema"]
         images = fleet_tables.registered(db, schema)
@@ -699,36 +639,26 @@ def pages(program, own):
         its = {
             it["name"]:
             vehicles if it["all"] else [one for one in vehicles if one["vehicle"] in it["reached"]]
-            for it in campaigns
-        }
+            for it in campaigns}
         began = {
-            it["name"]: fleet_tables.taken_up(db, it, images, its[it["name"]])
-            for it in campaigns
-        }
+            it["name"]: fleet_tables.taken_up(db, it, images, its[it["name"]]) for it in campaigns}
         gone = [(it["vehicle"], it["ecu"], it["version"])
                 for it in fleet_tables.replaced_of(db, schema)]
     yield "campaigns are as far as the query says", far == left and len(far) == 5
     places = {it[0]: at for at, it in enumerate(packed["vehicles"])}
     listed = {
-        name.removeprefix("left "): its
-        for name, its in packed["sets"].items() if name.startswith("left ")
-    }
+        name.removeprefix("left "): its for name, its in packed["sets"].items()
+        if name.startswith("left ")}
     yield "each campaign leads to the vehicles that are left", listed == {
-        it["name"]: [places[name] for name in it["left"]]
-        for it in campaigns if it["left"]
+        it["name"]: [places[name] for name in it["left"]] for it in campaigns if it["left"]
     } and listed
     told, offers = histories(path), {
-        it["name"]: {one["hardware"]: one["file"]
-                     for one in it["items"]}
-        for it in campaigns
-    }
+        it["name"]: {one["hardware"]: one["file"] for one in it["items"]} for it in campaigns}
     first = {
         it["name"]: sorted(
             begun(told[ecu["ecu"]], ecu["file"])
             for _, ecu, has in fleet_tables.moves_of(it, images, its[it["name"]])
-            if has and ecu["file"] == offers[it["name"]][ecu["hardware"]])
-        for it in campaigns
-    }
+            if has and ecu["file"] == offers[it["name"]][ecu["hardware"]]) for it in campaigns}
     yield "ECUs began to report an image when their manifests first had it", began == first and len(
         set(sum(began.values(), []))) > 1
     with trials.read(path) as db:
@@ -736,16 +666,15 @@ def pages(program, own):
             query("use/TABLES.md", "SELECT retired.vehicle, retired.ecu, max(version)")).fetchall()
     yield "replaced ECUs are those of the query", sorted(gone) == sorted(
         wanted) and len(gone) > 1 and all(it[1] in made for it in gone)
-    yield "each table can be saved", re.findall('data-csv="([a-z]+)"',
-                                                made)[:3] == ["campaigns", "files", "releases"]
+    yield "each table can be saved", re.findall('data-csv="([a-z]+)"', made)[:3] == [
+        "campaigns", "files", "releases"]
     yield "the page is as of the newest manifest", "as of %s UTC" % date_of(
         max(it["seen"] or 0 for it in vehicles)) in made
     yield "no secret is on the page", secrets and not any(secret in made for secret in secrets)
     yield "at 420 pixels each text that can't wrap fits", unwrapped(made)
     trials.printed(program, path, [
-        fleet.line(
-            "bench", vehicle="new", primary="n", key=fleet.key(9), counter=1, reports=[attack])
-    ])
+        fleet.line("bench", vehicle="new", primary="n", key=fleet.key(9), counter=1, reports=[
+            attack])])
     made = page_of(path)
     yield "an attack's note is text", "<b>&" not in made and data_of(
         made)["vehicles"][0][4][0][4] == "</script><b>&"
@@ -755,8 +684,7 @@ def pages(program, own):
     yield from pages_of_several(program, own)
     other = own / "other"
     other.write_bytes(b"")
-    ran = subprocess.run([sys.executable, trials.RUN, "fleet_page", other],
-                         capture_output=True,
+    ran = subprocess.run([sys.executable, trials.RUN, "fleet_page", other], capture_output=True,
                          check=False)
     yield "another file is refused", (ran.returncode,
                                       ran.stdout) == (1, b"") and ran.stderr.count(b"\n") == 1
@@ -773,9 +701,7 @@ def pages_of_several(program, own):
         return json.loads(line).get("vehicle")
 
     home = {
-        name: at % 3
-        for at, name in enumerate(sorted(set(filter(None, map(vehicle_of, every)))))
-    }
+        name: at % 3 for at, name in enumerate(sorted(set(filter(None, map(vehicle_of, every)))))}
     copies = []
     for desk in range(3):
         lines = [line for line in every if home.get(vehicle_of(line), desk) == desk]
@@ -797,8 +723,8 @@ def pages_of_several(program, own):
     yield "and so are the vehicles", listed(one) == listed(several) and len(listed(one)) == 24
     table = several.split("<h2>Desks</h2>")[1].split("<h2>")[0]
     rows = re.findall("<code.*?>(desk.)</code></td>.*?>([0-9]+)</td>", table)
-    yield "each desk has a row", rows == [("desk%d" % at, "8")
-                                          for at in range(3)] and "Desks" not in one
+    yield "each desk has a row", rows == [
+        ("desk%d" % at, "8") for at in range(3)] and "Desks" not in one
 
 
 def reached(line, whether):
@@ -839,19 +765,16 @@ def unlike(lines):
         hash = [fleet.second("another"), fleet.second("another").upper(), 128 * "x"][at % 3]
         reports = [
             report | {"counter": report["counter"] + 9, "sha512": hash}
-            for report in last["reports"]
-        ]
-        yield fleet.line("deliver",
-                         last["at"],
-                         body=fleet.body(last
-                                         | {"counter": last["counter"] + 9, "reports": reports}))
+            for report in last["reports"]]
+        yield fleet.line(
+            "deliver", last["at"],
+            body=fleet.body(last
+                            | {"counter": last["counter"] + 9, "reports": reports}))
 
 
 def page_of(*copies, now=NOW + 4 * 3600):
     ran = subprocess.run([sys.executable, trials.RUN, "fleet_page", *copies, "--now",
-                          str(now)],
-                         capture_output=True,
-                         check=False)
+                          str(now)], capture_output=True, check=False)
     return ran.stdout.decode("ascii") if not ran.returncode and not ran.stderr else ""
 
 
@@ -896,13 +819,11 @@ def operating(program, own):
     with trials.read(own / "days") as db:
         silent = [
             row[0] for row in db.execute(
-                query("use/OPERATING.md", "SELECT vehicle.vehicle, datetime(max(moment)"))
-        ]
+                query("use/OPERATING.md", "SELECT vehicle.vehicle, datetime(max(moment)"))]
         yield "vehicles that are silent", silent == ["VIN-0001", "VIN-0002"]
         expired = [
             row[0]
-            for row in db.execute(query("use/OPERATING.md", "SELECT repository || '/' || name"))
-        ]
+            for row in db.execute(query("use/OPERATING.md", "SELECT repository || '/' || name"))]
         yield "files that expire, the next first", expired[0] == "image/timestamp.json" and len(
             expired) == 5
         attacks = db.execute(
@@ -914,15 +835,14 @@ def operating(program, own):
     (own / "today.script").write_text(text, encoding="ascii")
     yield "the page has both idioms", len(idioms()) == 2
     for idiom in idioms():
-        asked = idiom.replace("uptane_desk run",
-                              "%s run" % program).replace("/var/lib/uptane/desk.db", str(path))
+        asked = idiom.replace("uptane_desk run", "%s run" % program).replace(
+            "/var/lib/uptane/desk.db", str(path))
         ran = subprocess.run(["bash", "-c", asked], cwd=own, capture_output=True, check=False)
         if "paste" in idiom:
             told = ran.stdout.decode("ascii").splitlines()
             yield "refused lines beside their answers", told == [
                 "4\tnope\trefused 5 NotJson",
-                '5\t{"at":1767225600,"do":"show","vehicle":"V9"}\trefused 10 UnknownVehicle'
-            ]
+                '5\t{"at":1767225600,"do":"show","vehicle":"V9"}\trefused 10 UnknownVehicle']
         elif ran.returncode or ran.stderr:
             yield "the idiom: " + idiom, False
 
@@ -933,8 +853,7 @@ def idioms():
         encoding="utf-8").split("\n## Giving scripts\n")[1].split("\n## ")[0]
     every = [
         " ".join(line.strip().rstrip("\\") for line in it.splitlines())
-        for it in re.findall(r"(?:^    .*\n)+", page, re.MULTILINE)
-    ]
+        for it in re.findall(r"(?:^    .*\n)+", page, re.MULTILINE)]
     return [it for it in every if "uptane_desk run" in it or "paste" in it]
 
 

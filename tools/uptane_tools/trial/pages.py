@@ -19,8 +19,7 @@ from uptane_tools.trial.trials import TOP
 CAUSES = "crates/up_program/specs/Unopened.antt"
 PAGES = [
     "README.md", "SECURITY.md", "docs/**/*.md", "examples/**/README.md", "rows/README.md",
-    "vectors/README.md", "crates/*/README.md"
-]
+    "vectors/README.md", "crates/*/README.md"]
 
 
 def pages():
@@ -97,11 +96,8 @@ def names_there():
     return {
         "Contract": set(contracts) | set(re.findall(r"\bpub (?:record |data )?(\w+)", specs)),
         "Tests": set(re.findall(r"#\[test\]\s*fn (\w+)", code))
-        | {path.name
-           for path in TOP.glob("crates/*")} | sections(),
-        "Rows": {path.parent.name
-                 for path in TOP.glob("rows/*/script")},
-    }
+        | {path.name for path in TOP.glob("crates/*")} | sections(), "Rows": {
+            path.parent.name for path in TOP.glob("rows/*/script")}}
 
 
 def promises():
@@ -126,15 +122,13 @@ MOST_FILES = 4
 def crates_in(text):
     return [
         name for name in re.findall(r"`(up_\w+|uptane_desk)`", text)
-        if not re.search(r"_tests$|^up_test", name)
-    ]
+        if not re.search(r"_tests$|^up_test", name)]
 
 
 def sources(crates):
     return {
-        path: path.read_text(encoding="utf-8")
-        for crate in crates for path in sorted((TOP / "crates" / crate / "src").glob("**/*.rt"))
-    }
+        path: path.read_text(encoding="utf-8") for crate in crates
+        for path in sorted((TOP / "crates" / crate / "src").glob("**/*.rt"))}
 
 
 def declaring(name, code):
@@ -145,8 +139,7 @@ def declaring(name, code):
     kinds = r"\b(?:fn|struct|enum|trait) %s\b" % last
     owner = r"\b(?:impl|struct|enum|trait)\b[^\n{;]*\b%s\b" % within[0] if within else ""
     there = [
-        path for path, text in code.items() if re.search(kinds, text) and re.search(owner, text)
-    ]
+        path for path, text in code.items() if re.search(kinds, text) and re.search(owner, text)]
     return there or [path for path in code if path.stem == name]
 
 
@@ -157,8 +150,7 @@ def contract_files(contract, code):
     """
     names = [
         name for name in re.findall(r"`([^`]+)`", re.sub(r"\([^)]*\)", "", contract))
-        if re.fullmatch(r"[\w:]+", name)
-    ]
+        if re.fullmatch(r"[\w:]+", name)]
     found = {name: declaring(name, code) for name in names}
     alone = {paths[0] for paths in found.values() if len(paths) == 1}
     made = set(alone)
@@ -167,10 +159,8 @@ def contract_files(contract, code):
             paths)
     return sorted(
         made or {
-            path
-            for path, text in code.items()
-            for name in names if re.search(r"\bensures %s\b" % name, text)
-        })
+            path for path, text in code.items()
+            for name in names if re.search(r"\bensures %s\b" % name, text)})
 
 
 def with_files(text):
@@ -187,18 +177,13 @@ def with_files(text):
             paths = contract_files(contract[1], code)
             names = [
                 str(path.relative_to(TOP / "crates")) if len(crates) > 1 else path.name
-                for path in paths
-            ]
+                for path in paths]
             if len(names) > MOST_FILES:
-                names = sorted(
-                    {"%s/src/" % path.relative_to(TOP / "crates").parts[0]
-                     for path in paths})
+                names = sorted({
+                    "%s/src/" % path.relative_to(TOP / "crates").parts[0] for path in paths})
             said = "*Contract*: %s, in %s." % (" ".join(contract[1].split()), ", ".join(
                 "`%s`" % name for name in names))
-            made_of = textwrap.fill(said,
-                                    100,
-                                    initial_indent="  ",
-                                    subsequent_indent="  ",
+            made_of = textwrap.fill(said, 100, initial_indent="  ", subsequent_indent="  ",
                                     break_on_hyphens=False)
             return bullet[:contract.start()] + made_of + "\n" * (len(found[0]) - len(bullet))
 
@@ -240,8 +225,8 @@ def primary():
 
 def part(page, heading):
     """What stands under a heading of a page of `docs/`, up to the next."""
-    return (TOP / "docs" / page).read_text(encoding="utf-8").split("\n## %s\n" %
-                                                                   heading)[1].split("\n## ")[0]
+    return (TOP / "docs" / page).read_text(encoding="utf-8").split(
+        "\n## %s\n" % heading)[1].split("\n## ")[0]
 
 
 def refusals():
@@ -255,8 +240,8 @@ def refusals():
     for page, heading in (("integrate/FORMATS.md", "Refusals"), ("use/OPERATING.md",
                                                                  "What refusals ask of you")):
         listed = re.findall(r"^\| (\d.*?) \|", part(page, heading), re.MULTILINE)
-        for name in [it for it in wanted if it not in listed
-                     ] + [it for it in listed if it not in wanted]:
+        for name in [it for it in wanted if it not in listed] + [
+                it for it in listed if it not in wanted]:
             yield "docs/%s: the refusal %s" % (page, name), False
         yield "docs/%s: the refusals" % page, listed == wanted
 
@@ -290,8 +275,7 @@ def cases():
     """Each of the names that lead nowhere, and what the pages show."""
     found = [
         *links(), *files(), *promises(), *located(), *calls(), *refusals(), *messages(),
-        *versions()
-    ]
+        *versions()]
     yield "%d links and names of the pages" % len(found), all(well for _, well in found)
     yield from ((name, well) for name, well in found if not well)
     yield from primary()

@@ -88,14 +88,12 @@ def names(program):
             path = str(Path(folder) / (length * "n"))
             yield "run over a name of %d bytes" % length, answers(program, ["run", path], b"nope\n",
                                                                   3, b"", NO_PATH)
-            yield "serve over a name of %d bytes" % length, answers(program,
-                                                                    ["serve", path, "80", "1"], b"",
-                                                                    3, b"", NO_PATH)
+            yield "serve over a name of %d bytes" % length, answers(
+                program, ["serve", path, "80", "1"], b"", 3, b"", NO_PATH)
         yield "and no file is left", os.listdir(folder) == []
         longest = 247 * "n"
-        yield "run over the longest name", answers(program,
-                                                   ["run", str(Path(folder) / longest)], b"nope\n",
-                                                   0, NOT_JSON, b"")
+        yield "run over the longest name", answers(
+            program, ["run", str(Path(folder) / longest)], b"nope\n", 0, NOT_JSON, b"")
         yield "and it is there", longest in os.listdir(folder)
 
 
@@ -106,21 +104,19 @@ def scripts(program):
     longer = b"nope\n" + (LONGEST_LINE + 1) * b" "
     yield "a line too long", answers(program, RUN, longer, 4, NOT_JSON, stopped(1, b"line limit"))
     folder = os.open("/", os.O_RDONLY)
-    yield "a directory as standard input", answers(program, RUN, folder, 4, b"",
-                                                   stopped(0, b"read"))
+    yield "a directory as standard input", answers(program, RUN, folder, 4, b"", stopped(
+        0, b"read"))
     os.close(folder)
-    yield "a full disk as standard output", into_full(program, RUN,
-                                                      b"nope\n") == (4, stopped(0, b"write"))
+    yield "a full disk as standard output", into_full(program, RUN, b"nope\n") == (4,
+                                                                                   stopped(
+                                                                                       0, b"write"))
     yield "too little memory for a line", told_memory(program)
 
 
 def into_full(program, words, given):
     """The status and the message where standard output takes nothing."""
     with open("/dev/full", "wb") as full:
-        ran = subprocess.run([program, *words],
-                             input=given,
-                             stdout=full,
-                             stderr=subprocess.PIPE,
+        ran = subprocess.run([program, *words], input=given, stdout=full, stderr=subprocess.PIPE,
                              check=False)
     return ran.returncode, ran.stderr
 
@@ -133,10 +129,7 @@ def within(program, limit, given):
     def most():
         return resource.setrlimit(resource.RLIMIT_AS, (limit, limit))
 
-    ran = subprocess.run([program, *RUN],
-                         input=given,
-                         capture_output=True,
-                         check=False,
+    ran = subprocess.run([program, *RUN], input=given, capture_output=True, check=False,
                          preexec_fn=most)
     return ran.returncode, ran.stdout, ran.stderr
 
@@ -152,9 +145,8 @@ def told_memory(program):
         return False
     while high - low > 1:
         middle = (low + high) // 2
-        low, high = (low,
-                     middle) if within(program, middle * MEBIBYTE, short) == enough else (middle,
-                                                                                          high)
+        low, high = (low, middle) if within(program, middle *
+                                            MEBIBYTE, short) == enough else (middle, high)
     lacking = range(MEBIBYTE // 4, 3 * MEBIBYTE, MEBIBYTE // 4)
     return any(
         within(program, high * MEBIBYTE - size, short) == (4, b"", stopped(0, b"memory"))

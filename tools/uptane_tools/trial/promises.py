@@ -106,12 +106,11 @@ def cases():
             yield "the promise %s: an edit or a test" % name, False
     for name in sorted(set(found) - set(there)):
         yield "the promise %s, which %s names" % (name, ", ".join(
-            sorted({str(path)
-                    for part in found[name] for _, path in part}))), False
+            sorted({str(path) for part in found[name] for _, path in part}))), False
     yield from (("the section %s of %s is there" % (words, path.parent.name), False)
                 for _, words, path, well in rows() if not well)
-    yield "edits and tests name promises", sum(len(part) for name in there
-                                               for part in found[name]) > 0
+    yield "edits and tests name promises", sum(
+        len(part) for name in there for part in found[name]) > 0
 
 
 def listed(names):

@@ -16,11 +16,9 @@ from concurrent.futures import ThreadPoolExecutor
 from contextlib import closing
 
 from uptane_tools import arguments
-from uptane_tools.trial import http_cases
-from uptane_tools.oracle import reference
-from uptane_tools.oracle import reference_http
+from uptane_tools.oracle import reference, reference_http
 from uptane_tools.rows import expected_streams
-from uptane_tools.trial import trials
+from uptane_tools.trial import http_cases, trials
 
 LABEL = reference.LABEL.encode()
 # the reference under the name of a program, without the line on standard error that says what it is
@@ -34,19 +32,14 @@ sys.exit(reference.main(sys.argv[1:]))
 
 
 def ran(*words, given=b""):
-    done = subprocess.run([sys.executable, trials.RUN, "reference", *words],
-                          input=given,
-                          capture_output=True,
-                          check=False,
-                          timeout=http_cases.PATIENCE)
+    done = subprocess.run([sys.executable, trials.RUN, "reference", *words], input=given,
+                          capture_output=True, check=False, timeout=http_cases.PATIENCE)
     return done.returncode, done.stdout, done.stderr
 
 
 def asked():
-    for wrong in ([], ["run"], ["serve", "x"], ["serve", "x",
-                                                "0"], ["serve", "x",
-                                                       "65536"], ["serve", "x", "80",
-                                                                  "0"], ["digest", "x"]):
+    for wrong in ([], ["run"], ["serve", "x"], ["serve", "x", "0"], ["serve", "x", "65536"], [
+            "serve", "x", "80", "0"], ["digest", "x"]):
         status, out, err = ran(*wrong)
         yield "no words of it: %s" % " ".join(wrong), (status, out) == (2,
                                                                         b"") and b"usage: " in err
@@ -59,8 +52,7 @@ def scripts():
     found = [
         it.parent
         for it in sorted([*trials.TOP.glob("examples/*/script"), *trials.TOP.glob("rows/*/script")])
-        if not (it.parent / "under").exists()
-    ]
+        if not (it.parent / "under").exists()]
     with ThreadPoolExecutor(2) as pool:
         made = pool.map(
             lambda folder: ran("run", ":memory:", given=(folder / "script").read_bytes()), found)
@@ -97,18 +89,14 @@ def by_the_page():
         def placed(command, port=8080):
             return command.replace("desk.db", str(own / "desk")).replace("8080", str(port))
 
-        ran = subprocess.run(["bash", "-c", placed(first)],
-                             capture_output=True,
-                             check=False,
-                             cwd=trials.TOP,
-                             timeout=http_cases.PATIENCE)
+        ran = subprocess.run(["bash", "-c", placed(first)], capture_output=True, check=False,
+                             cwd=trials.TOP, timeout=http_cases.PATIENCE)
         yield "the page's first command", (ran.returncode, ran.stdout) == (
             0, b"done\ndone\nreply V1 version 1 targets 0\n")
         with http_cases.served([*placed(second).split()[:2]], own / "desk", 1) as running:
             came = http_cases.told(running, http_cases.GET_ROOT)
             yield "the page's second command", placed(second, running.port).split()[2:] == [
-                "serve", str(own / "desk"), str(running.port)
-            ] and b'"type":"root"' in came
+                "serve", str(own / "desk"), str(running.port)] and b'"type":"root"' in came
 
 
 # ---- the requests that tests of crates make
@@ -118,18 +106,16 @@ def rows(crate, section):
     """What the rows of a section of a crate's input ask, and what they want."""
     told = (trials.TOP / "crates" / crate / "stdin").read_text(encoding="utf-8")
     part = re.search(r"(?ms)^# %s\n(.*?)(?=^# |\Z)" % re.escape(section), told)
-    return [tuple(line.split(" => ", 1)) for line in part[1].split("\n")
-            if " => " in line] if part else []
+    return [tuple(line.split(" => ", 1)) for line in part[1].split("\n") if " => " in line
+            ] if part else []
 
 
 def unfolded(text):
     """The bytes that a row means."""
     before = None
     while before != text:
-        before, text = text, re.sub(r"<\*(\d+)\*((?:(?!<\*).)*?)\*>",
-                                    lambda it: it[2] * int(it[1]),
-                                    text,
-                                    flags=re.DOTALL)
+        before, text = text, re.sub(r"<\*(\d+)\*((?:(?!<\*).)*?)\*>", lambda it: it[2] * int(it[1]),
+                                    text, flags=re.DOTALL)
     text = text.replace("|", "\r\n").replace("\\n", "\n").replace("\\t", "\t").encode()
     return re.sub(rb"\\x(..)", lambda it: bytes([int(it[1], 16)]), text)
 
@@ -183,8 +169,7 @@ def streams():
 def answers(desk, given):
     found = [
         reference_http.answer(desk, 1767225600, it)
-        for it in reference_http.Stream().feed(given, True)
-    ]
+        for it in reference_http.Stream().feed(given, True)]
     return b"%d: " % len(found) + b"".join(found)
 
 

@@ -21,8 +21,7 @@ import subprocess
 from pathlib import Path
 
 from uptane_tools import TOP, arguments
-from uptane_tools.trial import sweeps
-from uptane_tools.trial import trials
+from uptane_tools.trial import sweeps, trials
 
 
 def sections():
@@ -33,12 +32,8 @@ def sections():
 def carried_out(program, place, section, variables):
     """The status and what is told."""
     rows = f"\n# {section}".encode()
-    ran = subprocess.run([program, place],
-                         input=rows,
-                         capture_output=True,
-                         env=variables,
-                         timeout=120,
-                         check=False)
+    ran = subprocess.run([program, place], input=rows, capture_output=True, env=variables,
+                         timeout=120, check=False)
     return ran.returncode, ran.stdout, ran.stderr
 
 
@@ -69,12 +64,7 @@ def swept(program, place, section, library, numbers):
 
 def main(words: arguments.Words = None) -> int:
     """Refuses requests in turn."""
-    asked = arguments.given(__doc__,
-                            words,
-                            "program",
-                            "place",
-                            every=1,
-                            first="1",
+    asked = arguments.given(__doc__, words, "program", "place", every=1, first="1",
                             last=1_000_000_000)
     if not shutil.which("cc"):
         print("no C compiler, so no request for memory is refused")

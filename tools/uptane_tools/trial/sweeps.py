@@ -43,24 +43,20 @@ from pathlib import Path
 
 from uptane_tools import arguments
 from uptane_tools.measure import fleet
-from uptane_tools.trial import http_cases
-from uptane_tools.oracle import reference
-from uptane_tools.trial import schemas
 from uptane_tools.operate import statements
+from uptane_tools.oracle import reference
 from uptane_tools.rows import translated
-from uptane_tools.trial import trials
+from uptane_tools.trial import http_cases, schemas, trials
 
 ROWS = [
     "first_manifest", "equal_and_greater_releases", "kept_reply_after_a_rotation", "images_taken",
-    "files_of_the_image_repository", "campaigns", "replaced_ecu", "second_hash"
-]
+    "files_of_the_image_repository", "campaigns", "replaced_ecu", "second_hash"]
 READING = ["manifests_in_a_row"]
 OLDER = [("equal_and_greater_releases", 1), ("kept_reply_after_a_rotation", 2)]
 REFUSED = {"memory": "refused 1 Memory", "disk": "refused 2 Store"}
 VARIABLES = {
     "memory": "FAIL_ALLOC", "disk": "FAIL_IO", "older": "FAIL_ALLOC", "reading": "FAIL_ALLOC",
-    "http": "FAIL_ALLOC"
-}
+    "http": "FAIL_ALLOC"}
 MESSAGES = [b"", b"uptane_desk: stopped after %d lines: memory\n"]
 UNOPENED = [trials.UNOPENED[name] for name in ("memory", "path", "damaged")]
 POSTS = 4
@@ -70,8 +66,7 @@ def built(own):
     """The library that makes calls fail."""
     to, source = own / "failing.so", Path(__file__).resolve().parent / "failing.c"
     subprocess.run(["cc", "-shared", "-fPIC", "-O1", "-o",
-                    str(to), str(source), "-ldl"],
-                   check=True)
+                    str(to), str(source), "-ldl"], check=True)
     return to
 
 
@@ -80,8 +75,7 @@ class Failing:
 
     def __init__(self, library, mark, kind, number):
         self.mark, self.told = mark, {
-            "LD_PRELOAD": str(library), "FAIL_MARK": str(mark), VARIABLES[kind]: str(number)
-        }
+            "LD_PRELOAD": str(library), "FAIL_MARK": str(mark), VARIABLES[kind]: str(number)}
         self.mark.unlink(missing_ok=True)
 
     def start(self, words):
@@ -212,21 +206,17 @@ class Older(Begun):
 def filling(number=36):
     """A vehicle, and manifests of it that are as long as they may be nearly."""
     key = fleet.key(9)
-    yield fleet.line("add_vehicle",
-                     vehicle="VF",
-                     primary="PF",
-                     ecus=[{"ecu": "PF", "hardware": "HF", "key": key}])
+    yield fleet.line("add_vehicle", vehicle="VF", primary="PF", ecus=[{
+        "ecu": "PF", "hardware": "HF", "key": key}])
     for counter in range(1, number + 1):
         report = json.loads(
-            fleet.report_text(
-                {"ecu": "PF", "key": key, "counter": counter, "time": fleet.START,
-                 **fleet.FACTORY}))
+            fleet.report_text({
+                "ecu": "PF", "key": key, "counter": counter, "time": fleet.START, **fleet.FACTORY}))
         told = {
-            "counter": counter, "more": 240_000 * "~", "primary": "PF", "reports": [report], "type":
-            "manifest", "vehicle": "VF"
-        }
-        yield fleet.line("deliver",
-                         body=reference.sealed([bytes.fromhex(key)], reference.canonical(told)))
+            "counter": counter, "more": 240_000 * "~", "primary": "PF", "reports": [report],
+            "type": "manifest", "vehicle": "VF"}
+        yield fleet.line("deliver", body=reference.sealed([bytes.fromhex(key)],
+                                                          reference.canonical(told)))
 
 
 def calls_of_a_start(program, row, sweep, path):
@@ -287,8 +277,8 @@ def ended(it, count):
     out, err = it.communicate(timeout=60)
     if it.returncode == 2:
         return count == 0 and err.startswith(b"usage: ")
-    return (it.returncode, err) in ((0, b""), (4, MESSAGES[1] % count), *((3, line)
-                                                                          for line in UNOPENED))
+    return (it.returncode, err) in ((0, b""), (4, MESSAGES[1] % count),
+                                    *((3, line) for line in UNOPENED))
 
 
 def found(path, row, count):

@@ -8,25 +8,22 @@ from contextlib import closing, contextmanager
 from pathlib import Path
 
 from uptane_tools import RUN, TOP, arguments
-from uptane_tools.oracle import reference
 from uptane_tools.operate import statements
+from uptane_tools.oracle import reference
 
 __all__ = ["RUN", "TOP"]
 TABLES = [statements.table_of(statement) for statement in statements.schema()]
 # the examples of the scheme that is tried: the first path, and the messages of the small Primary
 FIRST_PATH, MESSAGES = (TOP / "examples" / it for it in {
-    "hmac-sha256": ("first_path", "primary"), "ed25519": ("first_path_ed25519", "primary/ed25519")
-}[reference.METHOD])
+    "hmac-sha256": ("first_path", "primary"), "ed25519": ("first_path_ed25519",
+                                                          "primary/ed25519")}[reference.METHOD])
 # why a database isn't opened, each with the line that tells it
 UNOPENED = {
-    name: b"uptane_desk: cannot open the database: %s\n" % words
-    for name, words in {
+    name: b"uptane_desk: cannot open the database: %s\n" % words for name, words in {
         "memory": b"there is too little memory", "path": b"its path can't be opened or made",
         "locked": b"another program has it open", "journal": b"SQLite left a journal beside it",
         "damaged": b"it is damaged, or its disk fails", "product": b"it is another product's",
-        "schema": b"it has a newer schema", "scheme": b"its keys are of the other scheme"
-    }.items()
-}
+        "schema": b"it has a newer schema", "scheme": b"its keys are of the other scheme"}.items()}
 
 
 def run(program, path, script, limit=120):
@@ -92,8 +89,7 @@ def rows_in(db):
     """All rows of all tables of a database."""
     return {
         table: sorted(map(tuple, db.execute("SELECT * FROM " + table)), key=repr)
-        for table in TABLES
-    }
+        for table in TABLES}
 
 
 def rows(path):

@@ -25,10 +25,7 @@ from pathlib import Path
 
 from uptane_tools import arguments
 from uptane_tools.operate import package
-from uptane_tools.trial import http_cases
-from uptane_tools.trial import proxy_cases
-from uptane_tools.trial import schemas
-from uptane_tools.trial import trials
+from uptane_tools.trial import http_cases, proxy_cases, schemas, trials
 
 GIVEN = trials.TOP / "examples" / "service"
 UNIT, REFRESH = "uptane-desk.service", "uptane-desk-refresh.service"
@@ -47,8 +44,7 @@ def missing():
     found = [] if os.getuid() == 0 else ["root"]
     found += [
         word for word in ("systemd-nspawn", "nsenter", "useradd", "runuser", "ip", "curl", "dpkg")
-        if not shutil.which(word)
-    ]
+        if not shutil.which(word)]
     found += [] if Path("/lib/systemd/systemd").exists() else ["systemd"]
     found += [] if "\toverlay\n" in Path("/proc/filesystems").read_text("ascii") else ["overlayfs"]
     return found + ([] if control_groups() else ["control groups of the second version"])
@@ -58,8 +54,7 @@ def control_groups():
     """Where they are mounted."""
     return [
         line.split()[1] for line in Path("/proc/mounts").read_text("ascii").splitlines()
-        if line.split()[2] == "cgroup2"
-    ]
+        if line.split()[2] == "cgroup2"]
 
 
 @contextlib.contextmanager
@@ -68,16 +63,14 @@ def mounted(own):
     starts with them.
     """
     subprocess.run(["mount", "-t", "tmpfs", "-o", "mode=755,size=1g", "unit_cases",
-                    str(own)],
-                   check=True)
+                    str(own)], check=True)
     try:
         upper, work, root = made = [own / name for name in ("upper", "work", "root")]
         for name in made:
             name.mkdir()
         options = "lowerdir=/,upperdir=%s,workdir=%s" % (upper, work)
         subprocess.run(["mount", "-t", "overlay", "-o", options, "unit_cases",
-                        str(root)],
-                       check=True)
+                        str(root)], check=True)
         for link in root.glob("etc/systemd/system/*.wants/*"):
             link.unlink()
         (root / "etc" / "machine-id").unlink(missing_ok=True)
@@ -106,21 +99,15 @@ def booted(root, group, folders):
     words += [
         "systemd-nspawn", "--quiet", "--boot", "--register=no", "--keep-unit", "--private-network",
         "--directory",
-        str(root)
-    ]
+        str(root)]
     words += [
         "--machine=unit-cases-%d" % os.getpid(), "--system-call-filter=bpf",
-        "--capability=CAP_BPF,CAP_PERFMON"
-    ]
+        "--capability=CAP_BPF,CAP_PERFMON"]
     words += ["--bind-ro=%s" % name for name in folders]
     told = os.environ | {"SYSTEMD_NSPAWN_UNIFIED_HIERARCHY": "1"}
     with open(root.parent / "said", "wb") as said:
-        running = subprocess.Popen(words,
-                                   stdin=subprocess.DEVNULL,
-                                   stdout=said,
-                                   stderr=said,
-                                   env=told,
-                                   start_new_session=True)
+        running = subprocess.Popen(words, stdin=subprocess.DEVNULL, stdout=said, stderr=said,
+                                   env=told, start_new_session=True)
     try:
         yield entered(running)
     finally:
@@ -136,10 +123,8 @@ def entered(running):
         for child in children.read_text("ascii").split():
             words = [
                 "nsenter", "-t", child, "-m", "-u", "-i", "-n", "-p", "-C", "env", "-i",
-                "PATH=" + PATH, *scheme, "setsid", "--wait"
-            ]
-            if subprocess.run([*words, "systemctl", "is-system-running"],
-                              capture_output=True,
+                "PATH=" + PATH, *scheme, "setsid", "--wait"]
+            if subprocess.run([*words, "systemctl", "is-system-running"], capture_output=True,
                               check=False).stdout == b"running\n":
                 return words
     raise OSError("systemd didn't come up")
@@ -239,8 +224,8 @@ def set_up(program, own):
     shutil.copy(program, built)
     (own / "founding.script").write_text("\n".join(http_cases.FIRST_PATH) + "\n", "ascii")
     yield "the package is made and installed", carried_out(installing(program), own)[1]
-    states = [ran("systemctl", "start", unit).returncode for unit in (UNIT, REFRESH, BACKUP)
-              ] + [shown("ActiveState", unit) for unit in (UNIT, REFRESH, BACKUP)]
+    states = [ran("systemctl", "start", unit).returncode for unit in (UNIT, REFRESH, BACKUP)] + [
+        shown("ActiveState", unit) for unit in (UNIT, REFRESH, BACKUP)]
     yield "before the founding nothing starts, and nothing fails", states == [0, 0, 0
                                                                               ] + 3 * ["inactive"]
     said = carried_out(page()[1], own)
@@ -256,8 +241,7 @@ def set_up(program, own):
     yield "behind the clock", "time-sync.target" in shown("After").split()
     modes = [path.stat().st_mode & 0o777 for path in (FOLDER, FILE)]
     yield "the file and its folder are their owner's alone", modes == [0o700, 0o600] and {
-        FOLDER.owner(), FILE.owner()
-    } == {"uptane"}
+        FOLDER.owner(), FILE.owner()} == {"uptane"}
     hook = Path("/etc/uptane/failed")
     hook.write_text('#!/bin/sh\necho "$1" >> /run/failed\n', "ascii")
     hook.chmod(0o755)
@@ -294,9 +278,7 @@ def served_so(count):
 
 def by_script(path, *lines):
     """What an operator's script prints, given as the page says, while the service doesn't run."""
-    return ran(*AS_OWNER,
-               *RUN,
-               str(path),
+    return ran(*AS_OWNER, *RUN, str(path),
                input="".join(line + "\n" for line in lines).encode("ascii")).stdout.decode("ascii")
 
 
@@ -308,8 +290,8 @@ def ends():
         yield "the program ends by SIG" + name, comes_back(lambda: well(
             "systemctl", "kill", "--signal=" + name, UNIT))
     begun = changed(served_so(3)) and well("systemctl", "restart", UNIT)
-    yield "the last of the connections", begun and comes_back(
-        lambda: [asked("/image/root.json"), asked("/image/root.json")])
+    yield "the last of the connections", begun and comes_back(lambda: [
+        asked("/image/root.json"), asked("/image/root.json")])
     wrong = changed(served_so(0)) and ran("systemctl", "restart",
                                           UNIT) and until(lambda: shown("ActiveState") == "failed")
     # (those before, behind the last of the connections, may be among them)
@@ -326,11 +308,8 @@ def ends():
     show = '{"at":1767225600,"do":"show","vehicle":"V1"}'
     yield "a script meanwhile", by_script(
         FILE, show) == "vehicle V1 version %d P1=factory.bin\n" % len(kept)
-    with subprocess.Popen([*AS_OWNER, *RUN, str(FILE)],
-                          stdin=subprocess.PIPE,
-                          stdout=subprocess.PIPE,
-                          text=True,
-                          bufsize=1) as other:
+    with subprocess.Popen([*AS_OWNER, *RUN, str(FILE)], stdin=subprocess.PIPE,
+                          stdout=subprocess.PIPE, text=True, bufsize=1) as other:
         print(show, file=other.stdin)
         waits = other.stdout.readline() and ran("systemctl", "start",
                                                 UNIT) and until(lambda: int(shown("NRestarts")) > 1)
@@ -374,8 +353,7 @@ with open("/var/lib/uptane/told", "w") as out:
 """
 OTHERS = [
     "%s/other" % name for name in ("/etc", "/usr/local", "/var/lib", "/var/log", "/srv", "/run",
-                                   "/tmp", "/dev/shm", "/home")
-]
+                                   "/tmp", "/dev/shm", "/home")]
 OTHERS += ["/run/lock", "/dev/mqueue"]
 SEEN = [name for name in OTHERS if name.startswith(("/tmp", "/home"))]
 MAY = ["writes in /var/lib/uptane", "a socket of AF_INET", "sends to 127.0.0.1"]
@@ -630,13 +608,11 @@ def queued(own):
     with proxy.running(), ThreadPoolExecutor(10) as pool:
         sent = [
             pool.submit(proxy_cases.asked, proxy, "POST", "/director/manifest", http_cases.MANIFEST)
-            for _ in range(100)
-        ]
+            for _ in range(100)]
         until(lambda: any(it.done() for it in sent))
         again = well("systemctl", "restart", UNIT)
         yield "a hundred requests over a restart, none is refused", again and [
-            it.result() for it in sent
-        ] == 100 * [[(200, http_cases.REPLY)]]
+            it.result() for it in sent] == 100 * [[(200, http_cases.REPLY)]]
 
 
 # ---- several desks, and the end
@@ -647,11 +623,7 @@ def several(own):
     folder, desks = "/var/lib/uptane-division", range(1, 5)
 
     def divide(*words):
-        return ran(sys.executable,
-                   str(own / "tools" / "run"),
-                   "divide_script",
-                   folder,
-                   *words,
+        return ran(sys.executable, str(own / "tools" / "run"), "divide_script", folder, *words,
                    input=(own / "founding.script").read_bytes())
 
     told = [divide("--desks", "4")]
@@ -661,35 +633,31 @@ def several(own):
         Path(folder, "desk%d.answers" % desk).write_text(answers, "ascii")
     told.append(divide("--join"))
     yield "four are founded", [it.returncode for it in told] == [
-        0, 0
-    ] and told[1].stdout == b"done\ndone\nreply V1 version 1 targets 0\n"
+        0, 0] and told[1].stdout == b"done\ndone\nreply V1 version 1 targets 0\n"
     served = carried_out(page()[2], own)[1]
     yield "four serve", served and len({
-        asked("/director/root.json", None, 8080 + desk)
-        for desk in desks
-    }) == 1 and asked("/director/manifest", http_cases.MANIFEST, 8081) == http_cases.REPLY
+        asked("/director/root.json", None, 8080 + desk) for desk in desks}) == 1 and asked(
+            "/director/manifest", http_cases.MANIFEST, 8081) == http_cases.REPLY
     begun = [
         int(shown("ActiveEnterTimestampMonotonic", "uptane-desk@%d.service" % desk))
-        for desk in desks
-    ]
+        for desk in desks]
     again = well("systemctl", "stop", "uptane-desk@*.service") and well(
         "systemctl", "start", *("uptane-desk@%d.service" % desk for desk in desks))
     starts = [[
         int(shown(name, "uptane-desk@%d.service" % desk))
-        for name in ("ExecMainStartTimestampMonotonic", "ActiveEnterTimestampMonotonic")
-    ] for desk in desks]
-    yield "they start one after another", begun and again and all(starts[at][1] <= starts[at + 1][0]
-                                                                  for at in range(3))
+        for name in ("ExecMainStartTimestampMonotonic", "ActiveEnterTimestampMonotonic")]
+              for desk in desks]
+    yield "they start one after another", begun and again and all(
+        starts[at][1] <= starts[at + 1][0] for at in range(3))
 
     def versions():
         return [
             json.loads(asked("/image/timestamp.json", None, 8080 + desk))["signed"]["version"]
-            for desk in desks
-        ]
+            for desk in desks]
 
     before = versions()
-    yield "four are refreshed", well("systemctl", "start",
-                                     REFRESH) and versions() == [it + 1 for it in before]
+    yield "four are refreshed", well("systemctl", "start", REFRESH) and versions() == [
+        it + 1 for it in before]
 
 
 def removed():
@@ -706,10 +674,9 @@ def cases(program, names):
         yield from set_up(program, own)
         parts = {
             "ends": ends, "hardened": hardened, "refreshed": refreshed, "dropped": dropped,
-            "copied": copied, "killed": killed, "broken": broken, "restored": restored, "upgraded":
-            lambda: upgraded(program, own), "queued": lambda: queued(own), "several":
-            lambda: several(own), "removed": removed
-        }
+            "copied": copied, "killed": killed, "broken": broken, "restored": restored,
+            "upgraded": lambda: upgraded(program, own), "queued": lambda: queued(own),
+            "several": lambda: several(own), "removed": removed}
         for name, part in parts.items():
             if not names or name in names:
                 yield from part()

@@ -23,24 +23,17 @@ import urllib.request
 from pathlib import Path
 
 from uptane_tools import arguments
-from uptane_tools.measure import fleet
-from uptane_tools.trial import http_cases
-from uptane_tools.operate import package
-from uptane_tools.operate import plan
-from uptane_tools.measure import speed
+from uptane_tools.measure import fleet, speed
+from uptane_tools.operate import package, plan
 from uptane_tools.oracle import reference
-from uptane_tools.trial import small_primary
-from uptane_tools.trial import trials
+from uptane_tools.trial import http_cases, small_primary, trials
 
 TOOLS, SERVICE = trials.TOP / "tools", trials.TOP / "examples" / "service"
 NOW, DAY = int(time.time()), 86400
 
 
 def ran(*words, **more):
-    return subprocess.run(list(map(str, words)),
-                          capture_output=True,
-                          text=True,
-                          check=False,
+    return subprocess.run(list(map(str, words)), capture_output=True, text=True, check=False,
                           **{"timeout": 120} | more)
 
 
@@ -67,17 +60,14 @@ def first_manifests(vehicles, ecus, names, hashes):
     yield fleet.line("found", **fleet.key_set(1))
     for at in range(vehicles):
         own = [name("e", ecus * at + it) for it in range(ecus)]
-        yield fleet.line("add_vehicle",
-                         vehicle=name("v", at),
-                         primary=own[0],
+        yield fleet.line("add_vehicle", vehicle=name("v", at), primary=own[0],
                          ecus=[{"ecu": it, "hardware": "HP", "key": fleet.key(7)} for it in own])
         reports = [{"ecu": it, "key": fleet.key(7), "counter": 1, "time": fleet.START, **image}
                    for it in own]
-        yield fleet.line("deliver",
-                         body=fleet.body({
-                             "vehicle": name("v", at), "primary": own[0], "key": fleet.key(7),
-                             "counter": 1, "reports": reports
-                         }))
+        yield fleet.line(
+            "deliver", body=fleet.body({
+                "vehicle": name("v", at), "primary": own[0], "key": fleet.key(7), "counter": 1,
+                "reports": reports}))
 
 
 def planned(program, own):
@@ -89,8 +79,7 @@ def planned(program, own):
         took, memory = speed.used([program, "run", path])
         words = [
             "--vehicles", "100", "--ecus", ecus, "--years", "1", "--names", names, "--scheme",
-            reference.METHOD, *(["--one-hash"] if hashes == 1 else [])
-        ]
+            reference.METHOD, *(["--one-hash"] if hashes == 1 else [])]
         given = plan.parsed(list(map(str, words)))
         given.manifests_a_day = kept / 100 / plan.YEAR
         it = plan.Desk(given, 1)
@@ -103,8 +92,7 @@ def planned(program, own):
     asked = ["--vehicles", "1000", "--ecus", "4"]
     away = [
         plan.Desk(plan.parsed([*asked, *words]), 1).away
-        for words in ([], ["--refreshes", "0"], ["--refreshes", "0", "--requests", "1000"])
-    ]
+        for words in ([], ["--refreshes", "0"], ["--refreshes", "0", "--requests", "1000"])]
     start = plan.Desk(plan.parsed(asked), 1).start + 1
     yield "two starts a refresh, and one behind a million connections", near(
         away[0] - away[1], 4 * start, 0.001) and near(away[2], start, 0.001)
@@ -127,10 +115,8 @@ def planned(program, own):
 def sample(text, name, **labels):
     """The value of a metric with these labels, among others."""
     found = [
-        line for line in text.splitlines()
-        if line.startswith("uptane_desk_%s{" % name) and all('%s="%s"' % it in line
-                                                             for it in labels.items())
-    ]
+        line for line in text.splitlines() if line.startswith("uptane_desk_%s{" % name) and all(
+            '%s="%s"' % it in line for it in labels.items())]
     return int(found[0].split()[-1]) if len(found) == 1 else None
 
 
@@ -138,10 +124,8 @@ def measured(program, own):
     path, lines = own / "fleet", list(fleet.script(vehicles=30, ecus=4, rounds=4,
                                                    second_hashes=0.3))
     lines.append(
-        fleet.line("add_vehicle",
-                   vehicle="new",
-                   primary="n",
-                   ecus=[{"ecu": "n", "hardware": "HP", "key": fleet.key(9)}]))
+        fleet.line("add_vehicle", vehicle="new", primary="n", ecus=[{
+            "ecu": "n", "hardware": "HP", "key": fleet.key(9)}]))
     yield "a fleet", trials.printed(program, path, lines) is not None
     before, after = path.read_bytes(), fleet.START + 2 * DAY
     text = tool("metrics", path, "--now", after).stdout
@@ -154,41 +138,30 @@ def measured(program, own):
         plans = {}
         for vehicle, text_of in db.execute(
                 "SELECT vehicle, plan_text FROM kept ORDER BY vehicle, version"):
-            plans.setdefault(vehicle, []).append({(it["ecu"], it["file"])
-                                                  for it in json.loads(text_of)["assigned"]})
+            plans.setdefault(vehicle, []).append({
+                (it["ecu"], it["file"]) for it in json.loads(text_of)["assigned"]})
         wanted = {
-            "vehicles":
-            one("SELECT count(*) FROM vehicle"),
-            "vehicles_never_seen":
-            one("SELECT count(*) FROM vehicle WHERE version = 0"),
-            "vehicles_withheld":
-            one("SELECT count(*) %s WHERE json_extract(plan_text, '$.withheld.ecu') IS NOT NULL" %
+            "vehicles": one("SELECT count(*) FROM vehicle"),
+            "vehicles_never_seen": one("SELECT count(*) FROM vehicle WHERE version = 0"),
+            "vehicles_withheld": one(
+                "SELECT count(*) %s WHERE json_extract(plan_text, '$.withheld.ecu') IS NOT NULL" %
                 last),
-            "vehicles_reporting_attack":
-            one("SELECT count(DISTINCT vehicle) FROM ecu WHERE json_extract(report, '$.attack') "
-                "<> ''"),
-            "assignments_open":
-            one("SELECT count(*) %s, json_each(plan_text, '$.assigned')" % last),
-            "assignments_open_long":
-            sum(len(set.intersection(*its[-3:])) for its in plans.values() if len(its) >= 3),
-            "kept_replies":
-            one("SELECT count(*) FROM kept"),
-            "kept_replies_last_day":
-            one("SELECT count(*) FROM kept WHERE moment > %d" % (after - DAY)),
-            "images":
-            one("SELECT count(*) FROM image"),
-            "file_bytes":
-            path.stat().st_size + trials.log_of(path).stat().st_size,
-            "newest_timestamp_seconds":
-            one("SELECT max(moment) FROM kept"),
-            "copy_timestamp_seconds":
-            int(path.stat().st_mtime),
-        }
+            "vehicles_reporting_attack": one(
+                "SELECT count(DISTINCT vehicle) FROM ecu WHERE json_extract(report, '$.attack') "
+                "<> ''"), "assignments_open": one(
+                    "SELECT count(*) %s, json_each(plan_text, '$.assigned')" % last),
+            "assignments_open_long": sum(
+                len(set.intersection(*its[-3:])) for its in plans.values() if len(its) >= 3),
+            "kept_replies": one("SELECT count(*) FROM kept"), "kept_replies_last_day": one(
+                "SELECT count(*) FROM kept WHERE moment > %d" %
+                (after - DAY)), "images": one("SELECT count(*) FROM image"),
+            "file_bytes": path.stat().st_size + trials.log_of(path).stat().st_size,
+            "newest_timestamp_seconds": one("SELECT max(moment) FROM kept"),
+            "copy_timestamp_seconds": int(path.stat().st_mtime)}
         silent = one("SELECT count(*) %s WHERE moment < %d" % (last, after - DAY))
     different = {
-        name: (sample(text, name), value)
-        for name, value in wanted.items() if sample(text, name) != value
-    }
+        name: (sample(text, name), value) for name, value in wanted.items()
+        if sample(text, name) != value}
     print("".join("metrics: %s: %r\n" % it for it in different.items()), end="")
     yield "metrics are what queries tell", not different and wanted[
         "assignments_open"] > 0 and wanted["assignments_open_long"] > 0
@@ -212,8 +185,7 @@ def measured(program, own):
         names = [
             set(re.findall(r"alert(?:name)?: (\w+)",
                            (SERVICE / "alerts" / name).read_text("ascii")))
-            for name in ("uptane.yml", "uptane_test.yml")
-        ]
+            for name in ("uptane.yml", "uptane_test.yml")]
         yield "and none is without", names[0] == names[1] and len(names[0]) > 10
     else:
         print("there is no promtool, so no rule of alerts is tried")
@@ -254,9 +226,8 @@ class Service:
     """One desk or several, with their folders, and a systemd in small."""
 
     def __init__(self, program, own, desks):
-        self.own, self.desks, self.names = own, desks, [str(at)
-                                                        for at in range(1, desks +
-                                                                        1)] if desks else [""]
+        self.own, self.desks, self.names = own, desks, [str(at) for at in range(1, desks + 1)
+                                                        ] if desks else [""]
         for name in ("bin", "spool", "spool/answers", "copies", "run", "data"):
             (own / name).mkdir()
         first = http_cases.free_port(desks + 1)
@@ -271,22 +242,17 @@ class Service:
             (own / "bin" / name).chmod(0o755)
         told = {
             "PROGRAM": program, "TOOLS": TOOLS, "FOLDER": own / "data", "SPOOL": own / "spool",
-            "JOURNAL": own / "journal", "COPIES": own / "copies"
-        }
+            "JOURNAL": own / "journal", "COPIES": own / "copies"}
         told |= {
             "RUN": own / "run", "PORT": first, "DESKS": desks or "", "DIVISION": own / "division",
-            "PATIENCE": 60, "SETTINGS": "/nonexistent", "KEEP": 3
-        }
+            "PATIENCE": 60, "SETTINGS": "/nonexistent", "KEEP": 3}
         told |= {
             "METRICS": own / "metrics.prom", "PAGE": own / "page.html", "AFTER": own / "after",
-            "AFTER_APPLY": own / "after-apply"
-        }
+            "AFTER_APPLY": own / "after-apply"}
         told |= {
-            "WATCHED": own / "watch.prom", "LATE": 0, "OWNER": pwd.getpwuid(os.getuid()).pw_name
-        }
-        self.env = os.environ | {name: str(value)
-                                 for name, value in told.items()
-                                 } | {"PATH": "%s:%s" % (own / "bin", os.environ["PATH"])}
+            "WATCHED": own / "watch.prom", "LATE": 0, "OWNER": pwd.getpwuid(os.getuid()).pw_name}
+        self.env = os.environ | {name: str(value) for name, value in told.items()} | {
+            "PATH": "%s:%s" % (own / "bin", os.environ["PATH"])}
 
     def unit(self, name):
         return "uptane-desk@%s.service" % name if name else "uptane-desk.service"
@@ -320,8 +286,8 @@ class Service:
 
     def journal(self):
         path = self.own / "journal"
-        return [json.loads(line)
-                for line in path.read_text("ascii").splitlines()] if path.exists() else []
+        return [json.loads(line) for line in path.read_text("ascii").splitlines()
+                ] if path.exists() else []
 
     def get(self, target, name=""):
         with urllib.request.urlopen("http://127.0.0.1:%d%s" % (self.ports[name], target),
@@ -344,29 +310,18 @@ def service(program, own, desks=0):
 
 
 def vehicle(name, number=9):
-    return fleet.line("add_vehicle",
-                      NOW,
-                      vehicle=name,
-                      primary=name + "-p",
-                      ecus=[{"ecu": name + "-p", "hardware": "HP", "key": fleet.key(number)}])
+    return fleet.line("add_vehicle", NOW, vehicle=name, primary=name + "-p", ecus=[{
+        "ecu": name + "-p", "hardware": "HP", "key": fleet.key(number)}])
 
 
 def image(release):
-    return fleet.line("add_image",
-                      NOW,
-                      file="hp-%d.bin" % release,
-                      length=3,
-                      sha256=fleet.digest("%d" % release),
-                      hardware=["HP"],
-                      release=release)
+    return fleet.line("add_image", NOW, file="hp-%d.bin" % release, length=3,
+                      sha256=fleet.digest("%d" % release), hardware=["HP"], release=release)
 
 
 def campaign(name, vehicles="all", release=2):
-    return fleet.line("open_campaign",
-                      NOW,
-                      campaign=name,
-                      vehicles=vehicles,
-                      items=[{"hardware": "HP", "file": "hp-%d.bin" % release}])
+    return fleet.line("open_campaign", NOW, campaign=name, vehicles=vehicles, items=[{
+        "hardware": "HP", "file": "hp-%d.bin" % release}])
 
 
 FOUNDING = [fleet.line("found", NOW, **fleet.key_set(1)), vehicle("V1"), image(1)]
@@ -382,10 +337,10 @@ def applied(program, own):
         version = it.version()
         done = it.script("apply.sh", "--refresh")
         yield "a refresh", done.returncode == 0 and it.version() == version + 1 and it.calls() == [
-            "stop uptane-desk.service", "start uptane-desk.service"
-        ]
-        yield "the journal has it", [(one["who"], one["asked"]["do"], one["answer"])
-                                     for one in it.journal()] == [("the timer", "refresh", "done")]
+            "stop uptane-desk.service", "start uptane-desk.service"]
+        yield "the journal has it", [
+            (one["who"], one["asked"]["do"], one["answer"]) for one in it.journal()] == [
+                ("the timer", "refresh", "done")]
         it.drop("wrong.script", campaign("x").replace("vehicles", "vehicle"))
         it.drop("final.looked.script", fleet.line("refresh", NOW, version=2**53 - 1))
         it.drop("half", image(2))
@@ -413,17 +368,14 @@ def applied(program, own):
         version, listed = it.version(), len(it.journal())
         done = it.script("apply.sh", "--refresh")
         yield "scripts and a refresh in one stop", done.returncode == 0 and it.calls() == [
-            "stop uptane-desk.service", "start uptane-desk.service"
-        ] and it.version() == version + 2
+            "stop uptane-desk.service", "start uptane-desk.service"] and it.version() == version + 2
         yield "each has its answers", (it.answers("1-image.answers"),
                                        it.answers("2-campaign.answers")) == (["done", "done"], [
-                                           "done", "refused 24 CampaignTaken"
-                                       ])
+                                           "done", "refused 24 CampaignTaken"])
         added = it.journal()[listed:]
         who = {
             one["asked"].get("campaign"): (one["who"], one["script"], one["answer"])
-            for one in added if one["asked"]["do"] == "open_campaign" and one["answer"] == "done"
-        }
+            for one in added if one["asked"]["do"] == "open_campaign" and one["answer"] == "done"}
         yield "the journal tells who opened a campaign", who == {
             "first": (pwd.getpwuid(os.getuid()).pw_name, "2-campaign.script", "done")
         } and len(added) == 5
@@ -451,8 +403,8 @@ def applied(program, own):
         held = own / "spool" / "held"
         yield "the script is held, for root alone", (held / "3.script").exists() and stat.S_IMODE(
             held.stat().st_mode) == 0o700 and it.answers("3.answers") == ["done"]
-        yield "and the journal says how far it came", [one["answer"] for one in it.journal()[-2:]
-                                                       ] == ["done", None]
+        yield "and the journal says how far it came", [
+            one["answer"] for one in it.journal()[-2:]] == ["done", None]
         yield from killed(it)
         it.env["PROGRAM"] = str(program)
         yield from rotated(it)
@@ -467,11 +419,9 @@ def read_alone(it):
     done = it.script("apply.sh")
     answers = it.answers("show.answers")
     yield "what only shows stops nothing", done.returncode == 0 and it.calls() == [] and [
-        line.split()[0] for line in answers
-    ] == ["vehicle", "file"]
+        line.split()[0] for line in answers] == ["vehicle", "file"]
     yield "and leaves nothing behind", [
-        path.name for path in (it.own / "data").iterdir() if path.is_dir()
-    ] == []
+        path.name for path in (it.own / "data").iterdir() if path.is_dir()] == []
 
 
 def killed(it):
@@ -480,22 +430,17 @@ def killed(it):
         "#!/bin/sh\nread line\necho done\n: > %s/stands\nexec sleep 600\n" % it.own,
         encoding="ascii")
     it.drop("4.script", vehicle("V5", 5), vehicle("V6", 4))
-    with subprocess.Popen(["sh", SERVICE / "apply.sh"],
-                          env=it.env,
-                          stdout=subprocess.DEVNULL,
-                          stderr=subprocess.DEVNULL,
-                          start_new_session=True) as running:
+    with subprocess.Popen(["sh", SERVICE / "apply.sh"], env=it.env, stdout=subprocess.DEVNULL,
+                          stderr=subprocess.DEVNULL, start_new_session=True) as running:
         while not (it.own / "stands").exists():
             time.sleep(0.05)
         os.killpg(running.pid, signal.SIGKILL)
     yield "a run is killed, and the desk is down", it.calls()[-1] == "stop uptane-desk.service"
     mended = it.script("apply.sh", "--mend")
     yield "it is started again", mended.returncode == 0 and it.calls() == [
-        "start uptane-desk.service"
-    ] and it.version() > 0
+        "start uptane-desk.service"] and it.version() > 0
     yield "no script is lost", (it.own / "spool" / "held" / "4.script").exists() and [
-        one["answer"] for one in it.journal()[-2:]
-    ] == ["done", None]
+        one["answer"] for one in it.journal()[-2:]] == ["done", None]
     yield "and nothing is left", it.script("apply.sh",
                                            "--mend").returncode == 0 and it.calls() == [] and list(
                                                (it.own / "spool").glob("taken.*")) == []
@@ -533,8 +478,8 @@ def turned(it):
     old = list(own.glob("journal-*"))
     it.script("apply.sh", "--refresh")
     yield "the journal is rotated whole, and goes on", done.returncode == 0 and [
-        path.read_bytes() for path in old
-    ] == [before] and [one["asked"]["do"] for one in it.journal()] == ["refresh"]
+        path.read_bytes() for path in old] == [before] and [
+            one["asked"]["do"] for one in it.journal()] == ["refresh"]
 
 
 def rotated(it):
@@ -563,8 +508,7 @@ def watched(program, own):
 
         first = look()
         yield "a Timestamp near its end", first[0] == 1 and [
-            words.split(" expires")[0] for words in first[1]
-        ] == ["the Timestamp"]
+            words.split(" expires")[0] for words in first[1]] == ["the Timestamp"]
         yield "is told once", look() == (0, first[1])
         it.script("apply.sh", "--refresh")
         it.script("backup.sh")
@@ -579,8 +523,8 @@ def watched(program, own):
         it.systemctl("start")
         for path in (own / "copies").glob("desk-*"):
             os.utime(path, (NOW - DAY, NOW - DAY))
-        yield "a copy that is old", [words.split(" is of")[0]
-                                     for words in look()[1]] == ["the newest copy"]
+        yield "a copy that is old", [words.split(" is of")[0] for words in look()[1]] == [
+            "the newest copy"]
         for path in (own / "copies").glob("desk-*"):
             path.unlink()
         (own / "run" / "uptane-watch" / "first").write_text("%d\n" % (NOW - DAY), encoding="ascii")
@@ -590,15 +534,12 @@ def watched(program, own):
 def applied_to_several(program, own):
     with service(program, own, 2) as it:
         asked = FOUNDING + [vehicle("V2"), vehicle("V3")]
-        tool("divide_script",
-             own / "division",
-             "--desks",
-             2,
+        tool("divide_script", own / "division", "--desks", 2,
              input="".join(line + "\n" for line in asked))
         for name in it.names:
-            told = trials.run(program, it.file(name),
-                              (own / "division" /
-                               ("desk%s.script" % name)).read_text("ascii").splitlines())[1]
+            told = trials.run(
+                program, it.file(name),
+                (own / "division" / ("desk%s.script" % name)).read_text("ascii").splitlines())[1]
             (own / "division" / ("desk%s.answers" % name)).write_bytes(told)
         tool("divide_script", own / "division", "--join")
         it.systemctl("start")
@@ -610,16 +551,14 @@ def applied_to_several(program, own):
         done = it.script("apply.sh", "--refresh")
         order = [
             "%s uptane-desk@%s.service" % (verb, name) for name in it.names
-            for verb in ("stop", "start")
-        ]
+            for verb in ("stop", "start")]
         yield "two desks, one after the other", done.returncode == 0 and it.calls(
         ) == order and it.answers("1.answers") == ["done", "done", "done"]
         yield "and the proxy may read its map again", (own /
                                                        "map").read_text("ascii").split()[::2] == [
-                                                           "V1", "V2", "V3", "V4"
-                                                       ]
-        yield "all have the files of one version", [it.version(name)
-                                                    for name in it.names] == [version + 2] * 2
+                                                           "V1", "V2", "V3", "V4"]
+        yield "all have the files of one version", [
+            it.version(name) for name in it.names] == [version + 2] * 2
         it.drop("1.script", campaign("none", ["nobody"]))
         done = it.script("apply.sh", "--refresh")
         yield "what can't be divided is held, and the refresh goes on", done.returncode == 1 and (
@@ -627,9 +566,8 @@ def applied_to_several(program, own):
         copied = it.script("backup.sh")
         yield "a copy of each", copied.returncode == 0 and sample(
             (own / "metrics.prom").read_text("ascii"), "vehicles", desk="desk2") == 2
-        yield "and one page of all", '"V4"' in (
-            own / "page.html").read_text("ascii") and "2 desks" in (own /
-                                                                    "page.html").read_text("ascii")
+        yield "and one page of all", '"V4"' in (own / "page.html").read_text(
+            "ascii") and "2 desks" in (own / "page.html").read_text("ascii")
 
 
 # ---- copies, and what a restore forgets
@@ -647,9 +585,8 @@ def manifest(name, number, key=9, ecu=None):
     ecu = ecu or name + "-p"
     report = {"ecu": ecu, "key": fleet.key(key), "counter": number, "time": NOW, **fleet.FACTORY}
     return fleet.body({
-        "vehicle": name, "primary": ecu, "key": fleet.key(key), "counter": number, "reports":
-        [report]
-    })
+        "vehicle": name, "primary": ecu, "key": fleet.key(key), "counter": number, "reports": [
+            report]})
 
 
 def backed_up(program, own):
@@ -665,15 +602,14 @@ def backed_up(program, own):
         copies = sorted((own / "copies").glob("desk-*Z.db"))
         yield "a backup", done.returncode == 0 and len(copies) == 1 and "stood still" in done.stdout
         yield "with metrics, a page, and what comes after", [
-            (own / name).exists() for name in ("metrics.prom", "page.html")
-        ] == [True, True] and str(copies[0]) in (own / "listed").read_text("ascii")
+            (own / name).exists() for name in ("metrics.prom", "page.html")] == [
+                True, True] and str(copies[0]) in (own / "listed").read_text("ascii")
         modes = {stat.S_IMODE(path.stat().st_mode) for path in (own / "copies").iterdir()}
         yield "it is its owner's alone", modes == {0o600}
         never = [
             own / name
             for name in ("copies/desk-20200101T000000Z-schema2.db", "spool/answers/old.answers",
-                         "spool/held/old.script", "data/before-20200101T000000Z/desk.db")
-        ]
+                         "spool/held/old.script", "data/before-20200101T000000Z/desk.db")]
         for path in never:
             path.parent.mkdir(exist_ok=True)
             path.touch(0o600)
@@ -686,11 +622,10 @@ def backed_up(program, own):
         yield "what the page calls never pruned stays", all(path.exists() for path in never)
         # what comes behind the newest copy
         backup = kept[-1]
-        told = [posted(port, manifest("V1", number))
-                for number in (3, 4, 5)] + [posted(port, manifest("V2", 1, 8))]
-        yield "the fleet goes on", [(status, reply["version"])
-                                    for status, reply in told] == [(200, 3), (200, 4), (200, 5),
-                                                                   (200, 1)]
+        told = [posted(port, manifest("V1", number)) for number in (3, 4, 5)] + [
+            posted(port, manifest("V2", 1, 8))]
+        yield "the fleet goes on", [(status, reply["version"]) for status, reply in told] == [
+            (200, 3), (200, 4), (200, 5), (200, 1)]
         it.systemctl("stop")
         more = [image(2), vehicle("V3", 7), campaign("late"), fleet.line("refresh", NOW, version=9)]
         yield "so do operators", trials.printed(program, it.file(), more) == 4 * ["done"]
@@ -700,20 +635,16 @@ def backed_up(program, own):
         print(drilled.stdout + drilled.stderr, end="")
         lines = drilled.stdout.splitlines()
         yield "a drill: restored and started", drilled.returncode == 0 and [
-            line.split(" in ")[0] for line in lines[:3]
-        ] == ["looked at", "restored", "started"]
+            line.split(" in ")[0] for line in lines[:3]] == ["looked at", "restored", "started"]
         yield "and nothing is changed by it", {
-            path.name: path.read_bytes()
-            for path in (own / "copies").iterdir()
-        } == before
+            path.name: path.read_bytes() for path in (own / "copies").iterdir()} == before
         yield "what is forgotten", any(
-            line.startswith("forgotten: 4 manifests") for line in
-            lines) and "vehicles: 0 as before, 2 goes back, 0 other ECUs, 1 unknown" in lines
+            line.startswith("forgotten: 4 manifests") for line in lines
+        ) and "vehicles: 0 as before, 2 goes back, 0 other ECUs, 1 unknown" in lines
         yield "lines to give again", [line for line in lines if line.startswith("to give")] == [
             "to give again: add_image hp-2.bin", "to give again: add_vehicle V3",
             "to give again: open_campaign late",
-            "to give again: refresh to a version above 9: the last that was served"
-        ]
+            "to give again: refresh to a version above 9: the last that was served"]
         yield from restored(it, backup, lines)
         damaged = own / "damaged.db"
         data = bytearray(later.read_bytes())
@@ -746,8 +677,8 @@ def restored(it, backup, lines):
     yield "the file is its owner's alone", stat.S_IMODE(
         it.file().stat().st_mode) == 0o600 and it.journal()[-1]["restored"] == str(it.file())
     port = it.ports[""]
-    met = [posted(port, manifest("V1", number))[1]["version"]
-           for number in (6, 7, 8)] + [posted(port, manifest("V2", 2, 8))[1]["version"]]
+    met = [posted(port, manifest("V1", number))[1]["version"] for number in (6, 7, 8)] + [
+        posted(port, manifest("V2", 2, 8))[1]["version"]]
     words = {line.split()[1]: line for line in lines if line.startswith("vehicle ")}
     yield "V1 refuses two replies, and takes the third", met[:3] == [
         3, 4, 5
@@ -770,8 +701,8 @@ def given_again(it):
     script = it.own / "again.script"
     asked = [json.loads(line)["do"] for line in script.read_text("ascii").splitlines()]
     yield "its lines to give again are a script", asked == [
-        "add_image", "add_vehicle", "open_campaign", "refresh"
-    ] and stat.S_IMODE(script.stat().st_mode) == 0o600
+        "add_image", "add_vehicle", "open_campaign", "refresh"] and stat.S_IMODE(
+            script.stat().st_mode) == 0o600
     shutil.copyfile(script, it.own / "copied")
     answers = it.own / "given"
     it.systemctl("stop")
@@ -808,10 +739,9 @@ def packaged(program, own):
                                                       own).stdout.strip()).read_bytes() == first
     shown = ran("dpkg-deb", "--field", path).stdout
     is_proved = package.LABEL not in Path(program).read_bytes()[-200:]
-    yield "it says whether there is a proof", ("~unproved" in shown, " proved Director"
-                                               in shown, "UNPROVED"
-                                               in shown) == (not is_proved, is_proved,
-                                                             not is_proved)
+    yield "it says whether there is a proof", ("~unproved" in shown, " proved Director" in shown,
+                                               "UNPROVED" in shown) == (not is_proved, is_proved,
+                                                                        not is_proved)
     bench = Path(
         tool("package", "--unproved", "--bench", "--program", program, "--to", own).stdout.strip())
     listed = ran("dpkg-deb", "--contents", bench).stdout
@@ -824,8 +754,7 @@ def packaged(program, own):
     dpkg = [
         "dpkg",
         "--root=%s" % root, "--force-not-root,depends,script-chrootless",
-        "--log=%s" % (own / "log")
-    ]
+        "--log=%s" % (own / "log")]
     yield "dpkg installs it in a folder of its own", ran(*dpkg, "--install", path).returncode == 0
     sums = ran("sha256sum", "--check", "--quiet", "usr/lib/uptane_desk/MANIFEST", cwd=root)
     text = (root / "usr/lib/uptane_desk/MANIFEST").read_text("ascii")
@@ -841,13 +770,12 @@ def packaged(program, own):
         (root / "usr/share/doc/uptane-desk/uptane-desk.spdx.json").read_text("ascii"))
     names = {it["name"] for it in parts["packages"]}
     yield "its list of parts has the kit's crates", parts["spdxVersion"] == "SPDX-2.3" and {
-        "uptane_desk_ed25519", "up_machine", "sqlite", "std"
-    } <= names and len(parts["relationships"]) == len(names)
+        "uptane_desk_ed25519", "up_machine", "sqlite", "std"} <= names and len(
+            parts["relationships"]) == len(names)
     named = [
         word for unit in root.glob("usr/lib/systemd/system/*") for word in re.findall(
             r"(?m)^(?:ExecStart|ExecStartPost)=(/\S+)|^Documentation=file://(\S+)",
-            unit.read_text("ascii"))
-    ]
+            unit.read_text("ascii"))]
     places = {first or second for first, second in named} - {"/bin/sh"}
     yield "what its units name is there", len(places) >= 5 and all(
         (root / name[1:]).exists() for name in places)
@@ -856,19 +784,16 @@ def packaged(program, own):
              for link in re.findall(r"\]\(([^)#:]+)[^):]*\)", page.read_text("utf-8"))]
     lost = [
         (page.name, link) for page, link in links if re.search(r"\.md$|/examples/", link) and
-        not re.search(r"\b(?:crates|rows|vectors)/", link) and not (page.parent / link).exists()
-    ]
+        not re.search(r"\b(?:crates|rows|vectors)/", link) and not (page.parent / link).exists()]
     print("".join("%s links to %s, which isn't packaged\n" % it for it in lost), end="")
     yield "pages find each other, and the examples", len(links) > 100 and not lost
     packed = library / "tools"
     helped = {
         path.stem: ran(sys.executable, packed / "run", path.stem, "--help").returncode
-        for path in packed.glob("*/operate/*.py") if "def main(" in path.read_text("ascii")
-    }
-    yield "its tools have what they need", len(helped) >= 9 and set(
-        helped.values()) <= {0, 2} and ran(
-            sys.executable, packed / "run", "check_script",
-            input=vehicle("V9") + "\n").returncode == 0
+        for path in packed.glob("*/operate/*.py") if "def main(" in path.read_text("ascii")}
+    yield "its tools have what they need", len(helped) >= 9 and set(helped.values()) <= {
+        0, 2} and ran(sys.executable, packed / "run", "check_script",
+                      input=vehicle("V9") + "\n").returncode == 0
     data = root / "var/lib/uptane"
     data.mkdir(parents=True)
     trials.printed(program, data / "desk.db", FOUNDING)
@@ -882,8 +807,7 @@ def packaged(program, own):
         if it.is_file() and "var/lib/dpkg" not in str(it))
     print(gone.stdout if left != ["var/lib/uptane/desk.db"] else "", end="")
     yield "removed, it leaves the data", gone.returncode == 0 and left in ([
-        "var/lib/uptane/desk.db"
-    ], ["var/lib/uptane/desk.db", "var/lib/uptane/desk.db-wal"])
+        "var/lib/uptane/desk.db"], ["var/lib/uptane/desk.db", "var/lib/uptane/desk.db-wal"])
     tree = own / "tree"
     laid = tool(*asked, "--tree", tree)
     yield "the same files without dpkg", laid.returncode == 0 and (
