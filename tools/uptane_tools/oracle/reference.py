@@ -762,6 +762,16 @@ def opened(path):
     return desk
 
 
+def cause_of(fault):
+    """Why a file can't be opened, in the product's words."""
+    told = str(fault)
+    if "locked" in told:
+        return "another program has it open"
+    if "unable to open" in told:
+        return "its path can't be opened or made"
+    return "it is damaged, or its disk fails"
+
+
 LABEL = ("reference.py: this is the reference in plain Python and not the product; nothing here is "
          "proved\n")
 
@@ -790,8 +800,8 @@ def main(words: arguments.Words = None) -> int:
     sys.stderr.write(LABEL)
     try:
         desk = opened(told.file)
-    except sqlite3.Error:
-        print("uptane_desk: cannot open the database", file=sys.stderr)
+    except sqlite3.Error as fault:
+        print("uptane_desk: cannot open the database: %s" % cause_of(fault), file=sys.stderr)
         return 3
     with closing(desk.db):
         if told.do == "run":

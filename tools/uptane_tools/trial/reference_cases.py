@@ -43,7 +43,7 @@ def asked():
         status, out, err = ran(*wrong)
         yield "no words of it: %s" % " ".join(wrong), (status, out) == (2,
                                                                         b"") and b"usage: " in err
-    cannot = LABEL + b"uptane_desk: cannot open the database\n"
+    cannot = LABEL + trials.UNOPENED["path"]
     yield "a file that can't be opened", ran("run", "/nowhere/desk") == (3, b"", cannot)
 
 
