@@ -100,6 +100,9 @@ def copies(program, own):
 OURS = "INSERT INTO meta VALUES (1, 'uptane_desk', %d, 0, 0, 0)"
 
 
+NEWER = ["schema %d's" % number for number in (4, 2**62)]
+
+
 def foreign(program, own):
     """Databases of others, and files that hold none, are refused and stay as they are."""
     made = {
@@ -125,19 +128,19 @@ def foreign(program, own):
         with closing(sqlite3.connect(path)) as db, db:
             for statement in sql:
                 db.execute(statement)
-        yield name + " is refused and stays", is_refused(program,
-                                                         path) and trials.faults(path) == []
+        causes = ["schema"] if name in NEWER else ["product", "damaged"]
+        stays = is_refused(program, path, causes) and trials.faults(path) == []
+        yield name + " is refused and stays", stays
     path = own / "text"
     path.write_bytes(b"no database\n")
-    yield "a text is refused and stays", is_refused(program, path)
+    yield "a text is refused and stays", is_refused(program, path, ["product", "damaged"])
 
 
-def is_refused(program, path):
+def is_refused(program, path, causes):
     before = path.read_bytes()
     status, out, err = trials.run(program, path, DAY[:1])
-    return (status,
-            out) == (3, b"") and err in (trials.UNOPENED["product"],
-                                         trials.UNOPENED["damaged"]) and path.read_bytes() == before
+    wanted = [trials.UNOPENED[cause] for cause in causes]
+    return (status, out) == (3, b"") and err in wanted and path.read_bytes() == before
 
 
 # ---- older schemas
