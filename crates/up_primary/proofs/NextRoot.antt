@@ -70,7 +70,7 @@ stays_in : (p : List ℕ → Bool) (x : List ℕ) (xs : List (List ℕ)) → p x
 stays_in p x xs passes h = any_of_filter p (bytes_eq x) x xs passes (bytes_eq-refl x) h
 
 -- each old key is: it is one of the new keys, or one of those that aren't
-among_old : (own old some : List (List ℕ)) → list_all (λ s. list_any (bytes_eq s) old) some ≡ true
+pub among_old : (own old some : List (List ℕ)) → list_all (λ s. list_any (bytes_eq s) old) some ≡ true
     → list_all (λ s. list_any (bytes_eq s) (own ++ filter (λ secret. not (list_any (bytes_eq secret) own)) old)) some ≡ true
 among_old own old some h = all_weaker (λ s. list_any (bytes_eq s) old) _ (λ s g. by_test s (list_any (bytes_eq s) own) refl g) some h
   where

@@ -1,6 +1,6 @@
 -- What a new reply offers fits the ECUs, and is newer than what they report.
-use Rattle.std.proofs.Common.{◌≡◌, ℕ, ◌+◌, ◌<◌, List, [], ◌∷◌, ◌++◌, Bool, true, false, cond, Option, Some, None, Result, Ok, Err, length, refl, sym, ap, ◌∙◌, subst, arith, length-append}
-use Rattle.std.specs.Prelude.{◌&&◌, IsTrue, map, filter_map, find, option_map, unwrap_or, bytes_eq}
+use Rattle.std.proofs.Common.{◌≡◌, ℕ, ◌+◌, List, [], ◌∷◌, ◌++◌, true, Option, Some, None, Result, Ok, Err, length, refl, sym, ap, ◌∙◌, subst, arith, length-append}
+use Rattle.std.specs.Prelude.{filter_map, find, option_map, unwrap_or, bytes_eq}
 use Rattle.std.specs.List.{All, AllByRecursion, Contains, cons_option}
 use Rattle.std.specs.FinMap as table
 use Rattle.std.specs.Cmp.Lexicographic.{bytes_decides}
@@ -15,9 +15,9 @@ use Rattle.up_plan.specs.declared.assigned.Assigned.{Assigned}
 use Rattle.up_plan.specs.declared.assigned.Fitted.{Fitted}
 use Rattle.up_plan.specs.Images.{ImageData}
 use Rattle.up_plan.specs.Laws.{AssignedIsDue, IsUpdate}
-use Rattle.up_plan.specs.Planning.{is_for, is_reported, level, plan_of, registered}
+use Rattle.up_plan.specs.Planning.{is_for, is_reported, level, plan_of}
 use Rattle.up_metadata.proofs.Lists.{and_left}
-use Rattle.up_metadata.specs.Files.{Root, targets_file, role_texts}
+use Rattle.up_metadata.specs.Files.{targets_file, role_texts}
 use Rattle.up_machine.specs.declared.answer.Answer.TheVariants.{Reply as Replied}
 use Rattle.up_machine.specs.declared.answer.Reply.{Reply}
 use Rattle.up_machine.specs.declared.command.Command.TheVariants.{Deliver}
@@ -26,12 +26,12 @@ use Rattle.up_machine.specs.Deciding.{Outcome}
 use Rattle.up_machine.specs.Deliveries.{Received, fitted, plan_in, entry_of, with_entry, accepted}
 use Rattle.up_machine.specs.Files.{target_of}
 use Rattle.up_machine.specs.Laws.{FitsItsEcu, AssignedFitTheirEcus}
-use Rattle.up_machine.specs.Machine.{Timed, decide, outcome_of, step, run}
-use Rattle.up_machine.specs.Replies.{assigned_target, reply_metadata, reply_to}
+use Rattle.up_machine.specs.Machine.{decide, outcome_of, step, run}
+use Rattle.up_machine.specs.Replies.{assigned_target, reply_metadata}
 use Rattle.up_machine.specs.SignedLaws.{HasSignedFiles, RepliesAreSigned}
 use Rattle.up_machine.specs.Sound.{IsSound}
 use Rattle.up_machine.specs.Vehicles.{ecu_names}
-use Rattle.up_machine.specs.State.{Entry, Vehicle, State, empty_state, nth, report_of, version}
+use Rattle.up_machine.specs.State.{Vehicle, State, empty_state, nth, report_of, version}
 use Rattle.up_machine.proofs.Decided.{IsDelivered, delivery_ok}
 use Rattle.up_machine.proofs.DistinctNames.{Distinct, distinct}
 use Rattle.up_machine.proofs.Installing.{found_is}

@@ -6,3 +6,4 @@ pub mod Versions
 pub mod Offers
 pub mod Rotations
 pub mod Fitting
+pub mod Verifying

@@ -1,22 +1,19 @@
 -- What a reply offers, the Image repository lists.
-use Rattle.std.proofs.Common.{◌≡◌, ℕ, ◌+◌, ◌-◌, ◌<◌, ◌≤◌, List, [], ◌∷◌, Option, Some, None, Ok, length, refl, sym, ap, ◌∙◌, subst, arith}
-use Rattle.std.specs.Prelude.{map, filter_map, option_map, option_and_then}
-use Rattle.std.specs.List.{All, AllByRecursion, Contains, cons_option}
+use Rattle.std.proofs.Common.{◌≡◌, ℕ, List, [], ◌∷◌, Option, Some, None, length, refl, subst, arith}
+use Rattle.std.specs.Prelude.{map, filter_map, option_map}
+use Rattle.std.specs.List.{AllByRecursion, Contains, cons_option}
 use Rattle.std.specs.FinMap as table
 use Rattle.std.proofs.lemmas.List.Elements.{All-contains_itself, All-from_recursion, recursion_from_All}
 use Rattle.up_canon.specs.Names.{Name}
-use Rattle.up_canon.proofs.Steps.{and_then_some, map_some, one_value}
+use Rattle.up_canon.proofs.Steps.{and_then_some, map_some}
 use Rattle.up_sign.specs.Schemes.{Rules, IsScheme}
-use Rattle.up_sign.specs.declared.envelope.Envelope.{Envelope}
-use Rattle.up_roles.specs.declared.targets.Target.{Target}
 use Rattle.up_plan.specs.declared.assigned.Assigned.{Assigned}
 use Rattle.up_plan.specs.Images.{ImageData}
 use Rattle.up_metadata.specs.Files.{Root, targets_file, targets_text, role_texts}
-use Rattle.up_machine.specs.declared.answer.Reply.{Reply}
 use Rattle.up_machine.specs.Files.{image_metadata, target_of}
 use Rattle.up_machine.specs.Laws.{IsLater}
 use Rattle.up_machine.specs.Machine.{run}
-use Rattle.up_machine.specs.Replies.{assigned_target, reply_metadata, reply_text, reply_to, kept_reply}
+use Rattle.up_machine.specs.Replies.{assigned_target, reply_metadata, reply_to}
 use Rattle.up_machine.specs.SignedLaws.{HasSignedFiles, RepliesAreSigned}
 use Rattle.up_machine.specs.State.{Entry, Vehicle, State, empty_state, nth, root_at}
 use Rattle.up_machine.proofs.Growing.{grow_on}
@@ -25,7 +22,7 @@ use Rattle.up_laws.specs.Readings.{RepliesAreReadAgain}
 use Rattle.up_primary.specs.Laws.{ImageFilesAreReadAgain}
 use Rattle.up_primary.proofs.ManyRoots.{number_within}
 use Rattle.up_primary.proofs.Serving.{from_one}
-use Rattle.up_uptane.specs.Offers.{IsSameImage, IsListed, IsOffered, RepliesOfferWhatIsListed}
+use Rattle.up_uptane.specs.Offers.{IsListed, IsOffered, RepliesOfferWhatIsListed}
 use Rattle.up_uptane.proofs.Published.{still_founded, targets_at}
 use Rattle.up_uptane.proofs.Reaching.{Reaching, Reached, reach, further}
 use Rattle.up_uptane.proofs.Versions.{numbered}

@@ -1,5 +1,5 @@
 -- The files of the Image repository by their names, and what of a state they depend on.
-use Rattle.std.proofs.Common.{◌≡◌, ℕ, ◌+◌, ◌<◌, ◌≤◌, List, [], ◌∷◌, ◌++◌, Bool, true, false, cond, Option, Some, None, length, map, get_or, inl, inr, Ok, refl, sym, ap, ◌∙◌, subst, arith, length-append}
+use Rattle.std.proofs.Common.{◌≡◌, ℕ, ◌+◌, ◌<◌, List, [], ◌∷◌, ◌++◌, Bool, true, false, cond, Option, Some, None, length, map, get_or, inl, inr, Ok, refl, sym, ap, ◌∙◌, subst, arith, length-append}
 use Rattle.std.specs.Prelude.{◌⊎◌, bytes_eq, find, option_map, option_to_list, codes, decimal}
 use Rattle.std.specs.List.{AllByRecursion, enumerate_from}
 use Rattle.std.specs.Cmp.Lexicographic.{bytes_decides}
@@ -7,8 +7,7 @@ use Rattle.up_canon.specs.Names.{Name, Table}
 use Rattle.up_sign.specs.Schemes.{Rules}
 use Rattle.up_roles.specs.declared.repository.Repository.TheVariants.{Image}
 use Rattle.up_plan.specs.Images.{ImageData}
-use Rattle.up_metadata.specs.declared.role_files.RoleTexts.{RoleTexts}
-use Rattle.up_metadata.specs.Files.{Root, MetadataSet, role_texts}
+use Rattle.up_metadata.specs.Files.{Root, role_texts}
 use Rattle.up_machine.specs.declared.command.Command.{Command}
 use Rattle.up_machine.specs.declared.command.Command.TheVariants.{Found, Rotate, AddImage, Refresh, AddVehicle, ReplaceEcu, OpenCampaign, CloseCampaign, Deliver, Fetch}
 use Rattle.up_machine.specs.Deciding.{Outcome, already}

@@ -1,7 +1,6 @@
 -- What holds of every state that commands reach from nothing.
 use Rattle.std.proofs.Common.{List}
 use Rattle.std.specs.Prelude.{IsTrue}
-use Rattle.std.specs.List.{AllByRecursion}
 use Rattle.up_sign.specs.Schemes.{Rules}
 use Rattle.up_metadata.proofs.Lists.{each_weaker}
 use Rattle.up_machine.specs.Commands.{is_command}

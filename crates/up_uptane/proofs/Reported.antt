@@ -11,19 +11,18 @@ use Rattle.up_sign.specs.Envelopes.{is_accepted}
 use Rattle.up_sign.specs.Schemes.{Rules}
 use Rattle.up_sign.specs.declared.envelope.Envelope.{Envelope}
 use Rattle.up_manifest.specs.declared.report.SignedReport.{SignedReport}
-use Rattle.up_metadata.proofs.Lists.{each_weaker, each_passes}
+use Rattle.up_metadata.proofs.Lists.{each_weaker}
 use Rattle.up_machine.specs.declared.answer.Answer.TheVariants.{Reply as Replied}
 use Rattle.up_machine.specs.declared.answer.Reply.{Reply}
 use Rattle.up_machine.specs.declared.command.Command.TheVariants.{Deliver}
 use Rattle.up_machine.specs.declared.vehicle.NewEcu.{NewEcu}
 use Rattle.up_machine.specs.Deciding.{Outcome}
-use Rattle.up_machine.specs.Deliveries.{Received, is_signed_by, receive, report_name, report_names, check_reports, check_new, accepted}
+use Rattle.up_machine.specs.Deliveries.{Received, is_signed_by, receive, report_name, report_names, check_reports, check_new}
 use Rattle.up_machine.specs.Laws.{EmptyIsSound, RunsStaySound}
 use Rattle.up_machine.specs.Machine.{decide, outcome_of, step, run}
 use Rattle.up_machine.specs.Sound.{IsSound, IsSoundVehicle}
 use Rattle.up_machine.specs.State.{State, empty_state}
 use Rattle.up_machine.specs.Vehicles.{has_ecu, ecu_in, ecu_names}
-use Rattle.up_machine.proofs.Accepting.{checked}
 use Rattle.up_machine.proofs.Decided.{IsDelivered, delivery_ok}
 use Rattle.up_machine.proofs.DistinctNames.{Distinct, distinct, swapped}
 use Rattle.up_machine.proofs.Installing.{found_is}

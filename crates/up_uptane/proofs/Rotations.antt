@@ -1,5 +1,5 @@
 -- What a rotation of keys comes to.
-use Rattle.std.proofs.Common.{◌≡◌, ℕ, ◌+◌, ◌-◌, ◌<◌, ◌≤◌, List, [], ◌∷◌, ◌++◌, Bool, true, false, cond, not, Option, Some, None, Result, Ok, Err, inl, inr, length, refl, sym, ap, ◌∙◌, subst, arith, length-append}
+use Rattle.std.proofs.Common.{◌≡◌, ℕ, ◌+◌, ◌-◌, ◌<◌, ◌≤◌, List, [], ◌∷◌, ◌++◌, Bool, true, false, cond, Option, Some, None, Result, Ok, Err, inl, inr, length, refl, sym, ap, ◌∙◌, subst, arith, length-append}
 use Rattle.std.specs.Prelude.{◌⊎◌, ◌||◌, filter, bytes_eq, unwrap_or, option_map, nat_le, codes}
 use Rattle.std.specs.List.{list_any}
 use Rattle.std.proofs.lemmas.Bool.{or_parts, leb-true}
@@ -17,14 +17,14 @@ use Rattle.up_roles.specs.Timestamp.{timestamp_payload, timestamp_text_of}
 use Rattle.up_metadata.specs.declared.keys.KeySet.{KeySet}
 use Rattle.up_metadata.specs.declared.keys.RepoKeys.{RepoKeys}
 use Rattle.up_metadata.specs.Files.{Root, keys_of, root_file, root_secrets, root_signers, root_text, MetadataSet, targets_file, targets_text, snapshot_file, snapshot_text, timestamp_file, timestamp_text, role_texts}
-use Rattle.up_machine.specs.declared.answer.Answer.TheVariants.{Done, Refused, Reply as Replied}
+use Rattle.up_machine.specs.declared.answer.Answer.TheVariants.{Done, Reply as Replied}
 use Rattle.up_machine.specs.declared.answer.Reply.{Reply}
 use Rattle.up_machine.specs.declared.command.Command.TheVariants.{Deliver, Rotate}
 use Rattle.up_machine.specs.Deciding.{Outcome}
 use Rattle.up_machine.specs.Deliveries.{Received, entry_of}
 use Rattle.up_machine.specs.Files.{file, image_metadata, numbered_root_name, root_text_at}
 use Rattle.up_machine.specs.Laws.{IsLater, EmptyIsSound, RunsStaySound}
-use Rattle.up_machine.specs.Machine.{Timed, decide, outcome_of, step, run}
+use Rattle.up_machine.specs.Machine.{decide, outcome_of, step, run}
 use Rattle.up_machine.specs.Replies.{reply_metadata, reply_json, reply_text}
 use Rattle.up_machine.specs.Repositories.{stamped, with_root}
 use Rattle.up_machine.specs.SignedLaws.{IsRootText, IsImageText, IsServedText, ServedFilesAreKnown}
@@ -38,7 +38,6 @@ use Rattle.up_primary.specs.Following.{all_secrets}
 use Rattle.up_primary.specs.Laws.{RootsAreFetched}
 use Rattle.up_primary.proofs.ManyRoots.{number_within}
 use Rattle.up_primary.proofs.Runs.{root_stays}
-use Rattle.up_uptane.specs.Deliveries.{AreCommands}
 use Rattle.up_uptane.specs.Rotations.{IsSealedBy, IsSealedWithout, IsLeftOut, IsPublished, IsRotated, RotationsLeaveOut, IsSealedByLast, NewRepliesAreOfTheLastRoot}
 use Rattle.up_uptane.proofs.Deliveries.{reply_of}
 use Rattle.up_uptane.proofs.Versions.{numbered}

@@ -1,34 +1,32 @@
 -- Versions of what is published never fall.
-use Rattle.std.proofs.Common.{◌≡◌, ℕ, zero, suc, ◌+◌, ◌-◌, ◌<◌, ◌≤◌, List, [], ◌∷◌, Option, Some, None, Ok, inl, inr, length, refl, sym, ap, ◌∙◌, subst, arith, length-append}
-use Rattle.std.specs.Prelude.{slice_get, option_map, option_and_then, Result, codes}
+use Rattle.std.proofs.Common.{◌≡◌, ℕ, zero, suc, ◌-◌, ◌<◌, ◌≤◌, List, [], ◌∷◌, Option, Some, Ok, inl, inr, length, refl, sym, ap, ◌∙◌, subst, arith, length-append}
+use Rattle.std.specs.Prelude.{slice_get, option_map, Result}
 use Rattle.std.specs.FinMap as table
 use Rattle.up_canon.specs.Names.{Name}
 use Rattle.up_canon.specs.declared.refusal.Refusal.{Refusal}
 use Rattle.up_canon.proofs.Steps.{and_then_some, map_some, one_value}
-use Rattle.up_sign.specs.Schemes.{Rules, IsScheme}
+use Rattle.up_sign.specs.Schemes.{Rules}
 use Rattle.up_sign.specs.declared.envelope.Envelope.{Envelope}
-use Rattle.up_roles.specs.declared.repository.Repository.{Repository}
 use Rattle.up_metadata.specs.Files.{Root, root_text, MetadataSet, targets_file, targets_text, snapshot_file, snapshot_text, timestamp_file, timestamp_text}
 use Rattle.up_machine.specs.declared.answer.Answer.TheVariants.{Refused, Reply as Replied}
 use Rattle.up_machine.specs.declared.answer.Reply.{Reply}
 use Rattle.up_machine.specs.declared.command.Command.TheVariants.{Deliver}
 use Rattle.up_machine.specs.Deciding.{Outcome}
-use Rattle.up_machine.specs.Files.{file, image_metadata, numbered_root_name, root_text_at}
+use Rattle.up_machine.specs.Files.{image_metadata, root_text_at}
 use Rattle.up_machine.specs.Laws.{IsLater, KeptRepliesOutlastRuns, EmptyIsSound, RunsStaySound}
-use Rattle.up_machine.specs.Machine.{Timed, step, run}
+use Rattle.up_machine.specs.Machine.{step, run}
 use Rattle.up_machine.specs.Replies.{reply_to, kept_reply}
-use Rattle.up_machine.specs.Sound.{IsSound}
 use Rattle.up_machine.specs.State.{Vehicle, State, empty_state, nth, root_at}
 use Rattle.up_machine.proofs.Growing.{grow_on}
 use Rattle.up_machine.proofs.Places.{nth-append, nth_at_place}
 use Rattle.up_laws.specs.Readings.{AreReadAgain}
-use Rattle.up_primary.specs.Laws.{AreGiven, ImageFilesAreReadAgain, RootsAreFetched}
+use Rattle.up_primary.specs.Laws.{ImageFilesAreReadAgain, RootsAreFetched}
 use Rattle.up_primary.proofs.ManyRoots.{number_within}
 use Rattle.up_primary.proofs.Runs.{root_stays}
-use Rattle.up_uptane.specs.Deliveries.{AreCommands, IsAccepted, DeliveriesChangeTheirOwn}
-use Rattle.up_uptane.specs.Versions.{NeverFalls, FileNeverFalls, ImageNeverFalls, ImageVersionsNeverFall, RootsStay, RootVersionsNeverFall, RepliesRise, RepliesStayKept}
-use Rattle.up_uptane.proofs.Published.{SameImages, Moves, moves, still_founded, same_metadata, targets_at, snapshot_at, timestamp_at}
-use Rattle.up_uptane.proofs.Reaching.{Reaching, Reached, reach, further, commands_of}
+use Rattle.up_uptane.specs.Deliveries.{IsAccepted, DeliveriesChangeTheirOwn}
+use Rattle.up_uptane.specs.Versions.{NeverFalls, ImageNeverFalls, ImageVersionsNeverFall, RootVersionsNeverFall, RepliesRise, RepliesStayKept}
+use Rattle.up_uptane.proofs.Published.{Moves, moves, still_founded, same_metadata, targets_at, snapshot_at, timestamp_at}
+use Rattle.up_uptane.proofs.Reaching.{Reaching, reach, further}
 
 -- ---- Root versions
 

@@ -14,7 +14,6 @@ use Rattle.up_machine.specs.declared.answer.Reply.{Reply}
 use Rattle.up_machine.specs.declared.command.Command.TheVariants.{Deliver}
 use Rattle.up_machine.specs.declared.vehicle.NewEcu.{NewEcu}
 use Rattle.up_machine.specs.Commands.{is_command}
-use Rattle.up_machine.specs.Deciding.{Outcome}
 use Rattle.up_machine.specs.Machine.{Timed, step, run}
 use Rattle.up_machine.specs.Replies.{kept_reply}
 use Rattle.up_machine.specs.State.{Entry, Vehicle, State, empty_state, version, last_counter}

@@ -3,3 +3,4 @@ pub mod Versions
 pub mod Offers
 pub mod Rotations
 pub mod Fitting
+pub mod Verifying

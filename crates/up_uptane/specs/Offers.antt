@@ -1,7 +1,6 @@
 -- What the Director offers is what the Image repository has.
-use Rattle.std.specs.Prelude.{◌≡◌, ℕ, ◌<◌, List, Some, IsTrue, Ok, codes}
+use Rattle.std.specs.Prelude.{◌≡◌, ℕ, List, Some, Ok, codes}
 use Rattle.std.specs.List.{All, Contains}
-use Rattle.std.specs.FinMap as table
 use Rattle.up_canon.specs.Names.{Name}
 use Rattle.up_sign.specs.Schemes.{Rules, IsScheme}
 use Rattle.up_sign.specs.declared.envelope.Envelope.{Envelope}

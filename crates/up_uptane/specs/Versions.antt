@@ -1,5 +1,5 @@
 -- Versions of what is published never fall, and each version is one text.
-use Rattle.std.specs.Prelude.{◌≡◌, ℕ, ◌<◌, ◌≤◌, List, Some, IsSome, Result, Ok, length, codes}
+use Rattle.std.specs.Prelude.{◌≡◌, ℕ, ◌<◌, ◌≤◌, List, Some, Result, Ok, length, codes}
 use Rattle.up_canon.specs.Names.{Name}
 use Rattle.up_canon.specs.declared.refusal.Refusal.{Refusal}
 use Rattle.up_sign.specs.Schemes.{Rules, IsScheme}

@@ -3,14 +3,18 @@ ghost use Rattle.up_uptane.specs.Deliveries.{DeliveriesChangeTheirOwn, RepliesAr
 ghost use Rattle.up_uptane.specs.Fitting.{NewRepliesFit};
 ghost use Rattle.up_uptane.specs.Offers.{RepliesOfferWhatIsListed};
 ghost use Rattle.up_uptane.specs.Rotations.{RotationsLeaveOut, NewRepliesAreOfTheLastRoot};
+ghost use Rattle.up_uptane.specs.Verifying.{RootsVerify, FilesVerify, RepliesVerify};
 ghost use Rattle.up_uptane.specs.Versions.{ImageVersionsNeverFall, RootVersionsNeverFall, RepliesRise, RepliesStayKept};
 
+use up_canon::moment::moment_laws;
 use up_laws::laws::{plans_name_ecus_once, replies_are_read_again, states_stay_typed};
 use up_machine::laws::{
     assigned_images_fit, files_are_signed, kept_replies_stay, states_stay_sound,
 };
 use up_plan::laws::assigned_is_due;
 use up_primary::laws::{files_are_read_again, roots_are_fetched};
+use up_roles::laws::role_laws;
+use up_sign::laws::envelope_laws;
 
 /// A delivery that is refused changes nothing. One that is answered a reply adds one manifest to its own vehicle, raises that vehicle's
 /// version by one and changes nothing else; and the reply is kept under its version.
@@ -87,4 +91,24 @@ pub fn rotations_leave_keys_out()
     states_stay_sound();
     files_are_signed();
     roots_are_fetched();
+}
+
+/// Every published file is read again as what it is. Enough of the root keys that a Root gives have signed it and the Root of the next
+/// number, from the first Root to the last. Enough keys of its role in the last Root have signed every other file; and those in a kept
+/// reply, enough of that role in the Director's Root that the reply names.
+pub fn published_files_verify()
+    ensures roots { RootsVerify }
+    ensures files { FilesVerify }
+    ensures replies { RepliesVerify }
+{
+    moment_laws();
+    envelope_laws();
+    role_laws();
+    states_stay_sound();
+    states_stay_typed();
+    plans_name_ecus_once();
+    files_are_signed();
+    replies_are_read_again();
+    roots_are_fetched();
+    files_are_read_again();
 }
