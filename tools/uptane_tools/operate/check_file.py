@@ -29,6 +29,8 @@ import tempfile
 from contextlib import closing, contextmanager
 from pathlib import Path
 
+from typing import Any, Iterable, Iterator
+
 from uptane_tools import arguments
 from uptane_tools.operate import fleet_tables
 from uptane_tools.operate.statements import LACKS, made
@@ -41,13 +43,16 @@ TOKEN = re.compile(
     r"""--[^\n]*|/\*.*?\*/|\s+|("(?:[^"]|"")*"|`(?:[^`]|``)*`|\[[^\]]*\]|'(?:[^']|'')*'|\w+|.)""",
     re.DOTALL)
 
+# each thing's table and the words of its statement, by kind and name
+Things = dict[tuple[str, str], tuple[str, list[str]]]
+
 
 class Other(Exception):
     """The file is no database of this product."""
 
 
 @contextmanager
-def opened(path):
+def opened(path: Path) -> Iterator[sqlite3.Connection]:
     """A connection that reads the file and changes nothing, nor leaves anything beside it."""
     if Path(str(path) + "-journal").exists():
         with tempfile.TemporaryDirectory() as folder:
@@ -63,12 +68,12 @@ def opened(path):
             yield db
 
 
-def tokens(sql):
+def tokens(sql: str) -> list[str]:
     """The words of a statement, however it is laid out: without blanks, comments and the quotes
     of names, in lower case but for texts.
     """
-    found = []
-    for word in filter(None, TOKEN.findall(sql)):
+    found: list[str] = []
+    for word in (it for it in TOKEN.findall(sql) if it):
         if word[0] == "'":
             found.append(word)
         elif word[0] in '"`[':
@@ -78,7 +83,7 @@ def tokens(sql):
     return found
 
 
-def listed(db):
+def listed(db: sqlite3.Connection) -> Things:
     """What SQLite keeps as the file's own: each thing's kind and name, with the table that it is
     on and the words of its statement.
     """
@@ -87,7 +92,7 @@ def listed(db):
         (kind, name.lower()): (table.lower(), tokens(sql or "")) for kind, name, table, sql in rows}
 
 
-def parts(db, table):
+def parts(db: sqlite3.Connection, table: str) -> dict[tuple[str, str], Any]:
     """A table's columns, keys and references, each with what there is to say of it."""
     columns = db.execute("PRAGMA table_xinfo(%s)" % table).fetchall()
     said = {("column", name.lower()): (kind.upper(), bool(not_null), default, key, hidden)
@@ -103,7 +108,7 @@ def parts(db, table):
     return said
 
 
-def named(db, here):
+def named(db: sqlite3.Connection, here: Things) -> tuple[int | None, list[str]]:
     """The schema that `meta` names, none where it names none, and what is amiss with its row."""
     if not here:
         raise Other("it has no tables")
@@ -122,7 +127,8 @@ def named(db, here):
     return schema, ["meta: its id is %r and not 1" % number] * (number != 1)
 
 
-def differences(db, wanted, table, statement):
+def differences(db: sqlite3.Connection, wanted: sqlite3.Connection, table: str,
+                statement: list[str]) -> list[str]:
     """What of a table is too much, missing or different; its statement where nothing else tells."""
     here, there = parts(db, table), parts(wanted, table)
     found = ["the %s %s is missing" % it for it in there if it not in here]
@@ -133,7 +139,7 @@ def differences(db, wanted, table, statement):
         for it in found or ["it is made by other words: " + " ".join(statement)]]
 
 
-def compared(db, here, number):
+def compared(db: sqlite3.Connection, here: Things, number: int) -> list[str]:
     """What of the file's own is too much, missing or different beside a schema."""
     with closing(sqlite3.connect(":memory:")) as wanted:
         there, found = listed(made(wanted, number)), []
@@ -152,11 +158,11 @@ def compared(db, here, number):
     return found
 
 
-def ordered(things):
+def ordered(things: Iterable[tuple[str, str]]) -> list[tuple[str, str]]:
     return sorted(things, key=lambda it: (KINDS.index(it[0]), it[1]))
 
 
-def amiss(path):
+def amiss(path: Path) -> list[str]:
     """A line for each thing that is too much, missing or different in a file."""
     if not path.is_file():
         raise OSError("%s is no file" % path)
@@ -168,10 +174,10 @@ def amiss(path):
         number, found = named(db, here)
         return found + min(
             (compared(db, here, it)
-             for it in [number] * bool(number) or sorted(LACKS, reverse=True)), key=len)
+             for it in ([number] if number else sorted(LACKS, reverse=True))), key=len)
 
 
-def told(path, front):
+def told(path: str, front: str) -> int:
     """The status of a file, whose lines are printed."""
     try:
         found = amiss(Path(path))

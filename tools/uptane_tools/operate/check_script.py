@@ -32,10 +32,12 @@ import sys
 import time
 from pathlib import Path
 
+from typing import Any, Iterable, Iterator
+
 from uptane_tools import TOP, arguments
 from uptane_tools.operate.formats import (COUNT, FILE, HASH, IDENT, KEY, LAST_AT, LAST_MOMENT, LIST,
                                           MOST, NOTE, OBJECT, REPOSITORIES, ROLES, SECOND_HASH,
-                                          is_count, value_of)
+                                          Named, Test, is_count, value_of)
 
 PAGE = TOP / "docs" / "integrate" / "FORMATS.md"
 LONGEST, MOST_LINES, DAY = 2_097_152, 100_000, 86400
@@ -48,21 +50,21 @@ A_COUNT = "a whole number from 0 to 2^53-1"
 A_KEY = "a key of 32 bytes, 64 hexadecimal digits"
 
 
-def is_key(value):
+def is_key(value: Any) -> bool:
     return KEY(value) and len(value) == 64
 
 
-def sized(holds, least, most):
+def sized(holds: Test, least: int, most: int) -> Test:
     return lambda value: LIST(value) and least <= len(value) <= most and all(map(holds, value))
 
 
-def distinct(values):
+def distinct(values: list) -> bool:
     return len(set(values)) == len(values)
 
 
 # What each member holds: a test, and what is said where it fails. One that another word has in
 # another sense stands with that word.
-KINDS = {
+KINDS: dict[str, tuple[Test, str]] = {
     "at": (COUNT, "the moment, in whole seconds since 1970"),
     "director": (OBJECT, "an object with root, targets, snapshot and timestamp"),
     "vehicle": (IDENT, A_NAME), "primary": (IDENT, A_NAME), "ecu": (IDENT, A_NAME), "old": (IDENT,
@@ -99,14 +101,14 @@ KINDS["image"] = KINDS["director"]
 OPTIONAL = {"needs", "conflicts", "attack", "sha512"}
 
 
-def listed():
+def listed() -> tuple[dict[str, list[str]], dict[str, list[str]]]:
     """The members of each word, and those of the objects in a list, as the page on formats lists
     them.
     """
     page = PAGE.read_text(encoding="ascii").split("\n## Scripts\n")[1].split("\n## ")[0]
     rows = re.findall(r"^\| (`.*?) \| (`.*?) \|$", page, re.MULTILINE)
 
-    def named(text):
+    def named(text: str) -> list[str]:
         return re.findall(r"`(\w+)`", text)
 
     words = {
@@ -124,19 +126,19 @@ WORDS, INNER = listed()
 class Line:
     """What is amiss in one line."""
 
-    def __init__(self):
-        self.found = []
+    def __init__(self) -> None:
+        self.found: list[str] = []
 
-    def fault(self, name, words):
+    def fault(self, name: str, words: str) -> None:
         self.found.append("fault: %s: %s" % (name, words))
 
-    def look(self, name, words):
+    def look(self, name: str, words: str) -> None:
         self.found.append("look: %s: %s" % (name, words))
 
-    def final(self, name, words):
+    def final(self, name: str, words: str) -> None:
         self.found.append("final: %s: %s" % (name, words))
 
-    def unknown(self, value, known, within=""):
+    def unknown(self, value: Named, known: Iterable[str], within: str = "") -> None:
         for name in value:
             if name not in known:
                 near = difflib.get_close_matches(name.lower(),
@@ -145,7 +147,7 @@ class Line:
                     name, "no such member%s; it is ignored" % within +
                     ("; is it %s?" % near[0] if near else ""))
 
-    def members(self, value, known, word, within=""):
+    def members(self, value: Named, known: Iterable[str], word: str, within: str = "") -> bool:
         """The members of an object, each by its kind. True where all are there and hold what
         they have to.
         """
@@ -161,14 +163,14 @@ class Line:
                 self.fault(name, words + within)
         return well
 
-    def inner(self, asked, known):
+    def inner(self, asked: Named, known: Iterable[str]) -> None:
         """The objects in a member that is a list of them."""
         for name in known:
             if name in INNER and isinstance(asked.get(name), list):
                 for number, one in enumerate(it for it in asked[name] if isinstance(it, dict)):
                     self.members(one, INNER[name], name, ", in %s[%d]" % (name, number))
 
-    def roles(self, asked):
+    def roles(self, asked: Named) -> None:
         """The keys of `found` and `rotate`."""
         every = []
         for repository in REPOSITORIES:
@@ -180,7 +182,7 @@ class Line:
         if not distinct(every):
             self.look("keys", "a key stands in two roles: whoever has it can sign for both")
 
-    def role(self, value, role, where):
+    def role(self, value: Named, role: str, where: str) -> list[str]:
         if not isinstance(value.get(role), dict):
             self.fault(role, "an object with keys and threshold, in " + where.split(".")[0])
             return []
@@ -191,7 +193,7 @@ class Line:
         return [key.lower() for key in told.get("keys", []) if isinstance(key, str)] if isinstance(
             told.get("keys"), list) else []
 
-    def together(self, asked):
+    def together(self, asked: Named) -> None:
         """What two members of a line say of one another."""
         ecus = [it["ecu"] for it in asked.get("ecus", []) if isinstance(it.get("ecu"), str)
                 ] if self.whole(asked, "ecus") else []
@@ -210,7 +212,7 @@ class Line:
                 asked.get("conflicts"), list) and asked.get("file") in asked["conflicts"]:
             self.fault("conflicts", "an image doesn't conflict with itself")
 
-    def last(self, asked):
+    def last(self, asked: Named) -> None:
         """What would be taken, and leaves nothing that comes after it."""
         word, ends = asked["do"], lambda value: is_count(value, MOST - LEFT + 1)
         if word == "refresh" and ends(asked.get("version")):
@@ -237,10 +239,10 @@ class Line:
                     "none is above it: the vehicle's next manifests would be stale for good")
 
     @staticmethod
-    def whole(asked, name):
+    def whole(asked: Named, name: str) -> bool:
         return isinstance(asked.get(name), list) and all(isinstance(it, dict) for it in asked[name])
 
-    def moment(self, at, before, now, far):
+    def moment(self, at: int, before: int | None, now: int, far: float) -> None:
         if at > LAST_AT:
             self.fault("at", "past 2100-01-01T00:00:00Z; the moment is in seconds")
         elif abs(at - now) > far:
@@ -252,11 +254,11 @@ class Line:
             self.look("at", "earlier than in a line before")
 
 
-def repeated(text):
+def repeated(text: bytes) -> list[str]:
     """The members that stand twice in an object of the text: the last one counts."""
     twice = []
 
-    def kept(pairs):
+    def kept(pairs: list[tuple[str, Any]]) -> Named:
         names = [name for name, _ in pairs]
         twice.extend(sorted({name for name in names if names.count(name) > 1}))
         return dict(pairs)
@@ -265,7 +267,7 @@ def repeated(text):
     return twice
 
 
-def checked(text, before, now, far):
+def checked(text: bytes, before: int | None, now: int, far: float) -> tuple[list[str], int | None]:
     """What is amiss in a line, and its moment where it has one."""
     line = Line()
     if len(text) > LONGEST:
@@ -298,7 +300,7 @@ def checked(text, before, now, far):
     return line.found, at
 
 
-def amiss(script, now, far=DAY):
+def amiss(script: bytes, now: int, far: float = DAY) -> Iterator[str]:
     """A line for each thing that is amiss in a script, given as bytes."""
     before = None
     lines = script.split(b"\n")

@@ -30,7 +30,7 @@ PATIENCE = 10
 CLONE = 0x40049409
 
 
-def has_open(pid, path):
+def has_open(pid: int, path: str) -> bool:
     """Whether the process has the file open."""
     wanted = os.stat(path)
     for link in Path("/proc/%d/fd" % pid).iterdir():
@@ -42,14 +42,14 @@ def has_open(pid, path):
     return False
 
 
-def is_stopped(pid):
+def is_stopped(pid: int) -> bool:
     """Whether all threads of the process stand still."""
     states = [(task / "stat").read_text().rpartition(")")[2].split()[0]
               for task in Path("/proc/%d/task" % pid).iterdir()]
     return set(states) == {"T"}
 
 
-def stop(pid):
+def stop(pid: int) -> None:
     """Stops the process, and waits until it stands still."""
     os.kill(pid, signal.SIGSTOP)
     until = time.monotonic() + PATIENCE
@@ -59,7 +59,7 @@ def stop(pid):
         time.sleep(0.001)
 
 
-def copied(path, to):
+def copied(path: str | Path, to: str | Path) -> bool:
     """Makes a new file of its owner alone: a clone where the filesystem can, else a copy.
     Whether it is a clone.
     """
@@ -73,7 +73,7 @@ def copied(path, to):
             return False
 
 
-def copy(pid, path, to):
+def copy(pid: int, path: str, to: str) -> tuple[bool, float]:
     """Copies both files while the process stands still. What was made is taken away again where
     it fails. Whether both are clones, and how many seconds it stood still.
     """
@@ -98,7 +98,7 @@ def copy(pid, path, to):
     return all(clones), time.monotonic() - begun
 
 
-def made(pid, path, to, one):
+def made(pid: int, path: str, to: str, one: bool) -> int:
     try:
         for name in (to, to + "-wal"):
             if os.path.lexists(name):

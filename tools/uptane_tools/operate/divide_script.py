@@ -29,25 +29,30 @@ import sys
 from collections import Counter
 from pathlib import Path
 
+from typing import Any, Iterator
+
 from uptane_tools import arguments
-from uptane_tools.operate.formats import canonical
+from uptane_tools.operate.formats import Named, canonical
 
 MOST_DESKS = 64
 BY_VEHICLE = {"add_vehicle", "replace_ecu", "bench", "show"}
 FOR_ALL = {"found", "rotate", "add_image", "refresh", "fetch"}
 THERE = ("done", "already")
 
+# the line of each desk that gets one, and what is taken once it is done
+Parted = tuple[dict[int, bytes], Named]
+
 
 class Wrong(Exception):
     """What can't be divided or joined."""
 
 
-def need(holds, words, *given):
+def need(holds: object, words: str, *given: object) -> None:
     if not holds:
         raise Wrong(words % given)
 
 
-def is_name(value):
+def is_name(value: Any) -> bool:
     return isinstance(value, str) and value != ""
 
 
@@ -56,13 +61,13 @@ def is_name(value):
 EMPTY = {"desks": 0, "vehicles": {}, "ecus": {}, "campaigns": {}}
 
 
-def kept(folder):
+def kept(folder: Path) -> Named:
     path = folder / "division.json"
     return json.loads(path.read_text(
         encoding="ascii")) if path.exists() else json.loads(json.dumps(EMPTY))
 
 
-def write(path, text):
+def write(path: Path, text: str | bytes) -> None:
     """Writes a file whole or not at all, for its owner alone."""
     new = path.with_name(path.name + ".new")
     with open(os.open(new, os.O_WRONLY | os.O_CREAT | os.O_TRUNC, 0o600), "wb") as file:
@@ -70,7 +75,7 @@ def write(path, text):
     os.replace(new, path)
 
 
-def script_of(folder, desk):
+def script_of(folder: Path, desk: int) -> Path:
     return folder / ("desk%d.script" % desk)
 
 
@@ -80,16 +85,17 @@ def script_of(folder, desk):
 class Division:
     """The lines of each desk, over what was divided before."""
 
-    def __init__(self, before, desks):
+    def __init__(self, before: Named, desks: int) -> None:
         self.desks, self.ecus = range(1, desks + 1), dict(before["ecus"])
         self.vehicles, self.campaigns, self.taken = dict(before["vehicles"]), dict(
             before["campaigns"]), before["campaigns"]
         self.load = Counter({desk: 0 for desk in self.desks})
         self.load.update(self.vehicles.values())
-        self.scripts = {desk: [] for desk in self.desks}
-        self.every, self.lines = [], []
+        self.scripts: dict[int, list[bytes]] = {desk: [] for desk in self.desks}
+        self.every: list[bytes] = []
+        self.lines: list[list[Any]] = []
 
-    def add(self, line):
+    def add(self, line: bytes) -> None:
         """Gives a line to its desks: to each as it is, or with its own vehicles."""
         try:
             asked = json.loads(line)
@@ -103,7 +109,7 @@ class Division:
             self.every.append(line)
         self.lines.append([sorted(parts), takes])
 
-    def parted(self, asked, line):
+    def parted(self, asked: Named, line: bytes) -> Parted:
         """The line of each desk that gets one, and what is taken once it is done."""
         word = asked.get("do") if isinstance(asked.get("do"), str) else None
         if word in FOR_ALL:
@@ -121,19 +127,19 @@ class Division:
             return {self.desk_of(delivered(asked)): line}, {}
         return {1: line}, {}
 
-    def desk_of(self, vehicle):
+    def desk_of(self, vehicle: Any) -> int:
         """The desk of a vehicle; of one that isn't there the first, which says so."""
         return self.vehicles.get(vehicle, 1) if is_name(vehicle) else 1
 
-    def of_vehicle(self, word, asked, line):
+    def of_vehicle(self, word: str, asked: Named, line: bytes) -> Parted:
         vehicle, desk, ecus = asked.get("vehicle"), self.desk_of(asked.get("vehicle")), []
         if word == "add_vehicle":
             ecus = [it.get("ecu") for it in asked.get("ecus") or [] if isinstance(it, dict)
                     ] if isinstance(asked.get("ecus"), list) else []
             ecus = list(filter(is_name, ecus))
             if is_name(vehicle) and vehicle not in self.vehicles:
-                desk = next((self.ecus[it] for it in ecus if it in self.ecus), None) or min(
-                    self.desks, key=lambda it: (self.load[it], it))
+                desk = next((self.ecus[it] for it in ecus if it in self.ecus),
+                            min(self.desks, key=lambda it: (self.load[it], it)))
                 self.vehicles[vehicle] = desk
                 self.load[desk] += 1
         elif word == "replace_ecu" and is_name(asked.get("ecu")):
@@ -146,7 +152,7 @@ class Division:
             self.ecus.setdefault(ecu, desk)
         return {desk: line}, taken if ecus else {}
 
-    def campaign(self, asked, line):
+    def campaign(self, asked: Named, line: bytes) -> Parted:
         """A campaign for all goes to all. Of one that names vehicles each desk gets its own, and
         none has the name but these.
         """
@@ -166,17 +172,17 @@ class Division:
                 "every": True, "campaign": name, "value": self.campaigns[name]}
         for vehicle in named:
             need(vehicle in self.vehicles, "%s is at no desk", vehicle)
-        parts = {}
+        owned: dict[int, list[str]] = {}
         for vehicle in named:
-            parts.setdefault(self.vehicles[vehicle], []).append(vehicle)
+            owned.setdefault(self.vehicles[vehicle], []).append(vehicle)
         parts = {
             desk: canonical(asked | {"vehicles": own}).encode("ascii")
-            for desk, own in sorted(parts.items())} or {1: line}
+            for desk, own in sorted(owned.items())} or {1: line}
         self.campaigns[name] = [sorted(parts), whole]
         return parts, {"campaign": name, "value": self.campaigns[name]}
 
 
-def delivered(asked):
+def delivered(asked: Named) -> Any:
     """The vehicle that a body names."""
     try:
         return json.loads(asked["body"])["signed"]["vehicle"]
@@ -184,7 +190,7 @@ def delivered(asked):
         return None
 
 
-def divide(folder, desks, given):
+def divide(folder: Path, desks: int, given: bytes) -> None:
     """Writes the script of each desk, and what `--join` needs."""
     need(not (folder / "pending.json").exists(),
          "the last script isn't joined yet: give it to the desks, and join their answers")
@@ -215,7 +221,7 @@ def divide(folder, desks, given):
 # ---- joining
 
 
-def answers_of(folder, desk, lead, number):
+def answers_of(folder: Path, desk: int, lead: int, number: int) -> list[str]:
     path = folder / ("desk%d.answers" % desk)
     told = path.read_text(encoding="ascii").split("\n")[:-1] if path.exists() else []
     need(
@@ -224,7 +230,7 @@ def answers_of(folder, desk, lead, number):
     return told[lead:]
 
 
-def joined(folder, pending):
+def joined(folder: Path, pending: Named) -> Iterator[tuple[dict[int, str], Named]]:
     """The answers to each line, by desk."""
     counts = Counter(desk for desks, _ in pending["lines"] for desk in desks)
     told = {
@@ -234,7 +240,7 @@ def joined(folder, pending):
         yield {desk: next(told[desk]) for desk in desks}, takes
 
 
-def keep(state, takes):
+def keep(state: Named, takes: Named) -> None:
     """What a line that is done takes for good."""
     if "campaign" in takes:
         state["campaigns"][takes["campaign"]] = takes["value"]
@@ -244,7 +250,7 @@ def keep(state, takes):
         state["ecus"].setdefault(ecu, takes["desk"])
 
 
-def join(folder):
+def join(folder: Path) -> bool:
     """Prints the answers, and keeps what they say is taken; whether the desks agree on each line.
     """
     path = folder / "pending.json"

@@ -24,10 +24,14 @@ import time
 from datetime import datetime, timezone
 from pathlib import Path
 
+from typing import Iterator
+
 from uptane_tools import arguments
 from uptane_tools.operate import fleet_tables
-from uptane_tools.operate.fleet_tables import DAY, IMAGES, ROOTS, WEEK
+from uptane_tools.operate.fleet_tables import DAY, IMAGES, ROOTS, WEEK, Images
+from uptane_tools.operate.formats import Named
 
+Rows = Iterator[tuple]
 # rows of a table that are shown at once, at the top of the page; so few more are shown, too
 SHOWN, FEW = 10, 5
 # points of a line over time
@@ -38,7 +42,7 @@ STYLE = Path(__file__).resolve().parent / "fleet_page.css"
 # ---- what the copies tell, as one fleet
 
 
-def desk_of(name, path, now):
+def desk_of(name: str, path: Path, now: int) -> Named:
     """What one copy tells."""
     with fleet_tables.opened(path) as db:
         meta = fleet_tables.meta_of(db)
@@ -49,7 +53,7 @@ def desk_of(name, path, now):
         for it in campaigns:
             its = vehicles if it["all"] else [by_name[one] for one in it.pop("reached")]
             it["moments"] = fleet_tables.taken_up(db, it, images, its) if it["running"] else []
-        made = {
+        made: Named = {
             "name": name, "meta": dict(meta), "images": images, "vehicles": [
                 it | {"desk": name} for it in vehicles]}
         made |= {
@@ -64,9 +68,9 @@ def desk_of(name, path, now):
 SUMS = ("vehicles", "ecus", "done", "left", "withheld", "moments")
 
 
-def campaigns_of(desks):
+def campaigns_of(desks: list[Named]) -> list[Named]:
     """A campaign of several desks is one."""
-    made = {}
+    made: dict[str, Named] = {}
     for desk in desks:
         for it in desk["campaigns"]:
             whole = made.setdefault(it["name"],
@@ -82,30 +86,31 @@ def campaigns_of(desks):
 # ---- parts of the page
 
 
-def moment(seconds):
+def moment(seconds: int) -> str:
     return datetime.fromtimestamp(seconds, timezone.utc).strftime("%Y-%m-%d %H:%M")
 
 
-def date(seconds):
+def date(seconds: int) -> str:
     return '<span class="short">%s</span>' % moment(seconds)
 
 
-def span(seconds):
+def span(seconds: int) -> str:
     """A span of time in words."""
-    for unit, size in (("day", DAY), ("hour", 3600), ("minute", 60)):
-        if abs(seconds) >= 2 * size or unit == "minute":
+    for unit, size in (("day", DAY), ("hour", 3600)):
+        if abs(seconds) >= 2 * size:
             return "%d %ss" % (abs(seconds) // size, unit)
+    return "%d minutes" % (abs(seconds) // 60)
 
 
-def grouped(number):
+def grouped(number: int) -> str:
     return format(number, ",")
 
 
-def many(number, word):
+def many(number: int, word: str) -> str:
     return "%s %s%s" % (grouped(number), word, "" if number == 1 else "s")
 
 
-def size(number):
+def size(number: int) -> str:
     """Bytes in words."""
     for unit, by in (("GB", 10**9), ("MB", 10**6)):
         if number >= by:
@@ -113,12 +118,12 @@ def size(number):
     return "%d kB" % (number // 1000)
 
 
-def code(text):
+def code(text: str) -> str:
     """A name; a short one stays on one line."""
     return "<code%s>%s</code>" % (' class="short"' if len(text) <= 24 else "", html.escape(text))
 
 
-def table(name, head, rows, empty):
+def table(name: str, head: list[str], rows: list[tuple], empty: str) -> str:
     """A table of cells that are HTML already; more than so many rows are opened by hand. Its
     name is that of its CSV.
     """
@@ -136,7 +141,7 @@ def table(name, head, rows, empty):
                     (grouped(len(more)), made % "".join(more)) if more else "")
 
 
-def bar(done, number, word="ECU"):
+def bar(done: int, number: int, word: str = "ECU") -> str:
     share = done / number if number else 1
     return (
         '<div class="bar" role="img" aria-label="%d of %d"><span style="width:%.1f%%"></span></div>'
@@ -144,7 +149,7 @@ def bar(done, number, word="ECU"):
         (grouped(done), many(number, word)))
 
 
-def over_time(moments, number, newest):
+def over_time(moments: list[int], number: int, newest: int) -> str:
     """A line of how many ECUs had begun to report it, from the first to the newest moment of the
     copies.
     """
@@ -163,12 +168,12 @@ def over_time(moments, number, newest):
                 words, " ".join(points), words)
 
 
-def link(filter, words):
+def link(filter: str, words: str) -> str:
     return '<a class="short" href="#vehicles" data-filter="%s">%s</a>' % (html.escape(filter),
                                                                           words)
 
 
-def campaign_rows(campaigns, newest):
+def campaign_rows(campaigns: list[Named], newest: int) -> Rows:
     for it in campaigns:
         whom = "all vehicles (%s)" % grouped(it["vehicles"]) if it["all"] else many(
             it["vehicles"], "vehicle")
@@ -182,9 +187,9 @@ def campaign_rows(campaigns, newest):
             it["moments"], it["ecus"], newest), "<br>".join(way)
 
 
-def rollout_rows(campaigns):
+def rollout_rows(campaigns: list[Named]) -> Rows:
     """The steps of each rollout, which are campaigns `NAME.1`, `NAME.2` and so on, as one."""
-    steps = {}
+    steps: dict[str, dict[int, list[Named]]] = {}
     for it in campaigns:
         if found := re.fullmatch(r"(.+)[.]([0-9]+)[a-z]*", it["name"]):
             steps.setdefault(found[1], {}).setdefault(int(found[2]), []).append(it)
@@ -205,17 +210,17 @@ def rollout_rows(campaigns):
                                             sum(it["ecus"] for it in every)), "<br>".join(rows)
 
 
-def state_of(it, now):
+def state_of(it: Named, now: int) -> tuple[str, str]:
     left = it["expires"] - now
     return ("bad", "expired %s ago" %
             span(left)) if left <= 0 else ("soon" if 4 * left < it["life"] else "well", span(left))
 
 
-def file_rows(desks, now):
+def file_rows(desks: list[Named], now: int) -> Rows:
     """One row a file: of several desks the one that expires first, which is named where
     another's expires later.
     """
-    every = {}
+    every: dict[str, list[Named]] = {}
     for desk in desks:
         for it in desk["files"]:
             every.setdefault(it["file"], []).append(it | {"desk": desk["name"]})
@@ -232,7 +237,7 @@ def file_rows(desks, now):
                 first["by"]) if state[0] != "well" else ""
 
 
-def desk_rows(desks):
+def desk_rows(desks: list[Named]) -> Rows:
     """What each desk accepted: one that vehicles no longer reach is seen here, as the others'
     newest moment is the page's.
     """
@@ -243,13 +248,13 @@ def desk_rows(desks):
             it["kept"]), size(it["size"])
 
 
-def withheld_rows(vehicles):
+def withheld_rows(vehicles: list[Named]) -> Rows:
     for it in vehicles:
         if it["withheld"]:
             yield code(it["vehicle"]), code(it["withheld"]), date(it["seen"])
 
 
-def attack_rows(vehicles):
+def attack_rows(vehicles: list[Named]) -> Rows:
     for it in vehicles:
         for ecu in it["ecus"]:
             if ecu["attack"]:
@@ -257,9 +262,9 @@ def attack_rows(vehicles):
                     it["seen"])
 
 
-def release_rows(vehicles, images):
+def release_rows(vehicles: list[Named], images: Images) -> Rows:
     """By hardware, what its ECUs report, the greatest release first."""
-    counts = {}
+    counts: dict[str, dict[tuple[int, str], int]] = {}
     for it in vehicles:
         for ecu in it["ecus"]:
             own = counts.setdefault(ecu["hardware"], {})
@@ -274,7 +279,7 @@ def release_rows(vehicles, images):
                     "not registered" if file else ""), bar(number, sum(own.values()))
 
 
-def replaced_rows(desks):
+def replaced_rows(desks: list[Named]) -> Rows:
     for desk in desks:
         for it in desk["replaced"]:
             yield code(it["vehicle"]), code(
@@ -282,16 +287,16 @@ def replaced_rows(desks):
                     it["seen"]) if it["seen"] else "never"
 
 
-def tile(filter, words, number, grave):
+def tile(filter: str, words: str, number: int, grave: bool) -> str:
     return '<a class="tile%s" href="#vehicles" data-filter="%s"><b>%s</b>%s</a>' % (
         " grave" if grave and number else "", filter, grouped(number), words)
 
 
-def tiles(vehicles, desks, now):
+def tiles(vehicles: list[Named], desks: list[Named], now: int) -> str:
     """The numbers at the top, each with the filter that it sets; and the file that expires first.
     """
 
-    def silent(it):
+    def silent(it: Named) -> bool:
         return it["seen"] is not None and it["seen"] < now - WEEK
 
     made = [
@@ -313,12 +318,13 @@ def tiles(vehicles, desks, now):
     return '<nav class="tiles">%s</nav>' % "".join(made)
 
 
-def packed(vehicles, campaigns):
+def packed(vehicles: list[Named], campaigns: list[Named]) -> str:
     """What the page's script shows: lists without names, and each name of a file or hardware once.
     """
-    words, at = {}, {it["vehicle"]: number for number, it in enumerate(vehicles)}
+    words: dict[str, int] = {}
+    at = {it["vehicle"]: number for number, it in enumerate(vehicles)}
 
-    def place(text):
+    def place(text: str) -> int:
         return words.setdefault(text, len(words))
 
     rows = [[
@@ -345,7 +351,7 @@ VEHICLES = """<p class="controls"><input id="search" type="search" placeholder="
 <div id="list"><noscript><p class="none">The list of vehicles needs JavaScript.</p></noscript></div>"""
 
 
-def heading(desks, images, now):
+def heading(desks: list[Named], images: Images, now: int) -> str:
     newest = max(it["newest"] for it in desks)
     roots = sorted({it["meta"]["root"] for it in desks})
     grown = sum(it["day"] * it["size"] // it["kept"] for it in desks if it["kept"])
@@ -361,7 +367,7 @@ def heading(desks, images, now):
     return "<header><h1>Fleet</h1><p>%s</p></header>" % " &middot; ".join(filter(None, told))
 
 
-def parts(desks, now):
+def parts(desks: list[Named], now: int) -> Iterator[str]:
     images = {file: it for desk in desks for file, it in desk["images"].items()}
     vehicles = sorted((it for desk in desks for it in desk["vehicles"]),
                       key=lambda it: it["vehicle"])
@@ -404,7 +410,7 @@ def parts(desks, now):
         now, packed(vehicles, campaigns))
 
 
-def page(copies, now):
+def page(copies: dict[str, Path], now: int) -> str:
     made = "\n".join(parts([desk_of(name, path, now) for name, path in copies.items()], now))
     top = ('<!doctype html><html lang="en"><head><meta charset="utf-8"><title>Fleet</title>'
            '<meta http-equiv="Content-Security-Policy" content="default-src \'none\'; style-src '

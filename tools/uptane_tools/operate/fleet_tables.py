@@ -10,6 +10,9 @@ import tempfile
 from contextlib import closing, contextmanager, nullcontext
 from datetime import datetime, timezone
 from pathlib import Path
+from typing import Any, Iterator
+
+from uptane_tools.operate.formats import Named
 
 SCHEMAS = (1, 2, 3)
 DAY, WEEK = 86400, 7 * 86400
@@ -18,28 +21,31 @@ ROOTS, IMAGES, VERSIONS = 64, 1024, 2**53 - 1
 # a log of so many bytes holds nothing
 EMPTY_LOG = 41
 
+# the images, by filename
+Images = dict[str, Named]
+
 
 class Other(Exception):
     """The file isn't a database of this product."""
 
 
-def named(word):
+def named(word: str) -> tuple[str, Path]:
     """A desk's name and its copy, of a word DESK=COPY; `desk` where no name is given."""
     desk, _, path = word.rpartition("=")
     return desk or "desk", Path(path)
 
 
-def log_of(path):
+def log_of(path: Path) -> Path:
     return Path(str(path) + "-wal")
 
 
-def size_of(path):
+def size_of(path: Path) -> int:
     """The bytes of the file and its log."""
     return sum(it.stat().st_size for it in (Path(path), log_of(path)) if it.exists())
 
 
 @contextmanager
-def linked(path):
+def linked(path: Path) -> Iterator[Path]:
     """Another name of the file, with a copy of its log beside it, so that reading leaves nothing
     beside the file itself. Where the file can't have another name, it is a copy.
     """
@@ -57,7 +63,7 @@ def linked(path):
 
 
 @contextmanager
-def opened(path):
+def opened(path: Path) -> Iterator[sqlite3.Connection]:
     """A connection that changes nothing. A file without a log is read where it lies."""
     path = Path(path)
     path.open("rb").close()
@@ -70,7 +76,7 @@ def opened(path):
             yield db
 
 
-def meta_of(db):
+def meta_of(db: sqlite3.Connection) -> sqlite3.Row:
     try:
         rows = db.execute("SELECT * FROM meta WHERE id = 1").fetchall()
         if len(rows) == 1 and rows[0]["app"] == "uptane_desk" and rows[0]["schema"] in SCHEMAS:
@@ -84,7 +90,7 @@ def meta_of(db):
 # ---- images and what ECUs have
 
 
-def registered(db, schema):
+def registered(db: sqlite3.Connection, schema: int) -> Images:
     """The images, by filename. A table of second hashes is there from schema 3 on."""
     images = {
         row["file"]: dict(row) | {"hardware": json.loads(row["hardware"]), "sha512": None}
@@ -95,14 +101,14 @@ def registered(db, schema):
     return images
 
 
-def second_hash(report):
+def second_hash(report: str | None) -> str | None:
     """The SHA-512 that a report gives of its image, if it does."""
     found = json.loads(report)["image"]["hashes"].get("sha512") if report else None
     return found.lower() if isinstance(found, str) and re.fullmatch("[0-9A-Fa-f]{128}",
                                                                     found) else None
 
 
-def release_of(images, ecu, schema):
+def release_of(images: Images, ecu: Any, schema: int) -> int:
     """The release of the registered image that an ECU reported, for its hardware; 0 where there
     is none.
     """
@@ -114,16 +120,16 @@ def release_of(images, ecu, schema):
     return 0 if reported and reported != image["sha512"] else image["release_count"]
 
 
-def attack_in(report):
+def attack_in(report: str | None) -> str:
     """The note on an attack in a report; empty where none was detected."""
     return json.loads(report)["attack"] if report and '"attack":""' not in report else ""
 
 
-def ecus_of(db, images, schema):
+def ecus_of(db: sqlite3.Connection, images: Images, schema: int) -> dict[str, list[Named]]:
     """The ECUs of each vehicle in inventory order: name, hardware, installed file, release, note
     of an attack.
     """
-    made = {}
+    made: dict[str, list[Named]] = {}
     for row in db.execute("SELECT * FROM ecu ORDER BY vehicle, place"):
         one = {
             "ecu": row["ecu"], "hardware": row["hardware"], "file": row["file"],
@@ -135,14 +141,14 @@ def ecus_of(db, images, schema):
 # ---- vehicles and their manifests
 
 
-def lasts_of(db):
+def lasts_of(db: sqlite3.Connection) -> dict[str, tuple[int, Named]]:
     """Of each vehicle that has sent one: the moment of its last manifest, and its plan."""
     sql = "SELECT vehicle, moment, plan_text FROM vehicle JOIN kept USING (vehicle, version)"
     return {
         row["vehicle"]: (row["moment"], json.loads(row["plan_text"])) for row in db.execute(sql)}
 
 
-def cause_of(withheld):
+def cause_of(withheld: Named | None) -> str:
     if not withheld:
         return ""
     if "hardware" in withheld:
@@ -150,7 +156,7 @@ def cause_of(withheld):
     return "%s conflicts with %s" % (withheld["ecu"], withheld["file"])
 
 
-def vehicles_of(db, ecus):
+def vehicles_of(db: sqlite3.Connection, ecus: dict[str, list[Named]]) -> list[Named]:
     """The vehicles by name: version, moment of the last manifest, cause of a withheld plan, and
     the ECUs with what they are assigned.
     """
@@ -168,7 +174,7 @@ def vehicles_of(db, ecus):
     return made
 
 
-def kept_since(db, moment):
+def kept_since(db: sqlite3.Connection, moment: int) -> int:
     """How many manifests were accepted behind a moment. Each vehicle's are read from its last
     one on, so that a large file isn't read whole.
     """
@@ -182,7 +188,7 @@ def kept_since(db, moment):
     return number
 
 
-def newest(db):
+def newest(db: sqlite3.Connection) -> int:
     """The moment of the newest command that left one: an accepted manifest, or new files of the
     Image repository.
     """
@@ -194,7 +200,8 @@ def newest(db):
 # ---- campaigns
 
 
-def moves_of(campaign, images, vehicles):
+def moves_of(campaign: Named, images: Images,
+             vehicles: list[Named]) -> Iterator[tuple[Named, Named, bool]]:
     """For each ECU that a campaign is to reach: its vehicle, the ECU, and whether it has the
     item's image or a greater release.
     """
@@ -207,7 +214,7 @@ def moves_of(campaign, images, vehicles):
                                                                            or ecu["file"] in images)
 
 
-def campaigns_of(db, images, vehicles):
+def campaigns_of(db: sqlite3.Connection, images: Images, vehicles: list[Named]) -> list[Named]:
     """How far each campaign is, and which vehicles are left. A withheld plan is in the way of
     the campaigns whose item its ECU waits for.
     """
@@ -234,7 +241,7 @@ def campaigns_of(db, images, vehicles):
 # ---- files
 
 
-def moment_in(text):
+def moment_in(text: str) -> int:
     return int(
         datetime.strptime(text, "%Y-%m-%dT%H:%M:%SZ").replace(tzinfo=timezone.utc).timestamp())
 
@@ -244,7 +251,7 @@ LIFE = {("image", "targets"): 90 * DAY, ("image", "snapshot"): 30 * DAY,
 ANEW = {"root": "rotate"}
 
 
-def files_of(db):
+def files_of(db: sqlite3.Connection) -> Iterator[Named]:
     """The files that are served under the names that change: version, when they expire, their
     life, and what makes them anew.
     """
@@ -263,7 +270,7 @@ def files_of(db):
 # ---- over time
 
 
-def reports(signed, ecu, file):
+def reports(signed: str, ecu: str, file: str) -> bool:
     """Whether a manifest's signed text has a report of the ECU with that file. As canonical text
     has the members in order, the two stand side by side, but for members that this product
     doesn't know.
@@ -276,14 +283,15 @@ def reports(signed, ecu, file):
     return any(it["ecu"] == ecu and it["image"]["file"] == file for it in every)
 
 
-def since_when(db, vehicle, version, ecu, file):
+def since_when(db: sqlite3.Connection, vehicle: str, version: int, ecu: str,
+               file: str) -> int | None:
     """The moment of a manifest by which an ECU that reports the file now began to. Found by
     halves, so a few manifests are read: where it went back and forth, it is one of the times at
     which it began.
     """
     sql = "SELECT moment, signed FROM kept WHERE vehicle = ? AND version = ?"
 
-    def at(number):
+    def at(number: int) -> sqlite3.Row | None:
         return db.execute(sql, (vehicle, number)).fetchone()
 
     row = at(version)
@@ -300,7 +308,8 @@ def since_when(db, vehicle, version, ecu, file):
     return moment
 
 
-def taken_up(db, campaign, images, vehicles):
+def taken_up(db: sqlite3.Connection, campaign: Named, images: Images,
+             vehicles: list[Named]) -> list[int]:
     """The moments at which ECUs began to report what a running campaign offers, in order."""
     made = []
     files = {item["hardware"]: item["file"] for item in campaign["items"]}
@@ -311,7 +320,7 @@ def taken_up(db, campaign, images, vehicles):
     return sorted(it for it in made if it is not None)
 
 
-def replaced_of(db, schema):
+def replaced_of(db: sqlite3.Connection, schema: int) -> Iterator[Named]:
     """The ECUs that were replaced, in order, with the last version and moment of their vehicle's
     manifests that they reported in.
     """

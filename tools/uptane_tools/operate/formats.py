@@ -3,14 +3,20 @@
 """
 import json
 import re
+from typing import Any, Callable
 
 ROLES = ["root", "targets", "snapshot", "timestamp"]
 REPOSITORIES = ["director", "image"]
 MOST = 2**53 - 1
 LAST_MOMENT, LAST_AT = 253402300799, 4102444800
 
+# whether a member may hold a value
+Test = Callable[[Any], bool]
+# a line's members, or those of another thing
+Named = dict[str, Any]
 
-def finite(text):
+
+def finite(text: str) -> float:
     """A number with a fraction or an exponent: none that a float can't hold, and no word such as
     NaN.
     """
@@ -20,13 +26,13 @@ def finite(text):
     return value
 
 
-def whole(text):
+def whole(text: str) -> float:
     """A number of digits alone: one that 64 bits can't hold is a float, and so is a negative zero.
     """
     return finite(text) if text == "-0" or len(text) > 20 else int(text)
 
 
-def nesting(text):
+def nesting(text: str) -> int:
     """How deep lists and objects stand in one another in the text, those of members that come
     again included.
     """
@@ -37,13 +43,13 @@ def nesting(text):
     return deepest
 
 
-def value_of(text):
+def value_of(text: str | bytes) -> Any:
     """The value of the text, a string or bytes. Of members of one name the last counts, but each
     has to be JSON. What is no JSON is a ValueError.
     """
     dropped = []
 
-    def members(pairs):
+    def members(pairs: list[tuple[str, Any]]) -> dict[str, Any]:
         kept = dict(pairs)
         dropped.extend(pairs if len(kept) < len(pairs) else [])
         return kept
@@ -60,15 +66,15 @@ def value_of(text):
     return value
 
 
-def canonical(value):
+def canonical(value: Any) -> str:
     return json.dumps(value, sort_keys=True, separators=(",", ":"))
 
 
-def is_count(value, least=0, most=MOST):
+def is_count(value: Any, least: int = 0, most: int = MOST) -> bool:
     return isinstance(value, int) and not isinstance(value, bool) and least <= value <= most
 
 
-def text(pattern):
+def text(pattern: str) -> Test:
     return lambda v: isinstance(v, str) and re.fullmatch(pattern, v, re.A) is not None
 
 

@@ -57,9 +57,11 @@ import time
 import urllib.request
 from pathlib import Path
 
+from typing import Iterable, Iterator
+
 from uptane_tools import TOP, arguments
 from uptane_tools.operate import fleet_tables
-from uptane_tools.operate.formats import FILE, IDENT, MOST, REPOSITORIES, ROLES, canonical
+from uptane_tools.operate.formats import (FILE, IDENT, MOST, REPOSITORIES, ROLES, Named, canonical)
 
 # seconds that the service has for an answer
 PATIENCE = 20
@@ -70,7 +72,7 @@ class Wrong(Exception):
     """What keeps a line from being made."""
 
 
-def need(holds, words, *given):
+def need(holds: object, words: str, *given: object) -> None:
     if not holds:
         raise Wrong(words % given)
 
@@ -83,16 +85,17 @@ PEM = re.compile(r"-----BEGIN (PRIVATE|PUBLIC) KEY-----\n([A-Za-z0-9+/=\n]+)----
 BEFORE = {"PRIVATE": "302e020100300506032b657004220420", "PUBLIC": "302a300506032b6570032100"}
 
 
-def hex_key(text, where):
+def hex_key(text: str, where: object) -> str:
     need(re.fullmatch(r"[0-9A-Fa-f]{64}", text.strip()), "%s: a key is 64 hexadecimal digits",
          where)
     return text.strip().lower()
 
 
-def pem_key(text, where, wanted):
+def pem_key(text: str, where: object, wanted: str) -> str:
     """The key in a text that OpenSSL wrote, private or public as it is wanted."""
     found = PEM.fullmatch(text.replace("\r\n", "\n").strip())
-    need(found, "%s: that is no key as OpenSSL writes it, without a password", where)
+    if not found:
+        raise Wrong("%s: that is no key as OpenSSL writes it, without a password" % where)
     need(found[1] == wanted, "%s: a %s key, where a %s one is asked", where, found[1].lower(),
          wanted.lower())
     try:
@@ -105,7 +108,7 @@ def pem_key(text, where, wanted):
     return told[-64:]
 
 
-def key_of(path, wanted):
+def key_of(path: Path, wanted: str) -> str:
     """The key that a file holds, `PRIVATE` or `PUBLIC` where it tells. Others that may read what
     may be a secret are told of.
     """
@@ -116,7 +119,7 @@ def key_of(path, wanted):
     return pem_key(text, path, wanted) if "-----BEGIN" in text else hex_key(text, path)
 
 
-def known_keys(old):
+def known_keys(old: Path | None) -> dict[str, str]:
     """Keys that aren't to be used, each with where it stands: those of the examples, and those
     of a copy.
     """
@@ -133,13 +136,13 @@ def known_keys(old):
     return made
 
 
-def need_fresh(keys, old):
+def need_fresh(keys: Iterable[tuple[str, str]], old: Path | None) -> None:
     known = known_keys(old)
     for name, key in keys:
         need(key not in known, "%s: the key stands in %s: draw another", name, known.get(key))
 
 
-def role_keys(folder, name, thresholds):
+def role_keys(folder: Path, name: str, thresholds: dict[str, int]) -> Named:
     """The keys of a role, `director-root` say, in the order of their numbers, with the threshold.
     """
     there = sorted(folder.glob(name + "-*.key"))
@@ -154,7 +157,7 @@ def role_keys(folder, name, thresholds):
     return {"keys": keys, "threshold": threshold}
 
 
-def new_keys(folder, asked, old):
+def new_keys(folder: Path, asked: list[tuple[str, str]], old: Path | None) -> Named:
     """What `found` and `rotate` are given: the keys of eight roles, none of them twice."""
     need(folder.is_dir(), "%s: there is no such folder", folder)
     thresholds = {name: int(number) for name, number in asked}
@@ -177,7 +180,7 @@ def new_keys(folder, asked, old):
 # ---- images, vehicles, versions
 
 
-def hashes_of(path, names):
+def hashes_of(path: Path, names: list[str]) -> Named:
     """The length and these hashes of an image, by the names of the line's members."""
     made, length = {name: hashlib.new(name) for name in names}, 0
     with open(path, "rb") as file:
@@ -188,7 +191,7 @@ def hashes_of(path, names):
     return {"length": length} | {name: one.hexdigest() for name, one in made.items()}
 
 
-def new_image(given):
+def new_image(given: argparse.Namespace) -> Named:
     name = given.file or given.image.name
     need(FILE(name), "%s: a filename has 1 to 128 bytes of A-Z a-z 0-9 . _ - /", name)
     need(name[0] != "/" and ".." not in name.split("/"),
@@ -213,7 +216,7 @@ def new_image(given):
                                                          if given.conflicts else {})
 
 
-def rows_of(path):
+def rows_of(path: Path) -> Iterator[tuple[str, dict[str, str]]]:
     """The rows of the table, each with its number of line and its key."""
     with open(path, newline="", encoding="ascii") as file:
         rows = csv.DictReader(file)
@@ -234,9 +237,11 @@ def rows_of(path):
             yield where, row
 
 
-def vehicles_in(path, old):
+def vehicles_in(path: Path, old: Path | None) -> list[Named]:
     """The members of each line."""
-    ecus, made, last = set(), {}, None
+    ecus: set[str] = set()
+    made: dict[str, Named] = {}
+    last = None
     for where, row in rows_of(path):
         name = row["vehicle"]
         need(name == last or name not in made, "%s: the rows of %s stand together", where, name)
@@ -255,7 +260,7 @@ def vehicles_in(path, old):
     return list(made.values())
 
 
-def new_ecu(given):
+def new_ecu(given: argparse.Namespace) -> Named:
     made = {
         "vehicle": given.vehicle, "old": given.old, "ecu": given.ecu, "hardware": given.hardware}
     for member, name in made.items():
@@ -266,7 +271,7 @@ def new_ecu(given):
     return made | {"key": key}
 
 
-def text_from(place):
+def text_from(place: str) -> str:
     if place == "-":
         return sys.stdin.read()
     if place.startswith("http://") or place.startswith("https://"):
@@ -276,7 +281,7 @@ def text_from(place):
     return Path(place).read_text(encoding="ascii")
 
 
-def next_version(place):
+def next_version(place: str) -> int:
     """The version after that of the Timestamp there; `file `, which a script's answer begins
     with, may stand before it.
     """
@@ -294,7 +299,7 @@ def next_version(place):
 # ---- lines
 
 
-def lines(given):
+def lines(given: argparse.Namespace) -> list[Named]:
     """The members of each line that is asked for. A further word gets its case here and its
     parser below.
     """
@@ -309,14 +314,14 @@ def lines(given):
     return [{"version": next_version(given.source)}]
 
 
-def pair(text):
+def pair(text: str) -> tuple[str, str]:
     name, _, number = text.partition("=")
     if not number.isdecimal():
         raise argparse.ArgumentTypeError("%s isn't NAME=NUMBER" % text)
     return name, number
 
 
-def parser():
+def parser() -> argparse.ArgumentParser:
     top = arguments.parser(__doc__)
     words = top.add_subparsers(dest="do", required=True, metavar="WORD")
     made = {

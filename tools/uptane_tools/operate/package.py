@@ -31,6 +31,8 @@ import tempfile
 import time
 from pathlib import Path
 
+from typing import Iterator
+
 from uptane_tools import RUN, TOP, arguments
 from uptane_tools.operate import bill
 
@@ -42,6 +44,9 @@ CONFIGURED = {
     "etc/uptane/settings": "settings", "etc/logrotate.d/uptane-desk": "uptane-desk.logrotate"}
 # how a program ends that `tools/run unproved` built
 LABEL = b"\nUNPROVED: "
+
+# places, each with the file that it is a copy of and its mode
+Parts = Iterator[tuple[Path, Path, int]]
 
 CONTROL = """Package: uptane-desk
 Version: %s
@@ -100,17 +105,17 @@ fi
 """
 
 
-def git(*words):
+def git(*words: str) -> str:
     ran = subprocess.run(["git", "-C", str(TOP), *words], capture_output=True, text=True,
                          check=False)
     return ran.stdout.strip() if ran.returncode == 0 else ""
 
 
-def is_unproved(program):
+def is_unproved(program: Path) -> bool:
     return LABEL in program.read_bytes()[-200:]
 
 
-def parts(program):
+def parts(program: Path) -> Parts:
     """Each file of the package, by its place, with the file that it is a copy of and its mode."""
     yield Path("usr/bin/uptane_desk"), program, 0o755
     for path in sorted(SERVICE.iterdir()):
@@ -141,27 +146,27 @@ def parts(program):
         yield Path(place), SERVICE / name, 0o644
 
 
-def of_bench(program):
+def of_bench(program: Path) -> Parts:
     """The same of the program for benches."""
     yield Path("usr/bin/uptane_desk_bench"), program, 0o755
     for name in ("LICENSE", "CHANGELOG.md"):
         yield Path("usr/share/doc/uptane-desk-bench") / name, TOP / name, 0o644
 
 
-def copied(given, to, mode):
+def copied(given: Path, to: Path, mode: int) -> None:
     to.parent.mkdir(parents=True, exist_ok=True)
     shutil.copyfile(given, to)
     to.chmod(mode)
 
 
-def said(program):
+def said(program: Path) -> str:
     """What the program says of itself; nothing where it doesn't know the word."""
     ran = subprocess.run([program.resolve(), "--version"], capture_output=True, text=True,
                          check=False)
     return ran.stdout.strip() if ran.returncode == 0 else ""
 
 
-def manifest(listed, program):
+def manifest(listed: list[tuple[Path, Path]], program: Path) -> str:
     """The commit, what the program says of itself, and the sum of each file."""
     changed = git("status", "--porcelain", "--untracked-files=no")
     words = said(program)
@@ -181,9 +186,10 @@ def manifest(listed, program):
     return "\n".join(head + sums) + "\n"
 
 
-def laid(program, folder, bench=False):
+def laid(program: Path, folder: Path, bench: bool = False) -> None:
     """Puts all files below a folder. What settings there are stay."""
-    listed, name = [], "uptane-desk-bench" if bench else "uptane-desk"
+    listed: list[tuple[Path, Path]] = []
+    name = "uptane-desk-bench" if bench else "uptane-desk"
     for place, given, mode in of_bench(program) if bench else parts(program):
         if place.parts[0] != "etc" or not (folder / place).exists():
             copied(given, folder / place, mode)
@@ -207,11 +213,11 @@ def laid(program, folder, bench=False):
     (folder / library / "MANIFEST").write_text(manifest(listed, program), encoding="ascii")
 
 
-def project():
+def project() -> str:
     return (TOP / "VERSION").read_text(encoding="ascii").strip()
 
 
-def version(program):
+def version(program: Path) -> str:
     """The project's version, with the number of the commit, so that a later one is greater; and
     whether there is no proof.
     """
@@ -220,23 +226,23 @@ def version(program):
                         if commit else "") + ("~unproved" if is_unproved(program) else "")
 
 
-def moment():
+def moment() -> int:
     """The moment of the commit, which all files get."""
     return int(os.environ.get("SOURCE_DATE_EPOCH") or git("log", "-1", "--format=%ct") or 0)
 
 
-def maintainer():
+def maintainer() -> str:
     return (SERVICE / "maintainer").read_text(encoding="utf-8").strip()
 
 
-def changes(name, number):
+def changes(name: str, number: str) -> str:
     """Debian's list of changes, which points to the project's own."""
     date = time.strftime("%a, %d %b %Y %H:%M:%S +0000", time.gmtime(moment()))
     return "%s (%s) unstable; urgency=medium\n\n  * See CHANGELOG.md.\n\n -- %s  %s\n" % (
         name, number, maintainer(), date)
 
 
-def packed(program, to, bench=False):
+def packed(program: Path, to: Path, bench: bool = False) -> Path:
     with tempfile.TemporaryDirectory() as own:
         folder = Path(own) / "files"
         laid(program, folder, bench)

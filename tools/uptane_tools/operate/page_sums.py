@@ -17,13 +17,15 @@ import sys
 from contextlib import closing
 from pathlib import Path
 
+from typing import BinaryIO
+
 from uptane_tools import arguments
 
 RESERVED = 8
 PRODUCT = [(1, "uptane_desk")]
 
 
-def sum_of(page):
+def sum_of(page: bytes) -> bytes:
     """Two sums of 32 bits over the words of the page, but for its last eight bytes."""
     first = second = 0
     words = iter(struct.unpack("<%dI" % (len(page) // 4 - 2), page[:-RESERVED]))
@@ -33,17 +35,17 @@ def sum_of(page):
     return struct.pack("<II", first, second)
 
 
-def page_size(data):
+def page_size(data: bytes) -> int:
     size = int.from_bytes(data[16:18], "big")
     return 65536 if size == 1 else size
 
 
-def pages(data):
+def pages(data: bytes) -> list[bytes]:
     size = page_size(data)
     return [data[at:at + size] for at in range(0, len(data), size)]
 
 
-def written(file, size):
+def written(file: BinaryIO, size: int) -> None:
     """Writes each sum that is wrong, a page after the other."""
     at = 0
     file.seek(0)
@@ -56,17 +58,17 @@ def written(file, size):
         file.seek(at)
 
 
-def has_sums(data):
+def has_sums(data: bytes) -> bool:
     return data[:16] == b"SQLite format 3\0" and data[20] == RESERVED
 
 
-def wrong_sums(data):
+def wrong_sums(data: bytes) -> list[int]:
     """The numbers, from 1, of the pages whose sum is wrong."""
     return [
         number for number, page in enumerate(pages(data), 1) if page[-RESERVED:] != sum_of(page)]
 
 
-def faults(path):
+def faults(path: str | Path) -> list[str]:
     """What SQLite finds wrong. It also copies a log that is there into a file of this product."""
     with closing(sqlite3.connect("%s?mode=rw" % Path(path).resolve().as_uri(), uri=True)) as db:
         if db.execute("SELECT id, app FROM meta").fetchall() != PRODUCT:
@@ -76,7 +78,7 @@ def faults(path):
         return found + [str(row) for row in db.execute("PRAGMA foreign_key_check")]
 
 
-def rewritten(path):
+def rewritten(path: str | Path) -> int:
     try:
         found = faults(path)
     except sqlite3.Error as error:

@@ -26,8 +26,11 @@ import urllib.request
 from collections import Counter
 from pathlib import Path
 
+from typing import Iterator
+
 from uptane_tools import arguments
 from uptane_tools.operate import check_file, copy_served, fleet_tables
+from uptane_tools.operate.formats import Named
 
 # seconds that a start may take
 PATIENCE = 3600
@@ -40,7 +43,7 @@ class Failed(Exception):
 # ---- restoring
 
 
-def restored(copy, folder):
+def restored(copy: Path, folder: Path) -> Path:
     """The backup and its log at a new place."""
     to = folder / "desk.db"
     for one, other in ((copy, to), (fleet_tables.log_of(copy), fleet_tables.log_of(to))):
@@ -49,7 +52,7 @@ def restored(copy, folder):
     return to
 
 
-def free_port():
+def free_port() -> int:
     """A port at which nothing listens, below those that the system gives to clients."""
     while True:
         with socket.socket() as one, contextlib.suppress(OSError):
@@ -58,7 +61,7 @@ def free_port():
             return one.getsockname()[1]
 
 
-def served(program, path):
+def served(program: Path, path: Path) -> tuple[int, float]:
     """The Image repository's version, as the program serves it over the restored file, and the
     seconds until it listens.
     """
@@ -66,6 +69,7 @@ def served(program, path):
     with subprocess.Popen([program, "serve", path, str(port), "2"], stdout=subprocess.PIPE,
                           stderr=subprocess.PIPE) as running:
         try:
+            assert running.stdout
             if running.stdout.readline() != b"listening %d\n" % port:
                 raise Failed("the program doesn't take it: %s" %
                              running.communicate()[1].decode("ascii", "replace").strip())
@@ -80,19 +84,19 @@ def served(program, path):
 # ---- what is forgotten
 
 
-def ecus_in(db):
-    made = {}
+def ecus_in(db: sqlite3.Connection) -> dict[str, list[str]]:
+    made: dict[str, list[str]] = {}
     for vehicle, ecu in db.execute("SELECT vehicle, ecu FROM ecu ORDER BY vehicle, place"):
         made.setdefault(vehicle, []).append(ecu)
     return made
 
 
-def state(path):
+def state(path: Path) -> Named:
     """What a file has, by the names of what operators and vehicles made."""
     with fleet_tables.opened(path) as db:
         meta = fleet_tables.meta_of(db)
 
-        def names(sql):
+        def names(sql: str) -> dict[str, tuple]:
             return {row[0]: tuple(row)[1:] for row in db.execute(sql)}
 
         made = {
@@ -104,7 +108,7 @@ def state(path):
         return made | {"campaigns": names("SELECT name, running FROM campaign")}
 
 
-def meets(name, before, after):
+def meets(name: str, before: Named, after: Named) -> tuple[str, str]:
     """What a vehicle meets, in words, and the kind of it."""
     if name not in before["vehicles"]:
         return "unknown", "is refused 10 UnknownVehicle until it is added again"
@@ -119,7 +123,7 @@ def meets(name, before, after):
     return "goes back", words % (after["vehicles"][name][0], before["vehicles"][name][0], back - 1)
 
 
-def given_again(before, after):
+def given_again(before: Named, after: Named) -> Iterator[str]:
     """The lines that have to be given again, and those that bring versions back to where
     vehicles are.
     """
@@ -143,7 +147,7 @@ def given_again(before, after):
         yield "refresh to a version above %d: the last that was served" % after["version"]
 
 
-def forgotten(copy, later, each):
+def forgotten(copy: Path, later: Path, each: bool) -> Iterator[str]:
     before, after = state(copy), state(later)
     lost = sum(version - before["vehicles"].get(name, (0, 0))[0]
                for name, (version, _) in after["vehicles"].items())
@@ -156,7 +160,7 @@ def forgotten(copy, later, each):
     yield from ("to give again: " + words for words in given_again(before, after))
 
 
-def drill(program, copy, later, each, folder):
+def drill(program: Path, copy: Path, later: Path | None, each: bool, folder: Path) -> None:
     steps = [("looked at", time.monotonic())]
     amiss = list(check_file.amiss(copy))
     if amiss:

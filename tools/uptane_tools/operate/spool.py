@@ -38,8 +38,11 @@ import sys
 import time
 from pathlib import Path
 
+from typing import Any, Iterator
+
 from uptane_tools import arguments
 from uptane_tools.operate import check_script
+from uptane_tools.operate.formats import Named
 
 MOST_BYTES = 256 << 20
 # lines that make new files of the Image repository, each with a version of its own
@@ -55,14 +58,14 @@ LONGEST_ANSWER = 200
 # ---- taking
 
 
-def owner(number):
+def owner(number: int) -> str:
     try:
         return pwd.getpwuid(number).pw_name
     except KeyError:
         return str(number)
 
 
-def copied(path, to):
+def copied(path: Path, to: Path) -> tuple[str, bytes, int]:
     """Copies a plain file that has no other name, and returns who owns it. A link isn't
     followed, and nothing waits for a pipe.
     """
@@ -77,7 +80,7 @@ def copied(path, to):
     return owner(is_what.st_uid), data, is_what.st_mode & 0o044
 
 
-def amiss(name, script, now, others):
+def amiss(name: str, script: bytes, now: int, others: int) -> list[str]:
     """What keeps a script from being given."""
     if others:
         return [
@@ -88,7 +91,7 @@ def amiss(name, script, now, others):
             ] if name.endswith(".looked.script") else found
 
 
-def put(folder, name, text):
+def put(folder: Path, name: str, text: str) -> None:
     """Writes a file for operators, in a folder that root alone writes to."""
     folder.mkdir(mode=0o750, exist_ok=True)
     path = folder / name
@@ -98,8 +101,9 @@ def put(folder, name, text):
     shutil.chown(path, group=folder.stat().st_gid)
 
 
-def take(spool, work, journal):
-    listed, refused, now = [], 0, int(time.time())
+def take(spool: Path, work: Path, journal: Path) -> int:
+    listed: list[Named] = []
+    refused, now = 0, int(time.time())
     (work / "list.json").write_text("[]", encoding="utf-8")
     for path in sorted(spool.glob("*.script")):
         try:
@@ -127,7 +131,7 @@ def take(spool, work, journal):
     return 1 if refused else 0
 
 
-def reads(work):
+def reads(work: Path) -> int:
     """Whether each line of the accepted scripts changes nothing, and there is one."""
     asked = [json.loads(line)["do"] for _, lines in scripts(work) for line in lines]
     return 0 if asked and set(asked) <= set(READ) else 1
@@ -136,11 +140,11 @@ def reads(work):
 # ---- one script
 
 
-def lines_of(path):
+def lines_of(path: Path) -> list[bytes]:
     return [line for line in path.read_bytes().split(b"\n") if line]
 
 
-def scripts(work):
+def scripts(work: Path) -> Iterator[tuple[Named, list[bytes]]]:
     """The scripts that were accepted, each with its lines, in their order; the refresh is the
     last, where there is one.
     """
@@ -154,7 +158,7 @@ def scripts(work):
             "sha256": hashlib.sha256(last.read_bytes()).hexdigest()}, lines_of(last)
 
 
-def whole(work, version):
+def whole(work: Path, version: int | None) -> int:
     """All lines. Where a refresh is asked for, its version is above the present one, and above
     each that a line may make or names.
     """
@@ -169,16 +173,17 @@ def whole(work, version):
             json.dumps(line, sort_keys=True, separators=(",", ":")) + "\n", encoding="ascii")
     for _, lines in scripts(work):
         sys.stdout.buffer.write(b"".join(line + b"\n" for line in lines))
+    return 0
 
 
 # ---- the journal
 
 
-def stamp():
+def stamp() -> str:
     return time.strftime("%Y-%m-%dT%H:%M:%SZ", time.gmtime())
 
 
-def without_secrets(value, out):
+def without_secrets(value: Any, out: list[str]) -> Any:
     if isinstance(value, dict):
         return {
             name: "left out" if name in out else without_secrets(it, out)
@@ -186,7 +191,7 @@ def without_secrets(value, out):
     return [without_secrets(it, out) for it in value] if isinstance(value, list) else value
 
 
-def entry(it, number, line, answer, now, public):
+def entry(it: Named, number: int, line: bytes, answer: str | None, now: str, public: bool) -> Named:
     made, asked = {
         "given": now, "who": it["who"], "script": it["name"], "sha256": it["sha256"],
         "line": number}, json.loads(line)
@@ -196,7 +201,7 @@ def entry(it, number, line, answer, now, public):
         "answer": answer if answer is None else answer[:LONGEST_ANSWER]}
 
 
-def added(journal, entries):
+def added(journal: Path, entries: list[Named]) -> None:
     """Adds lines to the journal, and waits until the disk has them."""
     with open(os.open(journal, os.O_WRONLY | os.O_CREAT | os.O_APPEND, 0o640), "wb") as file:
         file.write(b"".join(
@@ -205,7 +210,7 @@ def added(journal, entries):
         os.fsync(file.fileno())
 
 
-def keep(spool, work, journal, public):
+def keep(spool: Path, work: Path, journal: Path, public: bool) -> int:
     told = work / "answers"
     answers = told.read_text(encoding="ascii",
                              errors="replace").split("\n")[:-1] if told.exists() else []

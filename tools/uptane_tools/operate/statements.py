@@ -6,6 +6,8 @@ since files that they made are there for good.
 """
 import re
 
+import sqlite3
+
 from uptane_tools import TOP
 
 PAGE = TOP / "docs" / "use" / "TABLES.md"
@@ -36,23 +38,23 @@ CREATE TABLE retired (ecu TEXT NOT NULL PRIMARY KEY, vehicle TEXT NOT NULL REFER
 OLDER = {1: FIRST, 2: FIRST + SECOND}
 
 
-def schema():
+def schema() -> list[str]:
     """The statements of the page that make the tables."""
     return re.findall(r"^    (CREATE TABLE .*?STRICT)$", PAGE.read_text(encoding="ascii"),
                       re.S | re.M)
 
 
-def table_of(statement):
+def table_of(statement: str) -> str:
     return statement.split()[2]
 
 
-def statements(number):
+def statements(number: int) -> list[str]:
     """The statements that make the tables of a schema."""
     return [it.strip() for it in OLDER[number].split(";") if it.strip()
             ] if number in OLDER else schema()
 
 
-def made(db, number):
+def made(db: sqlite3.Connection, number: int) -> sqlite3.Connection:
     """Makes the tables of a schema, without a row."""
     for statement in statements(number):
         db.execute(statement)
