@@ -9,4 +9,4 @@ pub mod heads;
 pub mod methods;
 pub mod responses;
 pub mod routed;
-mod routes;
+pub mod routes;

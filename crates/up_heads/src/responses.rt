@@ -122,7 +122,7 @@ fn check_allow(check: Check) -> Option<Allow>
 }
 
 /// The number of a check: a refusal's, or 0.
-fn check_number(check: Check) -> u32
+pub fn check_number(check: Check) -> u32
     ensures { result ≡ (check_row check).number }
 {
     if matches!(check, Check::TooLarge) {
@@ -133,7 +133,7 @@ fn check_number(check: Check) -> u32
 }
 
 /// The words of a check.
-fn check_text(check: Check) -> &'static str
+pub fn check_text(check: Check) -> &'static str
     ensures { result.now ≡ (check_row check).text }
 {
     match check {

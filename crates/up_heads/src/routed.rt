@@ -8,7 +8,7 @@ ghost use Rattle.up_heads.specs.Routes.{kind, strip};
 use crate::check::Check;
 use crate::heads::Facts;
 use crate::methods::Verb;
-use crate::routes::{Kind, kind_of};
+use crate::routes::{Kind, Routes};
 use std::alloc::{AllocError, Global};
 use std::str;
 use up_canon::file_name::FileName;
@@ -30,6 +30,7 @@ pub enum Routed {
 #[tactic(auto, unfolding(crate::specs::Routed::routed))]
 pub fn route_of(
     alloc: Global,
+    routes: &mut Routes,
     bytes: &[u8],
     facts: &Facts,
     stated: Option<usize>,
@@ -38,13 +39,14 @@ pub fn route_of(
     ensures { IfOk result (λ route. (head : RequestHead) → IsFactsOf bytes.now head facts.now
         → route ≡ routed head stated) }
 {
-    route_at(alloc, facts.target.of(bytes), facts.verb, stated)
+    route_at(alloc, routes, facts.target.of(bytes), facts.verb, stated)
 }
 
 /// What is asked by a target and a method.
 #[tactic(auto, unfolding(crate::specs::Routed::routed_at))]
 fn route_at(
     alloc: Global,
+    routes: &mut Routes,
     target: &[u8],
     verb: Verb,
     stated: Option<usize>,
@@ -52,7 +54,7 @@ fn route_at(
     ensures { IfOk result (λ route. route ≡ routed_at target.now verb stated) }
 {
     match str::from_utf8(target) {
-        Ok(text) => route_path(alloc, path_of(text), verb, stated),
+        Ok(text) => route_path(alloc, routes, path_of(text), verb, stated),
         Err(_) => Ok(Routed::Fixed(Check::NotFound)),
     }
 }
@@ -60,13 +62,14 @@ fn route_at(
 /// What is asked by a path and a method.
 fn route_path(
     alloc: Global,
+    routes: &mut Routes,
     path: &str,
     verb: Verb,
     stated: Option<usize>,
 ) -> Result<Routed, AllocError>
     ensures { IfOk result (λ route. route ≡ routed_by (kind path.now) path.now verb stated) }
 {
-    match kind_of(alloc, path)? {
+    match routes.kind_of(path)? {
         Some(Kind::Manifest) => Ok(posted(verb, stated)),
         Some(Kind::Director) => director_file(alloc, path, verb),
         Some(Kind::Image) => image_file(alloc, path, verb),

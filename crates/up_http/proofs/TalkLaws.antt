@@ -1,13 +1,11 @@
 -- A whole conversation keeps the order of its requests and answers.
-use Rattle.std.proofs.Common.{◌≡◌, ◌+◌, ◌-◌, ◌<◌, ◌≤◌, ◌||◌, ◌∙◌, ℕ, Bool, true, false, List, [], ◌∷◌, ◌++◌, length, take, Option, Some, None, MatchBool, refl, sym, ap, subst, arith, append_assoc, append-nil, length-append}
-use Rattle.std.specs.Prelude.{flat_map, is_some, if◌then◌else◌, IfSome, IsTrue}
+use Rattle.std.proofs.Common.{◌≡◌, ◌+◌, ◌<◌, ◌||◌, ◌∙◌, ℕ, Bool, true, false, List, [], ◌∷◌, ◌++◌, length, take, Option, Some, None, refl, sym, ap, subst, arith, append_assoc, append-nil, length-append}
+use Rattle.std.specs.Prelude.{flat_map, if◌then◌else◌, IfSome, IsTrue}
 use Rattle.std.proofs.lemmas.List.Concat.{flat_map-append}
 use Rattle.std.proofs.lemmas.List.{take_all}
-use Rattle.up_lines.specs.Runs.{listed}
 use Rattle.up_http.specs.Requests.{First, Firsts, Requests, asks_running}
 use Rattle.up_http.specs.Feeding.{Gives}
 use Rattle.up_http.specs.Talks.{Talk, silent, wants_of, unsent_wants, Hears, EndsTalk, Event, Came, Ended, Told, Wrote, Happens, Happen, taken_at, asked_at, answered_at, written_at, is_end, has_end, waiting, KeepsOrder}
-use Rattle.up_http.specs.declared.conversation.Wants.{Wants}
 use Rattle.up_http.specs.declared.conversation.Wants.TheVariants.{Read, Answer, Write, Close}
 use Rattle.up_http.specs.declared.asked.Next.{Next}
 use Rattle.up_http.proofs.StreamLaws.{first_runs, firsts_push}

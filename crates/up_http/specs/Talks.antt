@@ -1,5 +1,5 @@
 -- What a conversation shows: how far its stream has come, whether a request waits for its answer, and what isn't written of the answers.
-use Rattle.std.specs.Prelude.{◌≡◌, ◌+◌, ◌++◌, ◌≤◌, ℕ, Bool, true, false, ◌||◌, List, [], ◌∷◌, Option, Some, None, is_some, length, take, drop, flat_map, if◌then◌else◌}
+use Rattle.std.specs.Prelude.{◌≡◌, ◌+◌, ◌++◌, ℕ, Bool, true, false, ◌||◌, List, [], ◌∷◌, Option, is_some, length, take, flat_map, if◌then◌else◌}
 use Rattle.up_lines.specs.Runs.{listed}
 use Rattle.up_http.specs.Feeding.{Fed, Feeds, Ends}
 use Rattle.up_http.specs.Requests.{Firsts, Requests}

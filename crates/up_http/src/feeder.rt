@@ -12,6 +12,7 @@ use std::marker::Model;
 use up_heads::check::Check;
 use up_heads::heads::{Facts, Front};
 use up_heads::routed::{Routed, route_of};
+use up_heads::routes::Routes;
 use up_machine::command::Command;
 use up_manifest::body::Body;
 use up_roles::repository::Repository;
@@ -41,6 +42,8 @@ pub(crate) struct Waiting {
 #[derive(Drop)]
 pub(crate) struct Parts {
     pub alloc: Global,
+    /// The routes of its requests.
+    pub routes: Routes,
     /// The bytes of the head that is coming or is whole.
     pub head: Vec<u8>,
     /// Whether a byte of the request line is among them.
@@ -78,6 +81,7 @@ impl Feeder {
         Feeder {
             parts: Parts {
                 alloc,
+                routes: Routes::new(alloc),
                 head: Vec::new(alloc),
                 begun: false,
                 waiting: None,
@@ -289,7 +293,13 @@ fn feed_whole(
         piece.now step.taken step.next (fed_of parts.new)) }
     ensures err { OnErr result (parts.new ≡ parts.old) }
 {
-    let waiting = begin(parts.alloc, parts.head.as_slice(), facts, stated)?;
+    let waiting = begin(
+        parts.alloc,
+        &mut parts.routes,
+        parts.head.as_slice(),
+        facts,
+        stated,
+    )?;
     match feed_body(parts, waiting, piece) {
         Ok(step) => Ok(step),
         Err(e) => {
@@ -302,6 +312,7 @@ fn feed_whole(
 /// What is kept of the head that the bytes are, and of its body, of which nothing has come.
 fn begin(
     alloc: Global,
+    routes: &mut Routes,
     head: &[u8],
     facts: &Facts,
     stated: Option<usize>,
@@ -311,7 +322,7 @@ fn begin(
     ensures waits { IfOk result (λ waiting. IsWaiting head.now waiting) }
     ensures empty { IfOk result (λ waiting. waiting.body.bytes ≡ []) }
 {
-    let asks = route_of(alloc, head, facts, stated)?;
+    let asks = route_of(alloc, routes, head, facts, stated)?;
     let body = Body::new(alloc, stated.unwrap_or(0) as u64).unwrap();
     Ok(Waiting {
         intent: Intent {

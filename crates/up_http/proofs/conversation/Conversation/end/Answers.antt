@@ -1,4 +1,4 @@
-use Rattle.std.proofs.Common.{◌≡◌, false, [], refl}
+use Rattle.std.proofs.Common.{false, [], refl}
 use Rattle.std.specs.Prelude.{is_some}
 use Rattle.up_http.proofs.TalkLaws.{ends_running}
 use Rattle.up_http.specs.Talks.{Talk}

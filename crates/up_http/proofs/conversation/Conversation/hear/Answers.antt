@@ -1,4 +1,4 @@
-use Rattle.std.proofs.Common.{◌≡◌, ◌∙◌, false, [], refl, sym, ap}
+use Rattle.std.proofs.Common.{◌≡◌, ◌∙◌, false, [], refl, ap}
 use Rattle.std.specs.Prelude.{is_some}
 use Rattle.up_http.proofs.TalkLaws.{reads, wants_read, hears_running}
 use Rattle.up_http.specs.Talks.{Talk}

@@ -6,5 +6,5 @@ pub invariant_of-result : goal.invariant_of-result
 invariant_of-result c = record {
   few = omega arith;
   more = λ _. omega arith;
-  stage = λ _. begins_none _ c.new.ensures.items;
+  stage = λ _. begins_none _ c.new-2.ensures.items;
 }

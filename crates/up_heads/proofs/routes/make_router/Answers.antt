@@ -1,5 +1,5 @@
 use Rattle.matchit.proofs.OnLiterals.{matchit_on_literals}
-use Rattle.up_heads.proofs.routes.routes.Goals as goal
+use Rattle.up_heads.proofs.routes.make_router.Goals as goal
 
 pub returns : goal.returns
 unfolding matchit_on_literals
