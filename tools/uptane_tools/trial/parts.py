@@ -50,7 +50,9 @@ LANES = {
         "up_shipped": "what ships",
         "up_main": "the programs' parts",
         "uptane_desk": "under HMAC",
-        "uptane_desk_ed25519": "under Ed25519"
+        "uptane_desk_ed25519": "under Ed25519",
+        "up_primary_files": "a Primary's files",
+        "uptane_primary": "a Primary"
     },
     "bytes and HTTP": {
         "up_pieces": "bytes in pieces",

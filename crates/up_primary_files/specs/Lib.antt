@@ -1,0 +1,2 @@
+-- What the files of a Primary say, and what is told of a verdict.
+pub mod Verdicts

@@ -1,0 +1,20 @@
+//! The schemes by which a Primary verifies.
+
+/// A scheme by which a Primary verifies.
+#[derive(Clone, Copy, Debug)]
+pub enum Method {
+    /// HMAC-SHA-256: Roots show no keys, so the Primary holds them.
+    Hmac,
+    /// Ed25519: Roots show their keys.
+    Ed25519,
+}
+
+impl Method {
+    /// Its name in Roots and signatures.
+    pub(crate) fn name(self) -> &'static str {
+        match self {
+            Method::Hmac => "hmac-sha256",
+            Method::Ed25519 => "ed25519",
+        }
+    }
+}

@@ -1,0 +1,101 @@
+//! The files of a Primary's state and of what was served: the verdict, and the file of the state behind it.
+use crate::judged::{Judged, judge};
+use crate::served::read_served;
+use crate::state::{State, read_state};
+use crate::state_text::state_text;
+use std::alloc::{AllocError, Global};
+use up_canon::refusal::Refusal;
+use up_verify::served::Served;
+
+/// How it comes out: whether all was accepted, the text that tells the verdict, and the text of the state's file behind it.
+#[derive(Debug, Drop)]
+pub struct Outcome {
+    pub is_accepted: bool,
+    pub told: String,
+    pub state: String,
+}
+
+/// The verdict at a moment, in seconds, by the texts of both files. Else what is wrong with the file of the state, or that there
+/// is no memory. What is wrong with the other file, as a reply that can't be read, is a verdict: the state stays.
+pub fn judge_files(alloc: Global, now: u64, state: &str, served: &str) -> Result<Outcome, Refusal> {
+    match read_state(alloc, state) {
+        Ok(before) => {
+            let told = outcome_of(alloc, now, &before, state, served);
+            // Dropped by name: at the end of a scope it would be proved part by part.
+            drop(before);
+            told
+        }
+        Err(refusal) => Err(refusal),
+    }
+}
+
+fn outcome_of(
+    alloc: Global,
+    now: u64,
+    before: &State,
+    state: &str,
+    served: &str,
+) -> Result<Outcome, Refusal> {
+    match read_served(alloc, served) {
+        Ok(served) => {
+            let told = verified(alloc, now, before, &served);
+            drop(served);
+            Ok(told?)
+        }
+        Err(Refusal::Memory) => Err(Refusal::Memory),
+        Err(refusal) => {
+            let told = unread(alloc, state, &refusal);
+            drop(refusal);
+            Ok(told?)
+        }
+    }
+}
+
+fn unread(alloc: Global, state: &str, refusal: &Refusal) -> Result<Outcome, AllocError> {
+    let named = refusal.text(alloc)?;
+    let told = format!(in alloc; "refused reply {named}\n")?;
+    let state = state.to_string(alloc)?;
+    Ok(Outcome {
+        is_accepted: false,
+        told,
+        state,
+    })
+}
+
+fn verified(
+    alloc: Global,
+    now: u64,
+    before: &State,
+    served: &Served,
+) -> Result<Outcome, AllocError> {
+    let held = before.held.as_slice();
+    match judge(alloc, before.method, held, now, &before.primary, served) {
+        Ok(
+            Judged {
+                is_accepted,
+                told,
+                next,
+            },
+        ) => {
+            let written = state_text(alloc, before, &next, served);
+            drop(next);
+            with_state(is_accepted, told, written)
+        }
+        Err(fault) => Err(fault),
+    }
+}
+
+fn with_state(
+    is_accepted: bool,
+    told: String,
+    written: Result<String, AllocError>,
+) -> Result<Outcome, AllocError> {
+    match written {
+        Ok(state) => Ok(Outcome {
+            is_accepted,
+            told,
+            state,
+        }),
+        Err(fault) => Err(fault),
+    }
+}

@@ -1,0 +1,72 @@
+//! What was served to a Primary, as a JSON file.
+use crate::form::{text_or_empty, texts_of_member};
+use crate::reply::read_reply;
+use serde_json::{Map, Value};
+use std::alloc::Global;
+use up_canon::bytes::Bytes;
+use up_canon::fields::text_at;
+use up_canon::json_text::value_of_text;
+use up_canon::kinds::object_of;
+use up_canon::listed::Listed;
+use up_canon::refusal::Refusal;
+use up_metadata::role_files::RoleTexts;
+use up_verify::served::Served;
+
+/// What the file's text says was served: `director_roots` and `image_roots`, the texts of the Roots behind the trusted ones, in
+/// order; `reply`, the Director's; `timestamp`, `snapshot` and `targets`, the Image repository's, each as it came. Where one of
+/// these three is missing, it is taken as an empty text. `NotJson`, `BadShape` with the name of the first member at fault, of the
+/// file and then of the reply, `Memory`.
+pub(crate) fn read_served(alloc: Global, text: &str) -> Result<Served, Refusal> {
+    let value = value_of_text(alloc, text)?;
+    let read = served_of(alloc, &value);
+    // Dropped by name: at the end of a scope it would be proved part by part.
+    drop(value);
+    read
+}
+
+fn served_of(alloc: Global, value: &Value) -> Result<Served, Refusal> {
+    let map = object_of(value, "served")?;
+    let reply = read_reply(alloc, text_at(map, "reply")?)?;
+    match files_at(alloc, map) {
+        Ok(
+            Files {
+                director_roots,
+                image_roots,
+                image,
+            },
+        ) => Ok(Served {
+            director_roots,
+            reply,
+            image_roots,
+            image,
+        }),
+        Err(refusal) => {
+            drop(reply);
+            Err(refusal)
+        }
+    }
+}
+
+/// The Roots of both repositories, and the Image repository's other files.
+#[derive(Debug, Drop)]
+struct Files {
+    director_roots: Listed<Bytes>,
+    image_roots: Listed<Bytes>,
+    image: RoleTexts,
+}
+
+fn files_at(alloc: Global, map: &Map<String, Value>) -> Result<Files, Refusal> {
+    Ok(Files {
+        director_roots: texts_of_member(alloc, map, "director_roots")?,
+        image_roots: texts_of_member(alloc, map, "image_roots")?,
+        image: image_at(alloc, map)?,
+    })
+}
+
+fn image_at(alloc: Global, map: &Map<String, Value>) -> Result<RoleTexts, Refusal> {
+    Ok(RoleTexts {
+        targets: text_or_empty(alloc, map, "targets")?,
+        snapshot: text_or_empty(alloc, map, "snapshot")?,
+        timestamp: text_or_empty(alloc, map, "timestamp")?,
+    })
+}

@@ -1,0 +1,92 @@
+//! A Primary that verifies in full: `uptane_primary STATE NOW SERVED`.
+#![tactic(auto)]
+
+use std::io::{self, Write};
+use std::process::ExitCode;
+use std::{env, fs};
+use up_primary_files::round::{Outcome, judge_files};
+
+/// How the program ends.
+enum Ended {
+    /// All was accepted, or a check wasn't passed.
+    Verdict(bool),
+    /// The words aren't those of the usage.
+    Usage,
+    /// A file can't be read, or the state's is none.
+    Unread,
+    /// The new state couldn't be written, and the old one stands; or the verdict couldn't be printed.
+    Unwritten,
+}
+
+fn main(rt: HostRuntime) -> ExitCode {
+    match carried_out(&rt) {
+        Ended::Verdict(true) => ExitCode::from(0),
+        Ended::Verdict(false) => ExitCode::from(1),
+        Ended::Usage => told(&rt, 2, "usage: uptane_primary STATE NOW SERVED\n"),
+        Ended::Unread => told(&rt, 3, "uptane_primary: cannot read the files\n"),
+        Ended::Unwritten => told(&rt, 4, "uptane_primary: cannot write\n"),
+    }
+}
+
+/// Tells on standard error why it ends, with this status. A line that can't be written is ignored.
+fn told(rt: &HostRuntime, status: u8, line: &str) -> ExitCode {
+    let _ = rt.stderr().write_all(line.as_bytes());
+    ExitCode::from(status)
+}
+
+fn carried_out(rt: &HostRuntime) -> Ended {
+    let Ok(mut words) = env::args(rt) else {
+        return Ended::Usage;
+    };
+    words.next();
+    let (Some(state), Some(now), Some(served), None) = (
+        words.next(),
+        words.next(),
+        words.next(),
+        words.next(),
+    ) else {
+        return Ended::Usage;
+    };
+    match now.as_str().parse::<u64>() {
+        Ok(now) => judged_files(rt, state.as_str(), now, served.as_str()),
+        Err(_) => Ended::Usage,
+    }
+}
+
+fn judged_files(rt: &HostRuntime, state: &str, now: u64, served: &str) -> Ended {
+    let Ok(before) = fs::read_to_string(rt, state) else {
+        return Ended::Unread;
+    };
+    let Ok(came) = fs::read_to_string(rt, served) else {
+        return Ended::Unread;
+    };
+    match judge_files(rt.alloc(), now, before.as_str(), came.as_str()) {
+        Ok(outcome) => kept(rt, state, &outcome),
+        Err(_) => Ended::Unread,
+    }
+}
+
+/// Puts the new state in the old one's place, and then prints the verdict.
+fn kept(rt: &HostRuntime, state: &str, outcome: &Outcome) -> Ended {
+    match replaced(rt, state, outcome.state.as_str()) {
+        Ok(()) => match rt.stdout().write_all(outcome.told.as_bytes()) {
+            Ok(()) => Ended::Verdict(outcome.is_accepted),
+            Err(_) => Ended::Unwritten,
+        },
+        Err(_) => Ended::Unwritten,
+    }
+}
+
+/// Writes the file beside, and then in its place by one renaming: so it is the old one or the new one, whole, at a crash too.
+fn replaced(rt: &HostRuntime, file: &str, text: &str) -> io::Result<()> {
+    let beside = format!(in rt.alloc(); "{file}.new")?;
+    written(rt, beside.as_str(), text)?;
+    fs::rename(rt, beside.as_str(), file)
+}
+
+/// Writes a file, and waits until it is on the disk.
+fn written(rt: &HostRuntime, file: &str, text: &str) -> io::Result<()> {
+    let mut opened = fs::create(rt, file)?;
+    opened.write_all(text.as_bytes())?;
+    opened.sync_all()
+}

@@ -1,0 +1,98 @@
+"""Tries the proved Primary by the chains of `vectors/`, of both schemes: the verdict on each, what
+is to be installed, and the state that is written.
+
+    tools/run proved_primary PROGRAM
+
+promise: primary-told, primary-verifies, primary-roots
+"""
+import json
+import subprocess
+from pathlib import Path
+
+from uptane_tools import arguments
+from uptane_tools.oracle import reference
+from uptane_tools.trial import trials, vector_cases
+
+FILES = ("timestamp", "snapshot", "targets")
+
+
+def roots_behind(texts: dict, repository: str) -> list[str]:
+    """The Roots behind the trusted one, as far as they are served."""
+    found: list[str] = []
+    first = json.loads(texts[repository + "/1.root.json"])["signed"]["version"] + 1
+    while texts.get("%s/%d.root.json" % (repository, first + len(found))) is not None:
+        found.append(texts["%s/%d.root.json" % (repository, first + len(found))])
+    return found
+
+
+def trust(known: dict, texts: dict, repository: str) -> dict:
+    """What is trusted of a repository, as the state's file has it."""
+    versions = dict.fromkeys(FILES, 0) | known[repository]["versions"]
+    return {"root": texts[repository + "/1.root.json"]} | versions
+
+
+def state_of(told: dict, case: dict, texts: dict) -> dict:
+    """The state's file of a case."""
+    known = vector_cases.vehicle_of(vector_cases.SMALL, told, case, texts.__getitem__)
+    ecus = [{
+        "ecu": it["ecu"], "hardware": it["hardware"], "release": it["installed"]["release"] or 0
+    } for it in known["ecus"]]
+    return {
+        "method": told["method"],
+        "vehicle": known["vehicle"],
+        "ecus": ecus,
+        "replaced": known["replaced"],
+        "held": [*told["vehicle"]["role_keys"].values()],
+    } | {it: trust(known, texts, it)
+         for it in reference.REPOSITORIES}
+
+
+def served_of(texts: dict) -> dict:
+    """The file of what was served."""
+    roots = {it + "_roots": roots_behind(texts, it) for it in reference.REPOSITORIES}
+    images = {it: texts.get("image/%s.json" % it) or "" for it in FILES}
+    return roots | images | {"reply": texts["reply"]}
+
+
+def is_answered(program: str, told: dict, case: dict, own: Path) -> bool:
+    """Whether the program gives the case its verdict, and writes the state behind it."""
+    texts = told["files of " + case["base"]] | case.get("replace", {})
+    state, served = own / "state.json", own / "served.json"
+    state.write_text(json.dumps(state_of(told, case, texts)), encoding="ascii")
+    served.write_text(json.dumps(served_of(texts)), encoding="ascii")
+    words = [program, str(state), str(case.get("now", told["now"])), str(served)]
+    ran = subprocess.run(words, capture_output=True, check=False, timeout=60)
+    lines = ran.stdout.decode("ascii").splitlines() or [""]
+    verdict = lines[0].split(" ")[0]
+    installs = dict(line.split(" ")[1:3] for line in lines[1:])
+    wanted = case.get("installs", told["installs"]) if case["verdict"] == "accepted" else {}
+    return (verdict, installs, ran.returncode) == (case["verdict"], wanted,
+                                                   int(verdict != "accepted")) and has_state(
+                                                       state, case["state"])
+
+
+def has_state(path: Path, wanted: dict) -> bool:
+    """Whether the file has this state."""
+    state = json.loads(path.read_text(encoding="ascii"))
+    found = {
+        it: {"root": json.loads(state[it]["root"])["signed"]["version"]}
+        | {name: state[it][name]
+           for name in FILES}
+        for it in wanted
+    }
+    return found == wanted and not path.with_suffix(".json.new").exists()
+
+
+def cases(program: str):
+    with trials.folder() as own:
+        for method in vector_cases.envelopes.SCHEMES:
+            told = vector_cases.vectors("chains", method)
+            for case in told["cases"]:
+                name = "%s: %s: %s" % (method, case["attack"], case["name"])
+                yield name, is_answered(program, told, case, Path(own))
+
+
+def main(words: arguments.Words = None) -> int:
+    """Tries the program."""
+    asked = arguments.given(__doc__, words, "program")
+    return trials.judged("chains", cases(asked.program))
