@@ -1,6 +1,6 @@
 -- What lines and requests ask is within the limits of commands.
-use Rattle.std.proofs.Common.{◌≡◌, inl, inr, ℕ, ◌+◌, ◌<◌, ◌≤◌, List, [], ◌∷◌, Bool, true, false, Option, Some, None, Result, Ok, Err, refl, sym, ap, ◌∙◌, subst, arith}
-use Rattle.std.specs.Prelude.{⊤, ◌&&◌, ◌⊎◌, MatchBool, length, take, drop, is_none, nat_le}
+use Rattle.std.proofs.Common.{◌≡◌, inl, inr, ℕ, ◌+◌, ◌≤◌, List, [], ◌∷◌, Bool, true, false, Option, Some, None, Result, Ok, Err, refl, sym, ap, ◌∙◌, subst, arith}
+use Rattle.std.specs.Prelude.{⊤, ◌&&◌, MatchBool, length, take, drop, is_none, nat_le}
 use Rattle.std.specs.List.{AllByRecursion}
 use Rattle.std.proofs.lemmas.Bool.Decides.{nat_tests}
 use Rattle.serde_json.specs.Data.{Data}
@@ -33,10 +33,9 @@ use Rattle.up_heads.specs.declared.routed.Routed.TheVariants as routed_as
 use Rattle.up_heads.specs.Framing.{framing}
 use Rattle.up_heads.specs.Routed.{routed}
 use Rattle.httparse.specs.Grammar.{RequestHead}
-use Rattle.up_http.specs.Requests.{First, Firsts, Framed, Requests, asked, refused, with_body, size_of}
+use Rattle.up_http.specs.Requests.{First, Firsts, Framed, asked, refused, with_body, size_of}
 use Rattle.up_http.specs.declared.asked.Next.{Next}
-use Rattle.up_http.specs.declared.asked.What.{What as Requested}
-use Rattle.up_http.specs.declared.asked.What.TheVariants.{Call as Request, Fixed}
+use Rattle.up_http.specs.declared.asked.What.TheVariants.{Fixed}
 use Rattle.up_shipped.specs.Shipped.{command_at, command_of, lines_ask, requested_at, requests_ask}
 use Rattle.up_shipped.proofs.Items.{Fits}
 

@@ -5,7 +5,6 @@ use Rattle.std.specs.List.{AllByRecursion, cons_option}
 use Rattle.std.specs.Cmp.Lexicographic.{bytes_decides}
 use Rattle.up_canon.specs.declared.refusal.Refusal.{Refusal}
 use Rattle.up_canon.specs.declared.refusal.Refusal.TheVariants.{Memory, Store}
-use Rattle.up_sign.specs.Schemes.{Rules}
 use Rattle.up_machine.specs.declared.answer.Answer.{Answer}
 use Rattle.up_machine.specs.declared.answer.Answer.TheVariants.{Refused}
 use Rattle.up_machine.specs.declared.command.Command.{Command}
@@ -21,7 +20,7 @@ use Rattle.up_desk.proofs.Runs.{ListLaws, Ran}
 use Rattle.up_service.specs.Answers.{Answered, answered_as, IsFailed}
 use Rattle.up_service.specs.Runs.{Service, Told, told, tells_fault, behind, after, AreDue, Lasts}
 use Rattle.up_service.proofs.Failing.{failed_answer}
-use Rattle.up_shipped.specs.Items.{Asking, commands_in, TellsNext, AreTold, IsRunOf, IsShipped}
+use Rattle.up_shipped.specs.Items.{Asking, commands_in, TellsNext, AreTold, IsShipped}
 use Rattle.up_shipped.proofs.Called.{called}
 
 -- a service answers what the items ask

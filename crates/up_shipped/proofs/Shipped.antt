@@ -1,18 +1,16 @@
 -- Whole scripts and whole streams are runs of the plain machine.
-use Rattle.std.proofs.Common.{◌≡◌, inl, inr, ℕ, List, Bool, true, false, Option, Some, None, Result, Ok, Err, refl, sym, ap, ◌∙◌, subst}
+use Rattle.std.proofs.Common.{◌≡◌, ℕ, List, Bool, true, false, Option, Some, None, Result, Ok, Err, refl, ap, subst}
 use Rattle.std.specs.Prelude.{[], ◌++◌, MatchResult}
 use Rattle.std.specs.List.{AllByRecursion}
 use Rattle.sqlite_trees.specs.declared.store.Store.{Ghosts}
 use Rattle.up_canon.specs.declared.refusal.Refusal.{Refusal}
 use Rattle.up_sign.specs.Schemes.{Rules}
 use Rattle.up_machine.specs.declared.command.Command.{Command}
-use Rattle.up_machine.specs.Sound.{IsSound}
 use Rattle.up_machine.specs.State.{State}
-use Rattle.up_records.specs.Standing.{HasCleanDisk, IfClean, ShowsState, state}
-use Rattle.up_desk.specs.Desks.{DeskView}
+use Rattle.up_records.specs.Standing.{state}
 use Rattle.up_desk.proofs.Runs.{ListLaws}
-use Rattle.up_lines.specs.LineRuns.{FinishedLines, Stopped as StoppedLines, print}
-use Rattle.up_lines.specs.Runs.{At, Breaks}
+use Rattle.up_lines.specs.LineRuns.{print}
+use Rattle.up_lines.specs.Runs.{Breaks}
 use Rattle.up_lines.specs.declared.fault.ScriptCause.{ScriptCause}
 use Rattle.up_lines.specs.declared.fault.ScriptFault.{ScriptFault}
 use Rattle.up_script.specs.AskedLines.{asked_in}
@@ -26,7 +24,7 @@ use Rattle.up_http.specs.declared.asked.What.{What as Requested}
 use Rattle.up_http.specs.declared.asked.What.TheVariants.{Call as Request, Fixed}
 use Rattle.up_http.specs.declared.fault.ServeFault.{ServeFault}
 use Rattle.up_http.specs.declared.served.Served.{Served}
-use Rattle.up_service.specs.Answers.{Answered, answered_as}
+use Rattle.up_service.specs.Answers.{answered_as}
 use Rattle.up_service.specs.LineAnswers.{Lines, line_answer, answer_to, carried_out}
 use Rattle.up_service.specs.Responses.{Responses, answer_response}
 use Rattle.up_service.specs.Scripts.{line_service, RunsScript}

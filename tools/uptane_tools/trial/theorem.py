@@ -26,6 +26,8 @@ from uptane_tools.trial.trials import TOP
 
 PAGE = TOP / "docs" / "trust" / "THEOREM.md"
 HEADLINE = ("crates/up_desk/src/desk.rt", "run")
+# the same over fresh tables, whose statement has nothing of the inside
+FRESH = ("crates/up_shipped/src/fresh.rt", "run_fresh")
 # the law of the scheme that a desk is over, by the bound of its type
 BOUND = TOP / "crates" / "up_sign" / "src" / "scheme.rt"
 QUOTE = re.compile(r"^<!-- (quote|example) (\S+) (\w+) -->\n\n((?:    .*\n|\n(?=    ))*)",
@@ -153,11 +155,11 @@ def names_in(text, parts, imports):
             yield None, head
 
 
-def closure():
-    """Each definition that the headline's contract leads to, and the law of the scheme that it
-    is over: the file, its name and its text.
+def closure(head=HEADLINE):
+    """Each definition that the contract leads to, and the law of the scheme that it is over: the
+    file, its name and its text.
     """
-    file, name = HEADLINE
+    file, name = head
     text, bound = (TOP / file).read_text(encoding="utf-8"), BOUND.read_text(encoding="utf-8")
     law = re.search(r"ghost lawful: .*", bound)
     waiting, done, found = [], set(), []
@@ -195,10 +197,10 @@ def to_read(text):
         yield folder / name
 
 
-def counted():
+def counted(head=HEADLINE):
     """For each crate, in the order of the table: how many definitions, files, lines and words."""
     rows = defaultdict(lambda: [0, set(), 0, 0])
-    for source, _, text in closure():
+    for source, _, text in closure(head):
         row = rows[source.relative_to(TOP / "crates").parts[0]]
         row[0] += 1
         row[1].add(source)
@@ -208,16 +210,20 @@ def counted():
     return {it: (rows[it][0], len(rows[it][1]), rows[it][2], rows[it][3]) for it in order}
 
 
+def total_of(rows):
+    return " | ".join("{:,}".format(sum(row[at] for row in rows.values())) for at in range(4))
+
+
 def table():
     rows = counted()
-    total = [sum(row[at] for row in rows.values()) for at in range(4)]
     lines = ["| Part | Crate | Definitions | Files | Lines | Words |", "|---|---|---|---|---|---|"]
     lines += [
         "| %s | `%s` | %s |" % (PARTS.get(crate, ""), crate, " | ".join("{:,}".format(it)
                                                                         for it in row))
         for crate, row in rows.items()]
-    return "\n".join(lines + ["| all | | %s |" % " | ".join("{:,}".format(it)
-                                                            for it in total)]) + "\n"
+    lines.append("| all | | %s |" % total_of(rows))
+    lines.append("| of `%s` | | %s |" % (FRESH[1], total_of(counted(FRESH))))
+    return "\n".join(lines) + "\n"
 
 
 # ---- the kit

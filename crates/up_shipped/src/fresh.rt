@@ -1,0 +1,43 @@
+//! Lists of commands over fresh tables.
+ghost use Rattle.std.specs.Prelude.{◌≡◌, false, IfSome, IsTrue};
+ghost use Rattle.std.specs.List.{AllByRecursion};
+ghost use Rattle.sqlite.specs.Held.{state};
+ghost use Rattle.sqlite.specs.State.{HasCleanDisk};
+ghost use Rattle.up_machine.specs.Commands.{opens_running};
+ghost use Rattle.up_shipped.specs.FromNothing.{IsRunFromNothing};
+
+use sqlite::{Alter, Connection};
+use std::alloc::Global;
+use up_desk::desk::Desk;
+use up_machine::answer::Answer;
+use up_machine::command::Command;
+use up_machine::laws::states_stay_sound;
+use up_rows::laws::rows_tell_the_state;
+use up_sign::scheme::Scheme;
+use up_store::store::Store;
+
+/// Makes the tables in a database that has none, and answers commands over them, one after another. Where the disk has returned what was
+/// written, the answers are those of a run of the plain machine from nothing: nothing is done twice, a repeat gets the kept reply, each
+/// vehicle stands by itself, neighbours may be exchanged, and what failed changed nothing. `None` where no tables can be made, or there is
+/// no room for the answers; else the connection comes back with them.
+pub fn run_fresh<K: Scheme, D: Alter + Drop>(
+    alloc: Global,
+    scheme: K,
+    conn: Connection<D>,
+    commands: &[(u64, Command)],
+) -> Option<(Vec<Answer>, Connection<D>)>
+    requires mode { (state D.Store conn).in_transaction ≡ false }
+    requires running { AllByRecursion (λ c. IsTrue (opens_running c.1)) commands.now }
+    ensures { IfSome result (λ r. HasCleanDisk (state D.Store r.1) → IsRunFromNothing (K.rules scheme) commands.now r.0.items) }
+{
+    states_stay_sound();
+    rows_tell_the_state();
+    let Ok(store) = Store::create(conn) else {
+        return None;
+    };
+    let mut desk = Desk::new(scheme, store);
+    let mut answers = Vec::new(alloc);
+    let ran = desk.run(alloc, commands, &mut answers).is_ok();
+    let conn = desk.release().release();
+    if ran { Some((answers, conn)) } else { None }
+}
