@@ -76,7 +76,7 @@ def follows(status, text):
     if status >= 500 or type(error) is not int or error < 1 or not isinstance(words, str):
         return "again", None
     value = words.partition(" ")[2]
-    if error == 13 and forms.is_like("[0-9]{1,16}", value):
+    if error == 13 and forms.is_like("[0-9]{1,16}", value) and int(value) <= MOST:
         return "counter", int(value)
     return ("report", value) if error == 18 and forms.is_name(value) else ("mend", error)
 
@@ -103,7 +103,9 @@ def asked(url, body=None):
                 verify.expect(len(text) <= forms.LARGEST, "%s has no end", url)
                 came = answer.status, text.decode("ascii")
         except urllib.error.HTTPError as refused:
-            came = refused.code, refused.read(forms.LARGEST).decode("ascii", "replace")
+            text = refused.read(forms.LARGEST + 1)
+            verify.expect(len(text) <= forms.LARGEST, "%s has no end", url)
+            came = refused.code, text.decode("ascii", "replace")
         except (OSError, http.client.HTTPException, UnicodeError) as error:
             came, wrong = None, error
         if came and follows(*came)[0] != "again":

@@ -361,7 +361,7 @@ function follows(status, text) {
   const { error, text: words } = told;
   if (status >= 500 || !Number.isInteger(error) || error < 1 || typeof words !== 'string') return ['again', null];
   const value = words.slice(words.split(' ')[0].length + 1);
-  if (error === 13 && /^\d{1,16}$/.test(value)) return ['counter', Number(value)];
+  if (error === 13 && /^\d{1,16}$/.test(value) && Number(value) <= MOST) return ['counter', Number(value)];
   return error === 18 && isName(value) ? ['report', value] : ['mend', error];
 }
 

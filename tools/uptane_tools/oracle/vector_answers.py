@@ -34,6 +34,8 @@ ANSWERS = [
     ("a number of the service with a status of 500", 500, told(13, "Stale 7"), "again", None),
     ("a counter that was used", 409, told(13, "Stale 7"), "counter", 7),
     ("a counter near the greatest", 409, told(13, "Stale %d" % (MOST - 1)), "counter", MOST - 1),
+    ("the greatest counter", 409, told(13, "Stale %d" % MOST), "counter", MOST),
+    ("a counter above the greatest", 409, told(13, "Stale %d" % (MOST + 1)), "mend", 13),
     ("a counter that was used, without a number", 409, told(13, "Stale"), "mend", 13),
     ("a counter that was used, with two numbers", 409, told(13, "Stale 7 8"), "mend", 13),
     ("a report that was used", 409, told(18, "ReportReplayed left"), "report", "left"),
@@ -65,6 +67,8 @@ FILES = [
     ("a path that was changed on its way", 404, told(0, "not found"), "again"),
     ("a proxy's page of that status", 404, "<html>404</html>", "again"),
     ("a proxy's page with status 200", 200, "<html>200 OK</html>", "again"),
+    ("a file that was cut", 200, '{"signatures":[],"signed":{', "again"),
+    ("a list with status 200", 200, "[5]", "again"),
     ("a service that isn't founded yet", 503, told(8, "NotFounded"), "again"),
     ("a refusal of manifests", 403, told(12, "BadManifestSignature"), "end"), ]
 

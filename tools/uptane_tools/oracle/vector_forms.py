@@ -160,7 +160,8 @@ def of_files(it):
         name = "%s Timestamp has the Snapshot's SHA-256 in upper case" % OF[repository]
         yield kind, name, NO, getattr(it, repository)("timestamp", upper), {}
     for text in ("2026-01-08T00:00:00", "2026-01-08T00:00:00+00:00", "2026-02-30T00:00:00Z",
-                 "2026-01-08T24:00:00Z", "1969-12-31T23:59:59Z"):
+                 "2026-01-08T24:00:00Z", "2026-01-07T23:60:00Z", "2026-01-07T23:59:60Z",
+                 "1969-12-31T23:59:59Z"):
         yield kind, "Targets that expire at %s" % text, NO, it.director(
             "targets", members(expires=text)), {}
     yield kind, "Targets that expire at a number", NO, it.director("targets",
