@@ -1,3 +1,4 @@
 pub mod Lawful
+pub mod Ready
 pub mod Scheme
 pub mod Shows

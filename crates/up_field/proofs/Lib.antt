@@ -4,6 +4,7 @@ pub mod Chains
 pub mod CombSteps
 pub mod Digits
 pub mod Doubling
+pub mod FarSteps
 pub mod OddSteps
 pub mod Pairs
 pub mod Powers

@@ -1,9 +1,9 @@
 -- Digits that are put into a list, and taken from it.
 unfoldable pub use Rattle.up_field.specs.Sparse.{scattered}
-use Rattle.std.proofs.Common.{◌≡◌, ℕ, ◌+◌, ◌*◌, ◌^◌, ◌<◌, Bool, true, false, ◌==◌, eqb, eqb-true, eq-eqb, List, [], ◌∷◌, ◌++◌, length, take, drop, get_or, refl, sym, ◌∙◌, ap, subst, arith, pow-suc}
+use Rattle.std.proofs.Common.{◌≡◌, ℕ, zero, suc, ◌+◌, ◌*◌, ◌-◌, ◌^◌, ◌<◌, Bool, true, false, ◌==◌, eqb, eqb-true, eq-eqb, List, [], ◌∷◌, ◌++◌, length, take, drop, get_or, refl, sym, ◌∙◌, ap, subst, arith, pow-suc}
 use Rattle.std.proofs.Math.Nat.{pow-zero}
 use Rattle.std.proofs.Math.ListN.{set}
-use Rattle.std.proofs.lemmas.List.{drop_more, take_more_set, get_or-set_other, length-take}
+use Rattle.std.proofs.lemmas.List.{drop_more, drop_all, take_more_set, get_or-set_other, get_or-take, length-take, length-take-le}
 use Rattle.std.proofs.lemmas.Grind.{get_or-set_at}
 
 pub scattered-drop : (ds : List ℕ) (i : ℕ) → i < length ds → scattered (drop i ds) ≡ get_or ds i 0 + 2 * scattered (drop (i + 1) ds)
@@ -24,6 +24,12 @@ scattered-set ds i d h =
     ap scattered (take_more_set ds i d h) ∙ scattered-more (take i ds) d
     ∙ ap (λ z. scattered (take i ds) + 2 ^ z * d) (let e : length (take i ds) ≡ i = omega (arith, length-take i ds, h) in e)
 
+scattered-halves : (n : ℕ) (ds : List ℕ) → n < length ds → scattered (take n ds) + 2 ^ n * scattered (drop n ds) ≡ scattered ds
+unfolding scattered
+scattered-halves zero ds h = omega (arith, ap (λ z. z * scattered ds) (pow-zero 2))
+scattered-halves (suc n) [] h = absurd (omega (arith, h))
+scattered-halves (suc n) (d ∷ ds) h = omega (arith, scattered-halves n ds (omega (arith, h)), ap (λ z. z * scattered (drop n ds)) (pow-suc 2 n))
+
 eqb_ne : (a b : ℕ) → eqb a b ≡ false → a ≡ b → ⊥
 eqb_ne a b e h = let k : true ≡ false = sym (eq-eqb a b h) ∙ e in absurd (cc)
 
@@ -34,3 +40,31 @@ all_set P ds i d k l h j = from (k == i) refl
     from : (b : Bool) → (k == i) ≡ b → P (get_or (set ds i d) k 0)
     from true e = subst P (sym (get_or-set_at ds i k d 0 (eqb-true k i e) l)) h
     from false e = subst P (sym (get_or-set_other ds i k d 0 (λ z. eqb_ne k i e z))) j
+
+-- the last digits of each half of 256, so many
+abbrev pub halves : List ℕ → ℕ → ℕ
+halves ds i = scattered (drop (128 - i) (take 128 ds)) + 2 ^ 128 * scattered (drop (256 - i) ds)
+
+module _ (ds : List ℕ) (l : length ds ≡ 256) where
+  half : length (take 128 ds) ≡ 128
+  half = length-take-le 128 ds (omega (arith, l))
+
+  pub halves-none : halves ds 0 ≡ 0
+  halves-none =
+      let x : scattered (drop (128 - 0) (take 128 ds)) ≡ 0 = ap scattered (drop_all (128 - 0) (take 128 ds) (omega (arith, half))) ∙ scattered-nil in
+      let y : scattered (drop (256 - 0) ds) ≡ 0 = ap scattered (drop_all (256 - 0) ds (omega (arith, l))) ∙ scattered-nil in
+      omega (arith, x, y)
+
+  pub halves-more : (i : ℕ) → i < 128 → 2 * halves ds i + get_or ds (127 - i) 0 + 2 ^ 128 * get_or ds (255 - i) 0 ≡ halves ds (i + 1)
+  halves-more i h =
+      let low = scattered-drop (take 128 ds) (127 - i) (omega (arith, h, half)) in
+      let high = scattered-drop ds (255 - i) (omega (arith, h, l)) in
+      let g : get_or (take 128 ds) (127 - i) 0 ≡ get_or ds (127 - i) 0 = get_or-take 128 ds (127 - i) 0 (omega (arith, h)) in
+      let a : scattered (drop (127 - i + 1) (take 128 ds)) ≡ scattered (drop (128 - i) (take 128 ds)) = ap (λ z. scattered (drop z (take 128 ds))) (omega (arith, h)) in
+      let b : scattered (drop (128 - (i + 1)) (take 128 ds)) ≡ scattered (drop (127 - i) (take 128 ds)) = ap (λ z. scattered (drop z (take 128 ds))) (omega (arith, h)) in
+      let u : scattered (drop (255 - i + 1) ds) ≡ scattered (drop (256 - i) ds) = ap (λ z. scattered (drop z ds)) (omega (arith, h)) in
+      let v : scattered (drop (256 - (i + 1)) ds) ≡ scattered (drop (255 - i) ds) = ap (λ z. scattered (drop z ds)) (omega (arith, h)) in
+      omega (arith, low, high, g, a, b, u, v)
+
+  pub halves-all : halves ds 128 ≡ scattered ds
+  halves-all = scattered-halves 128 ds (omega (arith, l))

@@ -1,7 +1,8 @@
 -- Tables of odd multiples.
-use Rattle.std.specs.Prelude.{ℕ, ◌<◌, ◌+◌, ◌*◌, List, slice_index_or}
+use Rattle.std.specs.Prelude.{ℕ, ◌<◌, ◌+◌, ◌*◌, ◌^◌, List, slice_index_or}
 use Rattle.up_field.specs.declared.affine.Affine.{Affine}
 use Rattle.up_field.specs.declared.cached.Cached.{Cached}
+use Rattle.up_field.specs.declared.halves.Multiples.{Multiples}
 use Rattle.up_field.specs.Affine.{Keeps}
 use Rattle.up_field.specs.Cached.{Stores}
 use Rattle.up_curve.specs.Curve.{Point, add, base, multiple}
@@ -17,3 +18,12 @@ pub record IsTable (t : List Cached) (m : Point) : Type 0 where
 -- the k-th entry keeps 2 k + 1 times the base point
 pub record AreOddMultiples (t : List Affine) : Type 0 where
   pub keeps : (k : ℕ) → k < 64 → (q : Affine) → Keeps (slice_index_or t k q) (multiple (2 * k + 1) base)
+
+-- the k-th entry keeps 2 k + 1 times 2^128 times the base point
+pub record AreFarMultiples (t : List Affine) : Type 0 where
+  pub keeps : (k : ℕ) → k < 64 → (q : Affine) → Keeps (slice_index_or t k q) (multiple (2 ^ 128 * (2 * k + 1)) base)
+
+-- they are odd multiples of the point, and of 2^128 times it
+pub record AreMultiples (t : Multiples) (m : Point) : Type 0 where
+  pub low : IsTable t.low m
+  pub high : IsTable t.high (multiple (2 ^ 128) m)

@@ -14,7 +14,7 @@ use crate::words::Words;
 
 /// A point made ready for sums: its coordinates' sum and difference, twice z, and twice d times t.
 #[derive(Clone, Copy)]
-pub(crate) struct Cached {
+pub struct Cached {
     pub plus: Words,
     pub minus: Words,
     pub z: Words,

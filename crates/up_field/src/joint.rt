@@ -33,7 +33,7 @@ pub fn joint(k: &[u8; 32], a: Extended, s: &[u8; 32]) -> Extended
 }
 
 /// The first eight odd multiples of a point.
-fn odd_multiples(q: Extended) -> [Cached; 8]
+pub(crate) fn odd_multiples(q: Extended) -> [Cached; 8]
     ensures { (m : Point) → Writes q m → IsTable result m }
 {
     let two = ready(twice(q));
@@ -61,7 +61,7 @@ fn next(r: Projective, t: &[Cached; 8], d: u8, e: u8) -> Projective
 
 /// A digit's multiple of the point more.
 #[inline(always)]
-fn with_point(s: Sides, t: &[Cached; 8], d: u8) -> Sides
+pub(crate) fn with_point(s: Sides, t: &[Cached; 8], d: u8) -> Sides
     requires { IsDigit false d }
     ensures { (m : Point) (x y : ℕ) → IsPoint m → IsTable t.now m → Yields s (pair x y m base_point)
         → Yields result (pair (x + d) y m base_point) }
@@ -75,7 +75,7 @@ fn with_point(s: Sides, t: &[Cached; 8], d: u8) -> Sides
 
 /// A digit's multiple of the base point more.
 #[inline(always)]
-fn with_base(s: Sides, d: u8) -> Sides
+pub(crate) fn with_base(s: Sides, d: u8) -> Sides
     requires { IsDigit true d }
     ensures { (m : Point) (x y : ℕ) → IsPoint m → Yields s (pair x y m base_point)
         → Yields result (pair x (y + d) m base_point) }

@@ -2,9 +2,9 @@
 #![tactic(auto)]
 
 use std::process::ExitCode;
-use up_ed25519::scheme::Ed25519;
+use up_ed25519::cached_scheme::CachedEd25519;
 use up_main::program::run;
 
 fn main(rt: HostRuntime) -> ExitCode {
-    run(&rt, Ed25519)
+    run(&rt, CachedEd25519::new(rt.alloc()))
 }

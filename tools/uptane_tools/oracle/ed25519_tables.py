@@ -7,7 +7,7 @@ them.
 
 The files are, in crates/up_field: src/comb_table.rt, rows of sums and differences of powers of
 two that are 51 bits apart, and proofs/CombSteps.antt; src/odd_table.rt, odd multiples, and
-proofs/OddSteps.antt. A step of a proof names a point, the number whose multiple it is, and which
+proofs/OddSteps.antt; src/far_table.rt and proofs/FarSteps.antt, those of 2^128 times it. A step of a proof names a point, the number whose multiple it is, and which
 two points before it add up to it. The prover tests each step and each entry
 (proofs/Chains.antt): this program is trusted in nothing. All numbers are computed here from RFC
 8032, section 5.1.
@@ -96,12 +96,15 @@ def comb() -> Chain:
     return chain
 
 
-def odd(count: int) -> Chain:
-    """The first odd multiples."""
+def odd(count: int, doubles: int = 0) -> Chain:
+    """The first odd multiples, of the base point or of that so often doubled."""
     chain = Chain()
-    two = chain.sum(0, 0)
-    # (the base point itself is three times it without twice it)
-    at = chain.less(two, chain.sum(0, two))
+    first = 0
+    for _ in range(doubles):
+        first = chain.sum(first, first)
+    two = chain.sum(first, first)
+    # (the point itself is three times it without twice it)
+    at = chain.less(two, chain.sum(first, two))
     for _ in range(count - 1):
         at = chain.sum(at, two, 'shown')
     return chain
@@ -154,6 +157,9 @@ use crate::words::Words;
 ODD_TEXT = '''/// The first 64 odd multiples of the base point.
 pub(crate) fn odd_table() -> &'static [Affine; 64]
     ensures { AreOddMultiples result.now }'''
+FAR_TEXT = '''/// The first 64 odd multiples of 2^128 times the base point.
+pub(crate) fn far_table() -> &'static [Affine; 64]
+    ensures { AreFarMultiples result.now }'''
 CHAIN = '''-- %s
 -- This file is made by `tools/run ed25519_tables`.
 use Rattle.std.proofs.Common.{List, [], ◌∷◌}
@@ -172,7 +178,7 @@ def proof(chain: Chain, title: str) -> str:
 
 def files() -> dict[Path, str]:
     """The generated files and what stands in them."""
-    rows, multiples = comb(), odd(64)
+    rows, multiples, far = comb(), odd(64), odd(64, 128)
     return {
         CRATE / 'src/comb_table.rt':
         source(rows, "The base point's comb.", COMB_USES, COMB_TEXT, 'COMB'),
@@ -182,6 +188,11 @@ def files() -> dict[Path, str]:
         source(multiples, 'Odd multiples of the base point.', ODD_USES, ODD_TEXT, 'ODD'),
         CRATE / 'proofs/OddSteps.antt':
         proof(multiples, 'Odd multiples of the base point, by sums.'),
+        CRATE / 'src/far_table.rt':
+        source(far, 'Odd multiples of 2^128 times the base point.',
+               ODD_USES.replace('AreOdd', 'AreFar'), FAR_TEXT, 'FAR'),
+        CRATE / 'proofs/FarSteps.antt':
+        proof(far, 'Odd multiples of 2^128 times the base point, by sums.'),
     }
 
 
@@ -195,5 +206,5 @@ def main(words: arguments.Words = None) -> int:
         elif path.read_text(encoding='utf-8') != text:
             print(f"{path.relative_to(TOP)} isn't what this program makes")
             wrong += 1
-    print(f'{4 - wrong} passed, {wrong} failed')
+    print(f'{6 - wrong} passed, {wrong} failed')
     return 1 if wrong else 0
