@@ -4,6 +4,8 @@ ghost use Rattle.up_ed25519.specs.Scheme.{ed25519};
 
 use crate::ready_keys::ReadyKeys;
 use crate::scheme::Ed25519;
+use crate::signer_keys::SignerKeys;
+use crate::signing::sign_with;
 use std::alloc::{AllocError, Global};
 use up_canon::bytes::Bytes;
 use up_shown::shows::Shows;
@@ -11,10 +13,11 @@ use up_sign::hmac_sha256::HmacKey;
 use up_sign::scheme::Scheme;
 
 /// Ed25519 for a program that verifies many signatures of the same keys: what it answers is what `Ed25519` does. It keeps at most
-/// 4,093 public keys decoded, which take at most 9 MB.
+/// 4,093 public keys decoded, which take at most 9 MB, and the public keys of the last 16 secrets.
 #[derive(Drop)]
 pub struct CachedEd25519 {
     keys: ReadyKeys,
+    signers: SignerKeys,
 }
 
 impl CachedEd25519 {
@@ -22,6 +25,7 @@ impl CachedEd25519 {
     pub fn new(alloc: Global) -> CachedEd25519 {
         CachedEd25519 {
             keys: ReadyKeys::new(alloc),
+            signers: SignerKeys::new(alloc),
         }
     }
 }
@@ -40,16 +44,18 @@ impl Scheme for CachedEd25519 {
         Ed25519.secret_fits(secret)
     }
 
+    // Whoever registers a key asks this first. So it is decoded then, and not when a vehicle waits.
     fn public_fits(&self, public: &[u8]) -> bool {
+        self.keys.prepare(public);
         Ed25519.public_fits(public)
     }
 
     fn public(&self, alloc: Global, secret: &[u8]) -> Result<Vec<u8>, AllocError> {
-        Ed25519.public(alloc, secret)
+        self.signers.public_of(secret).to_vec(alloc)
     }
 
     fn sign(&self, alloc: Global, secret: &[u8], message: &[u8]) -> Result<Vec<u8>, AllocError> {
-        Ed25519.sign(alloc, secret, message)
+        sign_with(secret, &self.signers.public_of(secret), message).to_vec(alloc)
     }
 
     fn verify(&self, public: &[u8], message: &[u8], signature: &[u8]) -> bool {

@@ -9,5 +9,6 @@ pub mod ready_key;
 pub mod ready_keys;
 pub mod scheme;
 pub mod shows;
+pub mod signer_keys;
 pub mod signing;
 pub mod verification;

@@ -41,6 +41,24 @@ impl ReadyKeys {
         }
     }
 
+    /// Keeps a public key whose slot is free, so that its first signature finds it.
+    pub(crate) fn prepare(&self, public: &[u8]) {
+        if public.len() != 32 || !self.is_free(slot_of(public)) {
+            return;
+        }
+        if let Some(key) = ReadyKey::new(public) {
+            self.keep(key);
+        }
+    }
+
+    /// Whether there is such a slot, without a key.
+    fn is_free(&self, slot: usize) -> bool {
+        match self.slots.try_borrow() {
+            Ok(slots) => slot < slots.len() && slots[slot].is_none(),
+            Err(_) => false,
+        }
+    }
+
     /// Whether the signature is valid, by a key that is kept.
     fn by_kept(&self, public: &[u8], message: &[u8], signature: &[u8]) -> Option<bool>
         ensures { IfSome result (λ valid. valid ≡ is_valid public.now message.now signature.now) }
