@@ -39,7 +39,7 @@ use Rattle.up_primary.proofs.TrueRoots.{unread_ok, same_one, of_file_ok, latest_
 
 -- ---- what passed
 
-record IsTimely (v : Verifier) (asked : Asked) (t : Trust) (bytes : List ℕ) (file : TimestampFile) : Type 0 where
+pub record IsTimely (v : Verifier) (asked : Asked) (t : Trust) (bytes : List ℕ) (file : TimestampFile) : Type 0 where
   pub envelope : Envelope
   pub read : timestamp_in bytes ≡ Ok (file, envelope)
   pub repository : file.repository ≡ asked.repository
@@ -50,7 +50,7 @@ record IsTimely (v : Verifier) (asked : Asked) (t : Trust) (bytes : List ℕ) (f
 below : (m n : ℕ) → nat_lt m n ≡ true → m < n
 below m n h = grind (arith, nat_tests)
 
-timestamp_parts : (v : Verifier) (asked : Asked) (t : Trust) (bytes : List ℕ) (file : TimestampFile) → check_timestamp v asked t bytes ≡ Ok file → IsTimely v asked t bytes file
+pub timestamp_parts : (v : Verifier) (asked : Asked) (t : Trust) (bytes : List ℕ) (file : TimestampFile) → check_timestamp v asked t bytes ≡ Ok file → IsTimely v asked t bytes file
 unfolding check_timestamp check_file
 timestamp_parts v asked t bytes file h = first_ok _ _ _ _ h (λ read is h. first_ok _ _ _ _ h (λ b checked h.
     first_ok _ _ _ _ checked (λ c repository checked. first_ok _ _ _ _ checked (λ d vehicle checked. first_ok _ _ _ _ checked (λ e signed checked. first_ok _ _ _ _ checked (λ f version checked.
@@ -137,7 +137,7 @@ fresh formats keeping v ts stolen now p served result law given agree unforged u
     let way = on_the_way keeping v.rules ts was.0 was.1 law given agree was.2 in
     let earlier = run v.rules empty_state was.0 in
     elim (timestamp_from formats v.rules earlier way.facts served.reply.files.timestamp is.one.file timely.envelope timely.read was.3) [
-      | inl image ↦ absurd (apart (sym image ∙ timely.repository))
+      | inl image ↦ absurd (apart (sym (ap (λ (file : TimestampFile). file.repository) image.is) ∙ timely.repository))
       | inr reply ↦
           let of : reply.vehicle ≡ p.vehicle = same_some (sym (ap (λ (file : TimestampFile). file.vehicle) reply.is) ∙ timely.vehicle) in
           let at : IsEntryAt s p.vehicle reply.number reply.e reply.root =

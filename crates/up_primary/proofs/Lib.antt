@@ -20,3 +20,4 @@ pub mod StayingTrue
 pub mod Fetching
 pub mod Fresh
 pub mod Rounds
+pub mod FreshImages

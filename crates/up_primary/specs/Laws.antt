@@ -1,7 +1,8 @@
 -- The laws of a Primary beside the plain machine.
-use Rattle.std.specs.Prelude.{◌≡◌, ℕ, ◌+◌, ◌<◌, ◌≤◌, List, Bool, None, Some, IsTrue, length, Ok, filter_map}
+use Rattle.std.specs.Prelude.{◌≡◌, ℕ, ◌+◌, ◌<◌, ◌≤◌, ◌⊎◌, ◌++◌, List, [], Bool, None, Some, IsTrue, length, Ok, filter_map}
 use Rattle.std.specs.List.{All, AllByRecursion, Contains}
 use Rattle.std.specs.FinMap as table
+use Rattle.sha2.specs.Sha256.{sha256}
 use Rattle.up_sign.specs.Schemes.{Rules, IsScheme}
 use Rattle.up_roles.specs.declared.repository.Repository.{Repository}
 use Rattle.up_roles.specs.declared.repository.Repository.TheVariants.{Director, Image}
@@ -10,7 +11,7 @@ use Rattle.up_roles.specs.Lifetimes.{lifetimes}
 use Rattle.up_roles.specs.Payload.{largest_file}
 use Rattle.up_plan.specs.Images.{ImageData}
 use Rattle.up_plan.specs.Planning.{is_for}
-use Rattle.up_metadata.specs.Files.{Root, root_text, targets_file}
+use Rattle.up_metadata.specs.Files.{Root, root_text, snapshot_text, targets_file}
 use Rattle.up_machine.specs.Commands.{is_command}
 use Rattle.up_machine.specs.State.{Entry, State, empty_state, root_at, version}
 use Rattle.up_machine.specs.Files.{file, image_metadata, numbered_root_name, root_text_at, target_of}
@@ -143,6 +144,31 @@ OnlyRegisteredIsInstalled = (v : Verifier) (ts : List Timed) (stolen : List ℕ 
     → AreSafeFrom v.rules (run v.rules empty_state ts) Image stolen p.image.root.version
     → verify v now p served ≡ Ok result
     → All (IsRegistered (run v.rules empty_state ts) p.ecus) result.installs
+
+-- The Image repository's Timestamp is that of a state on the way, which hasn't expired, and so is the version of all that is trusted. The
+-- Snapshot that came has the hash of that state's.
+pub record IsTimelyImage (v : Verifier) (ts : List Timed) (now : ℕ) (served : Served) (result : Accepted) : Type 0 where
+  pub earlier : List Timed
+  pub later : List Timed
+  pub split : ts ≡ earlier ++ later
+  pub root : Root
+  pub there : root_at (run v.rules empty_state earlier) (length (run v.rules empty_state earlier).roots) ≡ Some root
+  pub fresh : now < (run v.rules empty_state earlier).stamp + (lifetimes Image).timestamp
+  pub timestamp : result.next.image.versions.timestamp ≡ (run v.rules empty_state earlier).image_version
+  pub snapshot : result.next.image.versions.snapshot ≡ (run v.rules empty_state earlier).image_version
+  pub hash : sha256 served.image.snapshot ≡ sha256 (snapshot_text v.rules (image_metadata (run v.rules empty_state earlier) root))
+
+-- Where this is true of the Image repository's Timestamp and its keys too, nothing is to be installed, or what it served was made less than
+-- a day ago: nobody can hold its files back for longer.
+abbrev pub ImagesAreFresh : Type 0
+ImagesAreFresh = (v : Verifier) (ts : List Timed) (stolen : List ℕ → Bool) (now : ℕ) (p : Primary) (served : Served) (result : Accepted) → IsScheme v.rules
+    → AreGiven ts → KeysAgree v.rules (run v.rules empty_state ts) → AreUnforged v.rules ts stolen served.image_roots served.image.targets
+    → IsUnforged v.rules ts stolen served.image.timestamp
+    → FollowsRoot v.rules (run v.rules empty_state ts) Image p.image
+    → AreSafeFrom v.rules (run v.rules empty_state ts) Image stolen p.image.root.version
+    → AreSafeTimestamps v.rules (run v.rules empty_state ts) Image stolen p.image.root.version
+    → verify v now p served ≡ Ok result
+    → (result.installs ≡ []) ⊎ IsTimelyImage v ts now served result
 
 -- a Primary that trusts the machine's Roots trusts such Roots after what came, accepted or not
 abbrev pub TrustStaysTrue : Type 0

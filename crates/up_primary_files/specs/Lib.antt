@@ -1,2 +1,4 @@
 -- What the files of a Primary say, and what is told of a verdict.
 pub mod Verdicts
+pub mod States
+pub mod Rounds

@@ -1,4 +1,7 @@
 //! Members of JSON objects that files of Primaries have.
+ghost use Rattle.up_canon.specs.Members.{object_of_map, text_in};
+ghost use Rattle.up_canon.specs.Refusals.{Gives};
+
 use serde_json::{Map, Value};
 use std::alloc::Global;
 use up_canon::bytes::Bytes;
@@ -23,7 +26,9 @@ pub(crate) fn text_of_member(
     alloc: Global,
     map: &Map<String, Value>,
     name: &'static str,
-) -> Result<Text, Refusal> {
+) -> Result<Text, Refusal>
+    ensures { Gives result (text_in name.now (object_of_map map.now.entries)) }
+{
     Ok(Text::new(text_at(map, name)?.to_string(alloc)?))
 }
 

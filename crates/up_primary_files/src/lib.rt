@@ -7,6 +7,6 @@ pub mod method;
 mod reply;
 pub mod round;
 mod served;
-mod state;
+pub mod state;
 mod state_text;
 mod verdict;

@@ -1,4 +1,7 @@
 //! The files of a Primary's state and of what was served: the verdict, and the file of the state behind it.
+ghost use Rattle.std.specs.Prelude.{◌≡◌, IfOk, string_bytes};
+ghost use Rattle.up_primary_files.specs.Rounds.{IsVerified, IsUnread, IsFrom, IsOutcome};
+
 use crate::judged::{Judged, judge};
 use crate::served::read_served;
 use crate::state::{State, read_state};
@@ -17,7 +20,9 @@ pub struct Outcome {
 
 /// The verdict at a moment, in seconds, by the texts of both files. Else what is wrong with the file of the state, or that there
 /// is no memory. What is wrong with the other file, as a reply that can't be read, is a verdict: the state stays.
-pub fn judge_files(alloc: Global, now: u64, state: &str, served: &str) -> Result<Outcome, Refusal> {
+pub fn judge_files(alloc: Global, now: u64, state: &str, served: &str) -> Result<Outcome, Refusal>
+    ensures { IfOk result (IsOutcome now state.now) }
+{
     match read_state(alloc, state) {
         Ok(before) => {
             let told = outcome_of(alloc, now, &before, state, served);
@@ -35,7 +40,9 @@ fn outcome_of(
     before: &State,
     state: &str,
     served: &str,
-) -> Result<Outcome, Refusal> {
+) -> Result<Outcome, Refusal>
+    ensures { IfOk result (IsFrom now before.now state.now) }
+{
     match read_served(alloc, served) {
         Ok(served) => {
             let told = verified(alloc, now, before, &served);
@@ -51,7 +58,9 @@ fn outcome_of(
     }
 }
 
-fn unread(alloc: Global, state: &str, refusal: &Refusal) -> Result<Outcome, AllocError> {
+fn unread(alloc: Global, state: &str, refusal: &Refusal) -> Result<Outcome, AllocError>
+    ensures { IfOk result (IsUnread state.now refusal.now) }
+{
     let named = refusal.text(alloc)?;
     let told = format!(in alloc; "refused reply {named}\n")?;
     let state = state.to_string(alloc)?;
@@ -62,12 +71,9 @@ fn unread(alloc: Global, state: &str, refusal: &Refusal) -> Result<Outcome, Allo
     })
 }
 
-fn verified(
-    alloc: Global,
-    now: u64,
-    before: &State,
-    served: &Served,
-) -> Result<Outcome, AllocError> {
+fn verified(alloc: Global, now: u64, before: &State, served: &Served) -> Result<Outcome, AllocError>
+    ensures { IfOk result (IsVerified now before.now served.now) }
+{
     let held = before.held.as_slice();
     match judge(alloc, before.method, held, now, &before.primary, served) {
         Ok(
@@ -89,7 +95,9 @@ fn with_state(
     is_accepted: bool,
     told: String,
     written: Result<String, AllocError>,
-) -> Result<Outcome, AllocError> {
+) -> Result<Outcome, AllocError>
+    ensures { IfOk result (λ o. (o.is_accepted ≡ is_accepted) × (string_bytes o.told ≡ string_bytes told)) }
+{
     match written {
         Ok(state) => Ok(Outcome {
             is_accepted,

@@ -1,10 +1,16 @@
 //! A Primary's state as a JSON file: its scheme, what it knows of its vehicle, and what it trusts.
+ghost use Rattle.serde_json.specs.View.{view};
+ghost use Rattle.up_canon.specs.HexText.{hex_of as hex_of_value};
+ghost use Rattle.up_canon.specs.Members.{object_of_map};
+ghost use Rattle.up_canon.specs.Refusals.{Gives};
+ghost use Rattle.up_primary_files.specs.States.{versions_of, root_of, trust_of, both_of, ecu_of as ecu_of_value, ecus_of, replaced_of, own_of, primary_of, method_of, held_of, texts_of, kept_of, state_behind as state_behind_of, state_of as state_of_value, state_in};
+
 use crate::form::text_of_member;
 use crate::method::Method;
 use serde_json::{Map, Value};
 use std::alloc::Global;
 use up_canon::bytes::Bytes;
-use up_canon::each::each_of;
+use up_canon::each::{Reading, each_of};
 use up_canon::fields::{count_at, list_at, object_at, text_at};
 use up_canon::hex_text::hex_of;
 use up_canon::ident::Ident;
@@ -21,7 +27,7 @@ use up_verify::trust::{OwnEcu, Primary, Trust, Versions};
 
 /// The text of the Root that is trusted of each repository.
 #[derive(Debug, Drop)]
-pub(crate) struct RootTexts {
+pub struct RootTexts {
     pub director: Text,
     pub image: Text,
 }
@@ -29,7 +35,7 @@ pub(crate) struct RootTexts {
 /// A Primary: its scheme, the public parts that it holds itself (none where Roots show them), what it knows and trusts, and the
 /// text of the Root that it trusts of each repository.
 #[derive(Drop)]
-pub(crate) struct State {
+pub struct State {
     pub method: Method,
     pub held: Listed<KnownKey>,
     pub primary: Primary,
@@ -38,7 +44,10 @@ pub(crate) struct State {
 
 /// The state that the file's text says: `NotJson`, `BadShape` with the name of the first member at fault, or what is wrong with
 /// a trusted Root's text, which is taken as it is: whoever writes the file vouches for it. `Memory`.
-pub(crate) fn read_state(alloc: Global, text: &str) -> Result<State, Refusal> {
+#[tactic(auto, unfolding(crate::specs::States::state_in, up_canon::specs::Steps::and_then))]
+pub fn read_state(alloc: Global, text: &str) -> Result<State, Refusal>
+    ensures { Gives result (state_in text.now) }
+{
     let value = value_of_text(alloc, text)?;
     let read = state_of(alloc, &value);
     // Dropped by name: at the end of a scope it would be proved part by part.
@@ -46,7 +55,10 @@ pub(crate) fn read_state(alloc: Global, text: &str) -> Result<State, Refusal> {
     read
 }
 
-fn state_of(alloc: Global, value: &Value) -> Result<State, Refusal> {
+#[tactic(auto, unfolding(crate::specs::States::state_of, up_canon::specs::Steps::and_then))]
+fn state_of(alloc: Global, value: &Value) -> Result<State, Refusal>
+    ensures { Gives result (state_of_value (view value.now)) }
+{
     let map = object_of(value, "state")?;
     let director = object_at(map, "director")?;
     let image = object_at(map, "image")?;
@@ -57,6 +69,7 @@ fn state_of(alloc: Global, value: &Value) -> Result<State, Refusal> {
     }
 }
 
+#[tactic(auto, unfolding(crate::specs::States::state_behind, up_canon::specs::Steps::and_then))]
 fn state_behind(
     alloc: Global,
     map: &Map<String, Value>,
@@ -64,7 +77,9 @@ fn state_behind(
     image: &Map<String, Value>,
     method: Method,
     primary: Primary,
-) -> Result<State, Refusal> {
+) -> Result<State, Refusal>
+    ensures { Gives result (state_behind_of (object_of_map map.now.entries) (object_of_map director.now.entries) (object_of_map image.now.entries) method primary) }
+{
     match kept_at(alloc, map, director, image) {
         Ok(Kept { held, roots }) => Ok(State {
             method,
@@ -79,11 +94,17 @@ fn state_behind(
     }
 }
 
-fn method_at(map: &Map<String, Value>) -> Result<Method, Refusal> {
-    match text_at(map, "method")? {
-        "hmac-sha256" => Ok(Method::Hmac),
-        "ed25519" => Ok(Method::Ed25519),
-        _ => Err(Refusal::from("method")),
+#[tactic(auto, unfolding(crate::specs::States::method_of, up_canon::specs::Steps::and_then))]
+fn method_at(map: &Map<String, Value>) -> Result<Method, Refusal>
+    ensures { Gives result (method_of (object_of_map map.now.entries)) }
+{
+    let text = text_at(map, "method")?;
+    if text == "hmac-sha256" {
+        Ok(Method::Hmac)
+    } else if text == "ed25519" {
+        Ok(Method::Ed25519)
+    } else {
+        Err(Refusal::from("method"))
     }
 }
 
@@ -91,17 +112,20 @@ fn method_at(map: &Map<String, Value>) -> Result<Method, Refusal> {
 
 /// What is kept beside what is known and trusted.
 #[derive(Drop)]
-struct Kept {
-    held: Listed<KnownKey>,
-    roots: RootTexts,
+pub struct Kept {
+    pub held: Listed<KnownKey>,
+    pub roots: RootTexts,
 }
 
+#[tactic(auto, unfolding(crate::specs::States::kept_of, up_canon::specs::Steps::and_then))]
 fn kept_at(
     alloc: Global,
     map: &Map<String, Value>,
     director: &Map<String, Value>,
     image: &Map<String, Value>,
-) -> Result<Kept, Refusal> {
+) -> Result<Kept, Refusal>
+    ensures { Gives result (kept_of (object_of_map map.now.entries) (object_of_map director.now.entries) (object_of_map image.now.entries)) }
+{
     let roots = texts_at(alloc, director, image)?;
     match held_at(alloc, map) {
         Ok(held) => Ok(Kept { held, roots }),
@@ -112,38 +136,60 @@ fn kept_at(
     }
 }
 
+#[tactic(auto, unfolding(crate::specs::States::texts_of, up_canon::specs::Steps::and_then))]
 fn texts_at(
     alloc: Global,
     director: &Map<String, Value>,
     image: &Map<String, Value>,
-) -> Result<RootTexts, Refusal> {
+) -> Result<RootTexts, Refusal>
+    ensures { Gives result (texts_of (object_of_map director.now.entries) (object_of_map image.now.entries)) }
+{
     Ok(RootTexts {
         director: text_of_member(alloc, director, "root")?,
         image: text_of_member(alloc, image, "root")?,
     })
 }
 
-fn held_at(alloc: Global, map: &Map<String, Value>) -> Result<Listed<KnownKey>, Refusal> {
-    let mut held = Vec::new(alloc);
-    for value in list_at(map, "held")?.as_slice() {
-        held.push(key_of(alloc, value)?)?;
-    }
-    Ok(Listed::new(held))
+#[tactic(auto, unfolding(crate::specs::States::held_of, up_canon::specs::Steps::and_then))]
+fn held_at(alloc: Global, map: &Map<String, Value>) -> Result<Listed<KnownKey>, Refusal>
+    ensures { Gives result (held_of (object_of_map map.now.entries)) }
+{
+    each_of::<KeyReading>(alloc, list_at(map, "held")?.as_slice(), "held")
 }
 
-fn key_of(alloc: Global, value: &Value) -> Result<KnownKey, Refusal> {
-    let public: Bytes = hex_of(alloc, value, "held", 2, 128)?;
+/// Public parts; the list's name is the fault of a value that is none.
+pub struct KeyReading;
+
+impl Reading for KeyReading {
+    ghost use Rattle.up_canon.specs.HexText.{hex_of as hex_of_value};
+
+    type Item = KnownKey;
+
+    ghost meaning = { hex_of_value 2 128 };
+
+    fn read(alloc: Global, value: &Value, place: &'static str) -> Result<KnownKey, Refusal> {
+        key_of(alloc, value, place)
+    }
+}
+
+fn key_of(alloc: Global, value: &Value, place: &'static str) -> Result<KnownKey, Refusal>
+    ensures { Gives result (hex_of_value 2 128 place.now (view value.now)) }
+{
+    let public: Bytes = hex_of(alloc, value, place, 2, 128)?;
     Ok(KnownKey::new(alloc, public)?)
 }
 
 // ---- what is known and trusted
 
+#[tactic(auto, unfolding(crate::specs::States::primary_of, up_canon::specs::Steps::and_then))]
 fn primary_at(
     alloc: Global,
     map: &Map<String, Value>,
     director: &Map<String, Value>,
     image: &Map<String, Value>,
-) -> Result<Primary, Refusal> {
+) -> Result<Primary, Refusal>
+    ensures { Gives result (primary_of (object_of_map map.now.entries) (object_of_map director.now.entries) (object_of_map image.now.entries)) }
+{
     let own = own_at(alloc, map)?;
     match both_at(alloc, director, image) {
         Ok(Both { director, image }) => {
@@ -169,30 +215,57 @@ fn primary_at(
 
 /// What a Primary knows of its vehicle.
 #[derive(Debug, Drop)]
-struct Own {
-    vehicle: Ident,
-    ecus: Listed<OwnEcu>,
-    replaced: Listed<Ident>,
+pub struct Own {
+    pub vehicle: Ident,
+    pub ecus: Listed<OwnEcu>,
+    pub replaced: Listed<Ident>,
 }
 
-fn own_at(alloc: Global, map: &Map<String, Value>) -> Result<Own, Refusal> {
+#[tactic(auto, unfolding(crate::specs::States::own_of, up_canon::specs::Steps::and_then))]
+fn own_at(alloc: Global, map: &Map<String, Value>) -> Result<Own, Refusal>
+    ensures { Gives result (own_of (object_of_map map.now.entries)) }
+{
     Ok(Own {
         vehicle: ident_at(alloc, map, "vehicle")?,
         ecus: ecus_at(alloc, map)?,
-        replaced: each_of::<IdentReading>(alloc, list_at(map, "replaced")?.as_slice(), "replaced")?,
+        replaced: replaced_at(alloc, map)?,
     })
 }
 
-fn ecus_at(alloc: Global, map: &Map<String, Value>) -> Result<Listed<OwnEcu>, Refusal> {
-    let mut ecus = Vec::new(alloc);
-    for value in list_at(map, "ecus")?.as_slice() {
-        ecus.push(ecu_of(alloc, value)?)?;
-    }
-    Ok(Listed::new(ecus))
+#[tactic(auto, unfolding(crate::specs::States::ecus_of, up_canon::specs::Steps::and_then))]
+fn ecus_at(alloc: Global, map: &Map<String, Value>) -> Result<Listed<OwnEcu>, Refusal>
+    ensures { Gives result (ecus_of (object_of_map map.now.entries)) }
+{
+    each_of::<EcuReading>(alloc, list_at(map, "ecus")?.as_slice(), "ecus")
 }
 
-fn ecu_of(alloc: Global, value: &Value) -> Result<OwnEcu, Refusal> {
-    let map = object_of(value, "ecus")?;
+#[tactic(auto, unfolding(crate::specs::States::replaced_of, up_canon::specs::Steps::and_then))]
+fn replaced_at(alloc: Global, map: &Map<String, Value>) -> Result<Listed<Ident>, Refusal>
+    ensures { Gives result (replaced_of (object_of_map map.now.entries)) }
+{
+    each_of::<IdentReading>(alloc, list_at(map, "replaced")?.as_slice(), "replaced")
+}
+
+/// ECUs; the list's name is the fault of a value that is no object.
+pub struct EcuReading;
+
+impl Reading for EcuReading {
+    ghost use Rattle.up_primary_files.specs.States.{ecu_of as ecu_of_value};
+
+    type Item = OwnEcu;
+
+    ghost meaning = { ecu_of_value };
+
+    fn read(alloc: Global, value: &Value, place: &'static str) -> Result<OwnEcu, Refusal> {
+        ecu_of(alloc, value, place)
+    }
+}
+
+#[tactic(auto, unfolding(crate::specs::States::ecu_of, up_canon::specs::Steps::and_then))]
+fn ecu_of(alloc: Global, value: &Value, place: &'static str) -> Result<OwnEcu, Refusal>
+    ensures { Gives result (ecu_of_value place.now (view value.now)) }
+{
+    let map = object_of(value, place)?;
     Ok(OwnEcu {
         ecu: ident_at(alloc, map, "ecu")?,
         hardware: ident_at(alloc, map, "hardware")?,
@@ -202,16 +275,19 @@ fn ecu_of(alloc: Global, value: &Value) -> Result<OwnEcu, Refusal> {
 
 /// What is trusted of both repositories.
 #[derive(Debug, Drop)]
-struct Both {
-    director: Trust,
-    image: Trust,
+pub struct Both {
+    pub director: Trust,
+    pub image: Trust,
 }
 
+#[tactic(auto, unfolding(crate::specs::States::both_of, up_canon::specs::Steps::and_then))]
 fn both_at(
     alloc: Global,
     director: &Map<String, Value>,
     image: &Map<String, Value>,
-) -> Result<Both, Refusal> {
+) -> Result<Both, Refusal>
+    ensures { Gives result (both_of (object_of_map director.now.entries) (object_of_map image.now.entries)) }
+{
     match trust_at(alloc, director) {
         Ok(director) => match trust_at(alloc, image) {
             Ok(image) => Ok(Both { director, image }),
@@ -224,7 +300,10 @@ fn both_at(
     }
 }
 
-fn trust_at(alloc: Global, map: &Map<String, Value>) -> Result<Trust, Refusal> {
+#[tactic(auto, unfolding(crate::specs::States::trust_of, up_canon::specs::Steps::and_then))]
+fn trust_at(alloc: Global, map: &Map<String, Value>) -> Result<Trust, Refusal>
+    ensures { Gives result (trust_of (object_of_map map.now.entries)) }
+{
     let versions = versions_at(map)?;
     match root_at(alloc, map) {
         Ok(root) => Ok(Trust { root, versions }),
@@ -232,7 +311,10 @@ fn trust_at(alloc: Global, map: &Map<String, Value>) -> Result<Trust, Refusal> {
     }
 }
 
-fn versions_at(map: &Map<String, Value>) -> Result<Versions, &'static str> {
+#[tactic(auto, unfolding(crate::specs::States::versions_of, up_canon::specs::Steps::and_then))]
+fn versions_at(map: &Map<String, Value>) -> Result<Versions, Refusal>
+    ensures { Gives result (versions_of (object_of_map map.now.entries)) }
+{
     Ok(Versions {
         timestamp: count_at(map, "timestamp")?.get(),
         snapshot: count_at(map, "snapshot")?.get(),
@@ -240,7 +322,10 @@ fn versions_at(map: &Map<String, Value>) -> Result<Versions, &'static str> {
     })
 }
 
-fn root_at(alloc: Global, map: &Map<String, Value>) -> Result<RootFile, Refusal> {
+#[tactic(auto, unfolding(crate::specs::States::root_of, up_canon::specs::Steps::and_then))]
+fn root_at(alloc: Global, map: &Map<String, Value>) -> Result<RootFile, Refusal>
+    ensures { Gives result (root_of (object_of_map map.now.entries)) }
+{
     match read_root(alloc, text_at(map, "root")?.as_bytes()) {
         Ok((root, envelope)) => {
             drop(envelope);

@@ -1,14 +1,15 @@
-//! A Primary that verifies in full: `uptane_primary STATE NOW SERVED`.
+//! A Primary that verifies in full, `uptane_primary STATE NOW SERVED`, and builds its manifests, `uptane_primary manifest FILE`.
 #![tactic(auto)]
 
 use std::io::{self, Write};
 use std::process::ExitCode;
 use std::{env, fs};
 use up_primary_files::round::{Outcome, judge_files};
+use up_reporting::built::manifest_of;
 
 /// How the program ends.
 enum Ended {
-    /// All was accepted, or a check wasn't passed.
+    /// All was accepted, or a check wasn't passed. A manifest that was built counts as accepted.
     Verdict(bool),
     /// The words aren't those of the usage.
     Usage,
@@ -22,7 +23,11 @@ fn main(rt: HostRuntime) -> ExitCode {
     match carried_out(&rt) {
         Ended::Verdict(true) => ExitCode::from(0),
         Ended::Verdict(false) => ExitCode::from(1),
-        Ended::Usage => told(&rt, 2, "usage: uptane_primary STATE NOW SERVED\n"),
+        Ended::Usage => told(
+            &rt,
+            2,
+            "usage: uptane_primary STATE NOW SERVED | manifest FILE\n",
+        ),
         Ended::Unread => told(&rt, 3, "uptane_primary: cannot read the files\n"),
         Ended::Unwritten => told(&rt, 4, "uptane_primary: cannot write\n"),
     }
@@ -39,16 +44,40 @@ fn carried_out(rt: &HostRuntime) -> Ended {
         return Ended::Usage;
     };
     words.next();
-    let (Some(state), Some(now), Some(served), None) = (
-        words.next(),
-        words.next(),
-        words.next(),
-        words.next(),
-    ) else {
+    let (Some(first), Some(second)) = (words.next(), words.next()) else {
         return Ended::Usage;
     };
-    match now.as_str().parse::<u64>() {
-        Ok(now) => judged_files(rt, state.as_str(), now, served.as_str()),
+    match (words.next(), words.next()) {
+        (None, None) => built(rt, first.as_str(), second.as_str()),
+        (Some(served), None) => round(rt, first.as_str(), second.as_str(), served.as_str()),
+        _ => Ended::Usage,
+    }
+}
+
+/// Prints the manifest that the file lists.
+fn built(rt: &HostRuntime, word: &str, file: &str) -> Ended {
+    if word != "manifest" {
+        return Ended::Usage;
+    }
+    let Ok(listed) = fs::read_to_string(rt, file) else {
+        return Ended::Unread;
+    };
+    match manifest_of(rt.alloc(), listed.as_str()) {
+        Ok(body) => printed(rt, body.as_str(), true),
+        Err(_) => Ended::Unread,
+    }
+}
+
+fn printed(rt: &HostRuntime, text: &str, is_accepted: bool) -> Ended {
+    match rt.stdout().write_all(text.as_bytes()) {
+        Ok(()) => Ended::Verdict(is_accepted),
+        Err(_) => Ended::Unwritten,
+    }
+}
+
+fn round(rt: &HostRuntime, state: &str, now: &str, served: &str) -> Ended {
+    match now.parse::<u64>() {
+        Ok(now) => judged_files(rt, state, now, served),
         Err(_) => Ended::Usage,
     }
 }
@@ -69,10 +98,7 @@ fn judged_files(rt: &HostRuntime, state: &str, now: u64, served: &str) -> Ended 
 /// Puts the new state in the old one's place, and then prints the verdict.
 fn kept(rt: &HostRuntime, state: &str, outcome: &Outcome) -> Ended {
     match replaced(rt, state, outcome.state.as_str()) {
-        Ok(()) => match rt.stdout().write_all(outcome.told.as_bytes()) {
-            Ok(()) => Ended::Verdict(outcome.is_accepted),
-            Err(_) => Ended::Unwritten,
-        },
+        Ok(()) => printed(rt, outcome.told.as_str(), outcome.is_accepted),
         Err(_) => Ended::Unwritten,
     }
 }

@@ -52,6 +52,7 @@ LANES = {
         "uptane_desk": "under HMAC",
         "uptane_desk_ed25519": "under Ed25519",
         "up_primary_files": "a Primary's files",
+        "up_reporting": "its manifests",
         "uptane_primary": "a Primary"
     },
     "bytes and HTTP": {

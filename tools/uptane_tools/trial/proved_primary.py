@@ -1,5 +1,5 @@
-"""Tries the proved Primary by the chains of `vectors/`, of both schemes: the verdict on each, what
-is to be installed, and the state that is written.
+"""Tries the proved Primary by `vectors/`, of both schemes: the verdict on each chain, what is to be
+installed, and the state that is written; and the manifests that it builds.
 
     tools/run proved_primary PROGRAM
 
@@ -35,16 +35,15 @@ def state_of(told: dict, case: dict, texts: dict) -> dict:
     """The state's file of a case."""
     known = vector_cases.vehicle_of(vector_cases.SMALL, told, case, texts.__getitem__)
     ecus = [{
-        "ecu": it["ecu"], "hardware": it["hardware"], "release": it["installed"]["release"] or 0
-    } for it in known["ecus"]]
+        "ecu": it["ecu"], "hardware": it["hardware"], "release": it["installed"]["release"] or 0}
+            for it in known["ecus"]]
     return {
         "method": told["method"],
         "vehicle": known["vehicle"],
         "ecus": ecus,
         "replaced": known["replaced"],
-        "held": [*told["vehicle"]["role_keys"].values()],
-    } | {it: trust(known, texts, it)
-         for it in reference.REPOSITORIES}
+        "held": [*told["vehicle"]["role_keys"].values()], } | {
+            it: trust(known, texts, it) for it in reference.REPOSITORIES}
 
 
 def served_of(texts: dict) -> dict:
@@ -76,10 +75,7 @@ def has_state(path: Path, wanted: dict) -> bool:
     state = json.loads(path.read_text(encoding="ascii"))
     found = {
         it: {"root": json.loads(state[it]["root"])["signed"]["version"]}
-        | {name: state[it][name]
-           for name in FILES}
-        for it in wanted
-    }
+        | {name: state[it][name] for name in FILES} for it in wanted}
     return found == wanted and not path.with_suffix(".json.new").exists()
 
 
@@ -92,7 +88,32 @@ def cases(program: str):
                 yield name, is_answered(program, told, case, Path(own))
 
 
+def builds(program: str):
+    """The manifests that are to be built, and what is no list of reports."""
+    with trials.folder() as own:
+        listed = Path(own) / "listed.json"
+        for method in vector_cases.envelopes.SCHEMES:
+            for case in vector_cases.vectors("manifests", method)["builds"]:
+                given = case["build"] | {"method": method}
+                listed.write_text(json.dumps(given), encoding="ascii")
+                yield "%s: build: %s" % (method, case["name"]), printed(program,
+                                                                        listed) == (0, case["body"])
+                for lacks in given.keys() - {"method"}:
+                    listed.write_text(
+                        json.dumps({name: it for name, it in given.items() if name != lacks}),
+                        encoding="ascii")
+                    yield "%s: build: %s, without %s" % (method, case["name"], lacks), printed(
+                        program, listed) == (3, "")
+
+
+def printed(program: str, listed: Path) -> tuple[int, str]:
+    """The status, and the manifest that is printed of a list of reports."""
+    ran = subprocess.run([program, "manifest", str(listed)], capture_output=True, check=False,
+                         timeout=60)
+    return ran.returncode, ran.stdout.decode("ascii")
+
+
 def main(words: arguments.Words = None) -> int:
     """Tries the program."""
     asked = arguments.given(__doc__, words, "program")
-    return trials.judged("chains", cases(asked.program))
+    return trials.judged("primary", [*cases(asked.program), *builds(asked.program)])

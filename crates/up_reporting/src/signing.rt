@@ -1,0 +1,25 @@
+//! Secrets that sign.
+ghost use Rattle.std.specs.Prelude.{◌≡◌, IfOk, IsTrue};
+
+use serde_json::{Map, Value};
+use std::alloc::Global;
+use up_canon::bytes::Bytes;
+use up_canon::hex_text::hex_at;
+use up_canon::refusal::Refusal;
+use up_sign::scheme::Scheme;
+
+/// The secret of the member `key`, of 64 hexadecimal digits, where it is one of the scheme.
+pub(crate) fn secret_at<K: Scheme>(
+    alloc: Global,
+    scheme: &K,
+    map: &Map<String, Value>,
+) -> Result<Bytes, Refusal>
+    ensures { IfOk result (λ secret. IsTrue ((K.rules scheme.now).secret_fits secret)) }
+{
+    let secret = hex_at(alloc, map, "key", 64, 64)?;
+    if scheme.secret_fits(secret.as_slice()) {
+        Ok(secret)
+    } else {
+        Err(Refusal::from("key"))
+    }
+}
