@@ -58,7 +58,7 @@ class Edit:
         return self.path, self.function.cycle or self.function.name
 
 
-def functions_below(folder):
+def functions_below(folder: str) -> dict[str, list]:
     """Returns the functions of each file in src/ of a crate's folder, by the file's path in it,
     or nothing where one is no text of Rattle. Each has the modules that it may stand in: of a
     type's own method those that declare the type, which rattle names it by; its file's else.
@@ -77,12 +77,12 @@ def functions_below(folder):
                ] for path, rows in found.items()}
 
 
-def edit_files(folder):
+def edit_files(folder: str) -> list[Path]:
     """Returns the files in refused/ of a crate's folder that are to be edits."""
     return sorted(it for it in Path(folder, "refused").glob("*") if it.suffix != ".md")
 
 
-def edits_in(crate, folder):
+def edits_in(crate: str, folder: str) -> list[Edit]:
     """Returns the edits that stand in refused/ of a crate's folder."""
     files = edit_files(folder)
     functions = functions_below(folder) if files else {}

@@ -6,6 +6,7 @@ import subprocess
 import tempfile
 
 from .kit import rtlib
+from typing import Any
 
 # A token without its place in the text: the line that it stands in, where it starts and ends
 # (bytes), its kind and its words (a JSON string).
@@ -31,7 +32,7 @@ ATTRIBUTE = re.compile(r"# \[ [^]]* \] ")
 VISIBLE = re.compile(r"(pub (\( [\w: ]+ \) )?)?(unsafe )?")
 
 
-def tokens_of(files):
+def tokens_of(files: Any) -> Any:
     """Returns the tokens of each of these .rt and .antt files, in one run of rattle, or None
     where it can't read one.
     """
@@ -45,11 +46,11 @@ def tokens_of(files):
     return [[_token(*row.split(" ", 4)) for row in text.split("\n") if row] for text in texts]
 
 
-def _token(line, start, end, kind, word):
+def _token(line: str, start: str, end: str, kind: str, word: str) -> Token:
     return Token(int(line), int(start), int(end), kind, word[1:-1])
 
 
-def functions_in(text):
+def functions_in(text: bytes) -> Any:
     """Returns the functions of a text (bytes), or None where it is no text of Rattle."""
     with tempfile.NamedTemporaryFile(suffix=".rt") as file:
         file.write(text)
@@ -58,7 +59,7 @@ def functions_in(text):
     return None if tokens is None else functions_of(tokens[0])
 
 
-def functions_of(tokens):
+def functions_of(tokens: list[Token]) -> list[Function]:
     """Returns the functions among a text's tokens. What macros hold is passed over, and stays as
     it is.
     """
@@ -105,13 +106,13 @@ def functions_of(tokens):
     return found
 
 
-def _is_public(words):
+def _is_public(words: list[str]) -> bool:
     """Returns whether the words before a function's `fn` make it public: `pub`, and not `pub(..)`.
     """
     return any(word == "pub" and after != "(" for word, after in zip(words, [*words[1:], ""]))
 
 
-def _is_for_callers(words, owner, is_own):
+def _is_for_callers(words: list[str], owner: str | None, is_own: bool) -> bool:
     """Returns whether only those who name a function learn what it promises, from the words
     before its `fn` and whose `impl` it stands in. It isn't of a trait's `impl`, nor in a cycle
     of calls, whose contracts have one proof, nor for C to call; and nothing but attributes and
@@ -122,13 +123,13 @@ def _is_for_callers(words, owner, is_own):
         ATTRIBUTE.sub("", said)) is not None
 
 
-def module_of(path):
+def module_of(path: str) -> Any:
     """Returns the names of the module that this file is, none of the crate's root."""
     return tuple(it for it in re.sub(r"^src/|(/mod)?\.rt$", "", path).split("/")
                  if it not in ("lib", "main"))
 
 
-def types_of(tokens):
+def types_of(tokens: list[Token]) -> set[str]:
     """Returns the names of the types that a text's tokens declare."""
     words = [it.word for it in tokens if it.kind == "Code"]
     return {
@@ -155,7 +156,7 @@ def owner_of(words):
                    for it in parts[::-1]), len(parts) == 1
 
 
-def _spelled(words, parameters):
+def _spelled(words: list[str], parameters: set[str]) -> str:
     """Returns how rattle spells a type or a trait inside a name: its words run together, without
     paths, lifetimes and parameters.
     """
@@ -182,7 +183,7 @@ def _commas(words):
     return found
 
 
-def _next(words, at, among):
+def _next(words: list[str], at: int, among: str) -> int:
     """Returns where the first of these marks stands from `at` on, outside parentheses and
     brackets, or the end.
     """
@@ -193,7 +194,7 @@ def _next(words, at, among):
     return at
 
 
-def closing(words, at):
+def closing(words: list[str], at: int) -> int:
     """Returns where what opens at `at` closes, or the end."""
     depth = 0
     for here in range(at, len(words)):

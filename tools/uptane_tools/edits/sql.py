@@ -11,6 +11,7 @@ import tempfile
 from pathlib import Path
 
 from .functions import tokens_of
+from typing import Any
 
 BEGINS = r"(?:SELECT|INSERT|UPDATE|DELETE|REPLACE|CREATE|DROP|ALTER|WITH|PRAGMA)\b"
 IN_A_BODY = re.compile(rb'"\s*' + BEGINS.encode())
@@ -20,7 +21,7 @@ SECTION = re.compile(r"(?m)^# (.+)$")
 
 
 @functools.cache
-def words_in(body):
+def words_in(body: bytes) -> list[str]:
     """Returns the words of a body's (bytes) tokens, in order."""
     with tempfile.NamedTemporaryFile(suffix=".rt") as file:
         file.write(b"fn f() {" + body + b"}")
@@ -29,7 +30,7 @@ def words_in(body):
     return [json.loads(f'"{it.word}"') for it in (tokens or [[]])[0]]
 
 
-def texts_in(body):
+def texts_in(body: bytes) -> tuple[list[str], list[str]]:
     """Returns the texts of SQL in a body (bytes), in order, and its other tokens."""
     words = words_in(body)
     texts = [it for it in words if IS_TEXT.match(it)]
@@ -37,7 +38,7 @@ def texts_in(body):
         it for it in words if it not in texts]
 
 
-def turns_a_text(old, new):
+def turns_a_text(old: bytes, new: bytes) -> bool:
     """Returns whether of two bodies (bytes) texts of SQL alone differ."""
     if old == new or not IN_A_BODY.search(old):
         return False
@@ -45,7 +46,7 @@ def turns_a_text(old, new):
     return before != after and others == now
 
 
-def chooses_a_text(old, new):
+def chooses_a_text(old: bytes, new: bytes) -> bool:
     """Returns whether two bodies (bytes) are the same, but that the new one has a choice among
     texts of SQL in the place of one.
     """
@@ -61,7 +62,7 @@ def chooses_a_text(old, new):
     return is_choice and at == len(words)
 
 
-def _choice_ends(words, at):
+def _choice_ends(words: list[str], at: int) -> Any:
     """Returns where an expression ends that begins at `at` and has texts of SQL alone as its
     values: one, or such in brackets, or in the branches of an `if` or a `match`. Or returns
     None, where another begins there.
@@ -91,7 +92,7 @@ def _found(words, at, these):
                 len(words))
 
 
-def rows_named(file):
+def rows_named(file: Path) -> list[str]:
     """Returns the sections of rows that an edit's file names, one in each of its lines 'rows:
     SECTION'.
     """
@@ -99,7 +100,7 @@ def rows_named(file):
         it.strip() for it in ROWS.findall(Path(file).read_text(encoding="utf-8", errors="replace"))]
 
 
-def sections_beside(folder):
+def sections_beside(folder: str) -> set[str]:
     """Returns the names of the sections of rows that the crates beside this one carry out."""
     return {
         name for it in Path(folder).resolve().parent.glob("*/stdin")

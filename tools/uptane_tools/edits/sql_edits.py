@@ -16,6 +16,7 @@ Where a query asks for no order, SQLite is told to answer its rows backwards
 import re
 import sqlite3
 from contextlib import closing
+from typing import Any
 
 from uptane_tools import arguments
 from uptane_tools.edits.edit import edits_in, functions_below
@@ -42,16 +43,16 @@ class Refused(Exception):
     """The statement is answered `Store`."""
 
 
-def number(word):
+def number(word: str) -> int:
     return int(word) if re.fullmatch(r"\d+", word) and int(word) < 1 << 63 else 0
 
 
-def split(text, count):
+def split(text: str, count: int) -> list[str]:
     words = text.split(" ")
     return words[:count] + [""] * (count - len(words))
 
 
-def image_of(word):
+def image_of(word: str) -> list:
     """What an ECU has installed, as three columns."""
     if ":" not in word:
         return [None, None, None]
@@ -64,19 +65,19 @@ class Database:
     given by the names of their functions.
     """
 
-    def __init__(self, statements):
+    def __init__(self, statements: dict[str, str]) -> None:
         self.statements = statements
         self.db = sqlite3.connect(":memory:", isolation_level=None)
         self.db.execute("PRAGMA foreign_keys = ON")
         self.db.execute("PRAGMA reverse_unordered_selects = ON")
 
-    def close(self):
+    def close(self) -> None:
         self.db.close()
 
     def run(self, name, *values):
         return self.db.execute(self.statements[name], values).fetchall()
 
-    def answer(self, given):
+    def answer(self, given: str) -> Any:
         word, _, rest = given.partition(" ")
         try:
             if word == "ours":
@@ -95,7 +96,7 @@ class Database:
         except KeyError:
             return "no such statement"
 
-    def written(self, write, rest):
+    def written(self, write: Any, rest: Any) -> str | None:
         """Carries out a write in one transaction, of which nothing is left where a part of it
         fails.
         """
@@ -110,14 +111,14 @@ class Database:
 
     # ---- whose tables they are
 
-    def make(self, _=""):
+    def make(self, _: Any = "") -> None:
         if self.db.execute("SELECT * FROM sqlite_schema").fetchall():
             raise Refused
         for table in TABLES:
             self.run("make_" + table)
         self.run("name_tables")
 
-    def ours(self):
+    def ours(self) -> str | None:
         try:
             rows = self.run("find_meta")
         except sqlite3.Error:
@@ -129,7 +130,7 @@ class Database:
             self.written(self.raised, LATER[rows[0][1]])
         return "yes"
 
-    def raised(self, tables):
+    def raised(self, tables: list[str]) -> None:
         for table in tables:
             self.run("make_" + table)
         self.run("set_schema")
@@ -152,62 +153,62 @@ class Database:
 
     # ---- writes
 
-    def put(self, given):
+    def put(self, given: str) -> None:
         word, _, rest = given.partition(" ")
         {
             "image": self.put_image, "campaign": self.put_campaign, "root": self.put_root,
             "vehicle": self.put_vehicle, "sha512": self.put_sha512,
             "retired": lambda rest: self.run("insert_retired", *split(rest, 2))}[word](rest)
 
-    def set(self, given):
+    def set(self, given: str) -> None:
         word, _, rest = given.partition(" ")
         {"files": self.set_files, "manifest": self.set_manifest, "ecu": self.set_ecu}[word](rest)
 
-    def end(self, rest):
+    def end(self, rest: str) -> None:
         self.run("close_campaign", rest)
 
-    def put_image(self, rest):
+    def put_image(self, rest: str) -> None:
         file, length, digits, hardware, release, needs, conflicts = split(rest, 7)
         self.run("insert_image", file, number(length), bytes.fromhex(digits), hardware,
                  number(release), needs, conflicts)
 
-    def put_sha512(self, rest):
+    def put_sha512(self, rest: str) -> None:
         file, digits = split(rest, 2)
         self.run("insert_image_sha512", file, bytes.fromhex(digits))
 
-    def put_campaign(self, rest):
+    def put_campaign(self, rest: str) -> None:
         *words, runs = split(rest, 4)
         self.run("insert_campaign", *words, int(runs == "1"))
 
-    def set_numbers(self, text):
+    def set_numbers(self, text: str) -> None:
         self.run("update_meta", *map(number, split(text, 3)))
 
-    def put_root(self, rest):
+    def put_root(self, rest: Any) -> None:
         numbers, *keys = rest.split(" ; ")
         self.set_numbers(numbers)
         for root, repository, role, place, digits, threshold in (split(key, 6) for key in keys):
             self.run("insert_role_key", number(root), repository, role, number(place),
                      bytes.fromhex(digits), number(threshold))
 
-    def set_files(self, rest):
+    def set_files(self, rest: str) -> None:
         numbers, *files = rest.split(" ; ")
         self.set_numbers(numbers)
         for file in files:
             self.run("upsert_file", *split(file, 3))
 
-    def put_vehicle(self, rest):
+    def put_vehicle(self, rest: str) -> None:
         row, *ecus = rest.split(" ; ")
         vehicle, first, version, counter = split(row, 4)
         self.run("insert_vehicle", vehicle, first, number(version), number(counter))
         self.each_ecu("insert_ecu", vehicle, ecus)
 
-    def each_ecu(self, name, vehicle, ecus):
+    def each_ecu(self, name: str, vehicle: str, ecus: list[str]) -> None:
         for place, row in enumerate(ecus):
             ecu, hardware, key, image, counter, report = split(row, 6)
             self.run(name, ecu, vehicle, place, hardware, bytes.fromhex(key), *image_of(image),
                      number(counter), None if report == "-" else report)
 
-    def set_manifest(self, rest):
+    def set_manifest(self, rest: str) -> None:
         row, kept, *ecus = rest.split(" ; ")
         vehicle, first, version, counter = split(row, 4)
         values = [vehicle, first, number(version), number(counter)]
@@ -217,12 +218,12 @@ class Database:
         words = split(kept, 8)
         self.run("insert_kept", words[0], *map(number, words[1:5]), *words[5:])
 
-    def set_ecu(self, rest):
+    def set_ecu(self, rest: str) -> None:
         old, ecu, hardware, key = split(rest, 4)
         self.run("replace_ecu", ecu, hardware, bytes.fromhex(key), old)
 
 
-def shown(value):
+def shown(value: Any) -> str:
     """A column: a number, a text, or bytes in hex, and a - for anything else."""
     return value.hex() if isinstance(value, bytes) else str(value) if isinstance(value,
                                                                                  (str,
@@ -234,20 +235,20 @@ def told(rows):
     return " ; ".join(" ".join(map(shown, row)) for row in rows)
 
 
-def sections():
+def sections() -> Any:
     """The sections of rows, each a list of what is given and what is wanted."""
-    found = {}
+    found: dict = {}
     for part in re.split(r"(?m)^# ", (ROWS / "stdin").read_text(encoding="ascii"))[1:]:
         name, _, rows = part.partition("\n")
         found[name] = [tuple(row.split(" => ", 1)) for row in rows.split("\n") if row]
     return found
 
 
-def statements():
+def statements() -> dict[str, str]:
     """The texts of SQL by the names of their functions, those that make tables by `make_` and
     the table.
     """
-    found = {}
+    found: dict = {}
     for path, functions in functions_below(str(FOLDER)).items():
         text = (FOLDER / path).read_bytes()
         for it in functions:
@@ -260,13 +261,13 @@ def statements():
     return found
 
 
-def named_by(function, texts):
+def named_by(function: str, texts: list[str]) -> dict[str, str]:
     """These texts of a function by their names."""
     makes = [re.match(r"CREATE TABLE (\w+)", text) for text in texts]
     return {"make_" + it[1] if it else function: text for it, text in zip(makes, texts)}
 
 
-def first_wrong(texts, rows):
+def first_wrong(texts: dict[str, str], rows: list[tuple[str, str]]) -> tuple[str, str, str] | None:
     """The first row that is answered otherwise than it wants: what is given, what is wanted, and
     the answer.
     """
@@ -278,7 +279,7 @@ def first_wrong(texts, rows):
     return None
 
 
-def of_text_alone():
+def of_text_alone() -> list:
     """The edits of the crate that turn a text of SQL alone."""
     return [it for it in edits_in(CRATE, str(FOLDER)) if it.function and it.is_of_text]
 

@@ -11,6 +11,7 @@ import json
 import os
 import subprocess
 import sys
+from typing import Any, Iterator
 
 from uptane_tools import RUN, TOP, arguments
 from uptane_tools.oracle import vector_forms, vector_verdicts, verification
@@ -30,7 +31,7 @@ OF_A_SCHEME = ("signatures.json", "manifests.json", "replies.json", "chains.json
 # ---- files
 
 
-def listed(name, values):
+def listed(name: str, values: Iterator[Any] | list[str]) -> str:
     """A member that is a list, one value a line."""
     return ' "%s": [\n%s\n ]' % (name, ",\n".join("  " + json.dumps(value) for value in values))
 
@@ -39,16 +40,16 @@ def text(about, *parts):
     return '{\n "about": %s,\n%s\n}\n' % (json.dumps(about), ",\n".join(parts))
 
 
-def member(name, value):
+def member(name: Any, value: Any) -> str:
     return ' "%s": %s' % (name, json.dumps(value))
 
 
-def by_name(name, values):
+def by_name(name: str, values: dict[str, str]) -> str:
     return ' "%s": {\n%s\n }' % (name, ",\n".join("  %s: %s" % (json.dumps(it), json.dumps(value))
                                                   for it, value in values.items()))
 
 
-def shared():
+def shared() -> Iterator[tuple[str, str]]:
     """The files that are the same whatever the scheme."""
     yield SHARED[0], text(
         "texts of JSON values, each with its canonical text "
@@ -72,7 +73,7 @@ def judged(told, cases):
         yield case | {"state": state}
 
 
-def known_keys():
+def known_keys() -> dict[str, str]:
     """The repositories' keys by identifier, where the vehicle can't have them from the Root files.
     """
     secrets = {
@@ -82,7 +83,7 @@ def known_keys():
             } if SCHEME is HmacSha256 else {}
 
 
-def of_the_scheme():
+def of_the_scheme() -> list[tuple[str, str]]:
     method, setup, made = member("method", METHOD), listed("setup", SETUP), bases()
     contained = [
         text(

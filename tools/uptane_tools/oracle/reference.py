@@ -23,6 +23,7 @@ import sqlite3
 import sys
 from contextlib import closing
 from datetime import datetime, timedelta
+from typing import Any, Callable
 
 from uptane_tools import arguments
 from uptane_tools.operate.formats import (
@@ -47,7 +48,7 @@ NAMES = dict(
 
 class Refused(Exception):
 
-    def __init__(self, number, value=None):
+    def __init__(self, number: int, value: int | str | None = None) -> None:
         super().__init__(number, value)
         self.text = "refused %d %s" % (number, NAMES[number]) + ("" if value is None else " %s" %
                                                                  value)
@@ -56,7 +57,7 @@ class Refused(Exception):
 # ---- JSON
 
 
-def read_json(text):
+def read_json(text: bytes | str) -> Any:
     """The value of the text, a string or bytes."""
     try:
         return value_of(text)
@@ -64,7 +65,7 @@ def read_json(text):
         raise Refused(5) from None
 
 
-def depth(value):
+def depth(value: Any) -> int:
     if isinstance(value, dict):
         return 1 + max(map(depth, value.values()), default=0)
     if isinstance(value, list):
@@ -72,7 +73,7 @@ def depth(value):
     return 0
 
 
-def is_plain(value):
+def is_plain(value: Any) -> bool:
     if isinstance(value, str):
         return all(" " <= c <= "~" for c in value)
     if isinstance(value, list):
@@ -85,7 +86,7 @@ def is_plain(value):
 # ---- members
 
 
-def member(value, name, holds):
+def member(value: Any, name: str, holds: Callable[..., Any]) -> Any:
     if not isinstance(value, dict) or name not in value or not holds(value[name]):
         raise Refused(7, name)
     return value[name]
@@ -99,28 +100,29 @@ def each(values, name, read):
         yield read(value)
 
 
-def names(value, name, holds, least, most):
+def names(value: dict[str, Any], name: str, holds: Callable[..., Any], least: int,
+          most: int) -> tuple[list[str], bool] | None:
     found = member(value, name, lambda v: isinstance(v, list) and all(map(holds, v)))
     return found, not least <= len(found) <= most
 
 
-def hash_of(value):
+def hash_of(value: dict[str, Any]) -> bytes | None:
     return bytes.fromhex(member(value, "sha256", HASH))
 
 
-def second_hash_of(value):
+def second_hash_of(value: dict[str, Any]) -> bytes | None:
     """A second hash, none where it was left out: what stands there otherwise is a fault."""
     return bytes.fromhex(member(value, "sha512", SECOND_HASH)) if "sha512" in value else None
 
 
-def second_hash_in(hashes):
+def second_hash_in(hashes: dict[str, Any]) -> bytes | None:
     """The second hash among hashes that were reported: a member that is none is one of those
     that nobody knows.
     """
     return bytes.fromhex(hashes["sha512"]) if SECOND_HASH(hashes.get("sha512")) else None
 
 
-def hashes(told):
+def hashes(told: dict[str, Any]) -> dict[str, str]:
     """The hashes that are written for an image: the second one where it has one."""
     return {name: told[name].hex() for name in ("sha256", "sha512") if told[name]}
 
@@ -128,28 +130,28 @@ def hashes(told):
 # ---- signatures
 
 
-def signature(secret, signed):
+def signature(secret: bytes, signed: str) -> str:
     """The signature of a canonical text, as an envelope has it."""
     sig = SCHEME.sign(secret, signed.encode()).hex()
     return canonical({
         "keyid": key_identifier(SCHEME.public_of(secret)), "method": METHOD, "sig": sig})
 
 
-def sealed(secrets, signed):
+def sealed(secrets: list[bytes], signed: str) -> str:
     return '{"signatures":[%s],"signed":%s}' % (",".join(signature(it, signed)
                                                          for it in secrets), signed)
 
 
-def is_signed(envelope, public):
+def is_signed(envelope: dict[str, Any], public: bytes) -> bool:
     wanted, signed = key_identifier(public), canonical(envelope["signed"]).encode()
     return any(s["keyid"] == wanted and s["method"] == METHOD
                and SCHEME.verify(public, signed, bytes.fromhex(s["sig"]))
                for s in envelope["signatures"])
 
 
-def read_envelope(value):
+def read_envelope(value: dict[str, Any]) -> dict[str, Any] | None:
 
-    def fits(v):
+    def fits(v: list[dict[str, Any]] | str) -> bool:
         return isinstance(v, list) and 1 <= len(v) <= 8 and all(map(OBJECT, v))
 
     signatures = member(value, "signatures", fits)
@@ -162,7 +164,7 @@ def read_envelope(value):
 # ---- manifests
 
 
-def read_moment(value):
+def read_moment(value: str) -> bool:
     if not text(r"[0-9]{4}-[0-9]{2}-[0-9]{2}T[0-9]{2}:[0-9]{2}:[0-9]{2}Z")(value):
         return False
     try:
@@ -171,11 +173,11 @@ def read_moment(value):
         return False
 
 
-def moment(seconds):
+def moment(seconds: int) -> str:
     return (datetime(1970, 1, 1) + timedelta(seconds=seconds)).strftime("%Y-%m-%dT%H:%M:%SZ")
 
 
-def read_report(value):
+def read_report(value: dict[str, Any]) -> dict[str, Any] | None:
     signed = read_envelope(value)
     member(signed, "type", lambda v: v == "report")
     told = {"ecu": member(signed, "ecu", IDENT), "counter": member(signed, "counter", COUNT)}
@@ -188,7 +190,7 @@ def read_report(value):
     return told | {"envelope": value, "text": canonical(signed)}
 
 
-def read_manifest(body):
+def read_manifest(body: bytes) -> dict[str, Any] | None:
     if len(body) > 262_144:
         raise Refused(4)
     value = read_json(body)
@@ -209,7 +211,7 @@ def read_manifest(body):
 # ---- lines
 
 
-def read_role(value):
+def read_role(value: dict[str, Any]) -> tuple[list[bytes], int] | None:
     keys = member(value, "keys", lambda v: isinstance(v, list) and all(map(KEY, v)))
     return [bytes.fromhex(k) for k in keys], member(value, "threshold",
                                                     lambda v: is_count(v, 0, 2**32 - 1))
@@ -223,12 +225,12 @@ def read_keys(line):
     return {repository: keys(member(line, repository, OBJECT)) for repository in REPOSITORIES}
 
 
-def read_ecu(value):
+def read_ecu(value: dict[str, Any]) -> tuple[str, str, bytes] | None:
     return member(value, "ecu", IDENT), member(value, "hardware", IDENT), bytes.fromhex(
         member(value, "key", KEY))
 
 
-def read_vehicle(line):
+def read_vehicle(line: dict[str, Any]) -> tuple[str, str, list[tuple[str, str, bytes]]] | None:
     told = member(line, "vehicle", IDENT), member(line, "primary", IDENT)
     ecus = list(each(member(line, "ecus", LIST), "ecus", read_ecu))
     if not 1 <= len(ecus) <= 32:
@@ -238,7 +240,7 @@ def read_vehicle(line):
     return *told, ecus
 
 
-def read_need(value):
+def read_need(value: dict[str, Any]) -> dict[str, Any] | None:
     return {
         "hardware": member(value, "hardware", IDENT), "release": member(value, "release", COUNT)}
 
@@ -259,7 +261,7 @@ def read_image(line):
     return image
 
 
-def read_item(value):
+def read_item(value: dict[str, str]) -> dict[str, str] | None:
     return {"hardware": member(value, "hardware", IDENT), "file": member(value, "file", FILE)}
 
 
@@ -275,7 +277,7 @@ def read_campaign(line):
     return name, reach, items
 
 
-def fitting_key(value):
+def fitting_key(value: dict[str, Any]) -> bytes | None:
     key = bytes.fromhex(member(value, "key", KEY))
     if len(key) != 32:
         raise Refused(7, "key")
@@ -315,7 +317,8 @@ def level(image, ecu):
     return it if agree and ecu["hardware"] in it["hardware"] else None
 
 
-def wanted(images, items, ecu):
+def wanted(images: dict[str, dict[str, Any]], items: list[dict[str, str]],
+           ecu: dict[str, Any]) -> dict[str, Any] | None:
     offered = [
         images[i["file"]] for i in items if i["hardware"] == ecu["hardware"] and i["file"] in images
     ]
@@ -324,7 +327,8 @@ def wanted(images, items, ecu):
     return best if best and best["release"] > (present["release"] if present else 0) else None
 
 
-def plan(images, items, ecus):
+def plan(images: dict[str, dict[str, Any]], items: list[dict[str, str]],
+         ecus: list[dict[str, Any]]) -> dict[str, Any]:
     wants = [wanted(images, items, e) for e in ecus]
     if not any(wants):
         return {"assigned": [], "withheld": None}
@@ -344,7 +348,7 @@ def plan(images, items, ecus):
     return {"assigned": assigned, "withheld": None}
 
 
-def target(image, more):
+def target(image: dict[str, Any], more: dict[str, str]) -> dict[str, Any]:
     told = {"file": image["file"], "hardware": image["hardware"], "hashes": hashes(image)}
     return told | {"length": image["length"], "release": image["release"]} | more
 
@@ -354,7 +358,7 @@ def target(image, more):
 
 class Desk:
 
-    def __init__(self, db):
+    def __init__(self, db: sqlite3.Connection) -> None:
         self.db = db
         db.row_factory = sqlite3.Row
         db.execute("PRAGMA foreign_keys = ON")
@@ -368,7 +372,7 @@ class Desk:
         if found < SCHEMA:
             self.make(LACKS[found], "UPDATE meta SET schema = ?")
 
-    def make(self, tables, named):
+    def make(self, tables: Any, named: str) -> None:
         """Makes these tables of the page, and says that they are of its schema."""
         with self.db:
             self.db.execute("BEGIN")
@@ -383,19 +387,19 @@ class Desk:
     def all(self, sql, *given):
         return self.db.execute(sql, given).fetchall()
 
-    def founded(self):
+    def founded(self) -> sqlite3.Row | None:
         meta = self.one("SELECT * FROM meta")
         if not meta["root"]:
             raise Refused(8)
         return meta
 
-    def keys(self, repository, role, root=None):
+    def keys(self, repository: str, role: str, root: int | None = None) -> list[bytes]:
         root = root or self.one("SELECT root FROM meta")[0]
         sql = ("SELECT secret FROM role_key WHERE root = ? AND repository = ? AND role = ? ORDER "
                "BY place")
         return [row[0] for row in self.all(sql, root, repository, role)]
 
-    def images(self):
+    def images(self) -> dict[str, dict[str, Any]]:
         found = {}
         for row in self.all("SELECT * FROM image LEFT JOIN image_sha512 USING (file)"):
             told = {k: json.loads(row[k]) for k in ("hardware", "needs", "conflicts")}
@@ -405,11 +409,12 @@ class Desk:
 
     # -- files
 
-    def put_file(self, repository, name, body):
+    def put_file(self, repository: str, name: str, body: str) -> None:
         self.db.execute("INSERT OR REPLACE INTO repo_file VALUES (?, ?, ?)",
                         (repository, name, body))
 
-    def role_files(self, repository, at, version, targets, more):
+    def role_files(self, repository: str, at: int, version: int, targets: list[dict[str, Any]],
+                   more: dict[str, str]) -> dict[str, str]:
 
         def made(role, members):
             told = {
@@ -453,7 +458,7 @@ class Desk:
             self.put_file(repository, "%d.root.json" % root, body)
             self.put_file(repository, "root.json", body)
 
-    def put_image_files(self, at, version):
+    def put_image_files(self, at: int, version: int) -> None:
         self.db.execute("UPDATE meta SET image_version = ?, stamp = ?", (version, at))
         images = self.images()
         targets = [target(images[name], {}) for name in sorted(images, key=str.encode)]
@@ -475,11 +480,11 @@ class Desk:
                     raise Refused(7, "threshold")
         return keys
 
-    def in_range(self, line):
+    def in_range(self, line: dict[str, Any]) -> None:
         if line["at"] > LAST_AT:
             raise Refused(3)
 
-    def found(self, line):
+    def found(self, line: dict[str, Any]) -> str | None:
         keys = self.new_keys(line)
         if self.one("SELECT root FROM meta")[0]:
             raise Refused(9)
@@ -552,7 +557,7 @@ class Desk:
             self.db.execute(sql, (ecu, name, place, hardware, key))
         return "done"
 
-    def not_taken(self, ecu):
+    def not_taken(self, ecu: str) -> None:
         """An identifier that is recorded anywhere is taken, and so is one that is retired."""
         for table in ("ecu", "retired"):
             if self.one("SELECT 1 FROM %s WHERE ecu = ?" % table, ecu):
@@ -601,7 +606,7 @@ class Desk:
         self.db.execute("INSERT INTO campaign VALUES (?, ?, ?, ?)", row)
         return "done"
 
-    def close_campaign(self, line):
+    def close_campaign(self, line: dict[str, Any]) -> str | None:
         name = member(line, "campaign", IDENT)
         self.in_range(line)
         self.founded()
@@ -611,7 +616,7 @@ class Desk:
         self.db.execute("UPDATE campaign SET running = 0 WHERE name = ?", (name, ))
         return "done" if there[0] else "already"
 
-    def fetch(self, line):
+    def fetch(self, line: dict[str, Any]) -> str | None:
         repository, name = member(line, "repository", lambda v: v in REPOSITORIES), member(
             line, "file", FILE)
         self.in_range(line)
@@ -622,7 +627,7 @@ class Desk:
             raise Refused(29)
         return "file " + found[0]
 
-    def show(self, line):
+    def show(self, line: dict[str, Any]) -> str | None:
         name = member(line, "vehicle", IDENT)
         vehicle = self.one("SELECT version, last_counter FROM vehicle WHERE vehicle = ?", name)
         if not vehicle:
@@ -637,12 +642,12 @@ class Desk:
                         (">" + assigned[ecu] if ecu in assigned else ""))
         return " ".join(told)
 
-    def deliver(self, line):
+    def deliver(self, line: dict[str, Any]) -> str | None:
         body = member(line, "body", lambda v: isinstance(v, str)).encode()
         self.in_range(line)
         return self.delivered(body, line["at"])
 
-    def bench(self, line):
+    def bench(self, line: dict[str, Any]) -> str | None:
         body = bench_body(line)
         self.in_range(line)
         return self.delivered(body, line["at"])
@@ -678,7 +683,8 @@ class Desk:
         self.check_reports(told["reports"], ecus, by_name)
         return self.accept(told, at, vehicle, ecus)
 
-    def check_reports(self, reports, ecus, by_name):
+    def check_reports(self, reports: list[dict[str, Any]], ecus: list[dict[str, Any]],
+                      by_name: dict[str, dict[str, Any]]) -> None:
         told = [r["ecu"] for r in reports]
         for ecu in told:
             if ecu not in by_name:
@@ -699,7 +705,7 @@ class Desk:
                                                        and not same):
                 raise Refused(18, report["ecu"])
 
-    def accept(self, told, at, vehicle, ecus):
+    def accept(self, told: Any, at: int, vehicle: sqlite3.Row, ecus: list[dict[str, Any]]) -> str:
         name, reports = told["vehicle"], {r["ecu"]: r for r in told["reports"]}
         sql = (
             "UPDATE ecu SET file = :file, length = :length, sha256 = :sha256, counter = :counter, "
@@ -726,7 +732,7 @@ class Desk:
         self.db.execute("INSERT INTO kept VALUES (?, ?, ?, ?, ?, ?, ?, ?)", row)
         return self.printed({"vehicle": name, "version": version, "plan_text": canonical(made)})
 
-    def printed(self, kept):
+    def printed(self, kept: dict[str, Any] | sqlite3.Row) -> str:
         made = json.loads(kept["plan_text"])
         told = "reply %s version %d targets %d" % (kept["vehicle"], kept["version"],
                                                    len(made["assigned"]))
@@ -740,7 +746,7 @@ class Desk:
         "found", "rotate", "add_vehicle", "replace_ecu", "add_image", "refresh", "open_campaign",
         "close_campaign", "deliver", "fetch", "bench", "show"]
 
-    def answer(self, line):
+    def answer(self, line: bytes | str) -> Any:
         """What is printed for a line that has any byte."""
         try:
             with self.db:

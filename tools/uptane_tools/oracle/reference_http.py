@@ -11,7 +11,7 @@ import re
 import socket
 import sys
 import time
-from typing import NamedTuple
+from typing import Any, NamedTuple
 
 from uptane_tools.oracle import reference
 
@@ -82,7 +82,7 @@ def values(lines, name):
     return [value.strip(b" \t") for found, value in fields if found.lower() == name]
 
 
-def check_of(lines, minor):
+def check_of(lines: list[bytes], minor: bytes) -> tuple[str | None, int | None]:
     """The check that the head alone fails, and the length that it states."""
     hosts, lengths = len(values(lines, b"host")), values(lines, b"content-length")
     if hosts != 1 and (hosts, minor) != (0, b"0"):
@@ -95,7 +95,7 @@ def check_of(lines, minor):
     return "TooLarge" if stated and stated > MOST_BODY else None, stated
 
 
-def routed(method, target, stated, body):
+def routed(method: str, target: str, stated: int | None, body: bytes) -> tuple[Any, str]:
     """What a request asks, and the method that its route takes."""
     path = target.split("?", 1)[0]
     file = re.fullmatch(r"/(director|image)/([A-Za-z0-9._-]{1,128})", path)
@@ -139,7 +139,7 @@ def first(came, before, ended):
 class Stream:
     """The requests of one connection, whose bytes come in pieces."""
 
-    def __init__(self):
+    def __init__(self) -> None:
         self.rest, self.given, self.ended = b"", 0, False
 
     def feed(self, piece, end=False):
@@ -157,11 +157,11 @@ class Stream:
 # ---- answers
 
 
-def error(number, words):
+def error(number: int, words: str) -> str:
     return reference.canonical({"error": number, "text": words})
 
 
-def response(status, body, asked):
+def response(status: int, body: Any, asked: Next) -> bytes:
     """The bytes of an answer."""
     lines = [
         "HTTP/1.1 %d %s" % (status, PHRASES[status]), "Content-Type: application/json",
@@ -171,7 +171,7 @@ def response(status, body, asked):
                    for line in lines).encode() + b"\r\n" + (b"" if asked.head else body.encode())
 
 
-def carried_out(desk, at, what):
+def carried_out(desk: Any, at: int, what: Any) -> str | None:
     """The text that answers a command."""
     if isinstance(what, tuple):
         return desk.fetch({"at": at, "repository": what[0], "file": what[1]}).removeprefix("file ")
@@ -179,7 +179,7 @@ def carried_out(desk, at, what):
     return desk.reply_to(what, at)
 
 
-def answer(desk, at, asked):
+def answer(desk: Any, at: int, asked: Next) -> Any:
     """The bytes that answer a request at a moment."""
     if isinstance(asked.what, str):
         status, number = CHECKS[asked.what]

@@ -18,19 +18,19 @@ class HmacSha256:
     method = "hmac-sha256"
 
     @staticmethod
-    def public_of(secret):
+    def public_of(secret: bytes) -> bytes:
         return secret
 
     @staticmethod
-    def shown(public):
+    def shown(public: bytes) -> str:
         return ""
 
     @staticmethod
-    def sign(secret, message):
+    def sign(secret: bytes, message: bytes) -> bytes:
         return hmac.new(secret, message, hashlib.sha256).digest()
 
     @classmethod
-    def verify(cls, public, message, signature):
+    def verify(cls, public: bytes, message: bytes, signature: bytes) -> bool:
         return hmac.compare_digest(cls.sign(public, message), signature)
 
 
@@ -56,7 +56,7 @@ class Sha256Tag:
     method = "sha256-tag"
 
     @staticmethod
-    def public_of(secret):
+    def public_of(secret: bytes) -> bytes:
         return hashlib.sha256(b"public " + secret).digest()
 
     @staticmethod
@@ -77,6 +77,6 @@ SCHEMES = {it.method: it for it in ALL}
 TRIED = SCHEMES[os.environ.get("SCHEME", HmacSha256.method)]
 
 
-def key_identifier(public):
+def key_identifier(public: Any) -> str:
     """HMAC-SHA-256 of a fixed word under the public part, whatever the scheme."""
     return hmac.new(public, b"uptane-key-id", hashlib.sha256).hexdigest()

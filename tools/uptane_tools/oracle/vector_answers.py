@@ -1,10 +1,11 @@
 """Test vectors of the service's answers, and of what a Primary does behind each."""
 import json
+from typing import Any, Iterator
 
 from uptane_tools.operate.formats import MOST
 
 
-def told(error, text):
+def told(error: int, text: str) -> str:
     return json.dumps({"error": error, "text": text}, separators=(",", ":"))
 
 
@@ -54,7 +55,7 @@ ANSWERS = [
     ("a report under another key", 403, told(17, "BadReportSignature left"), "mend", 17)]
 
 
-def answers():
+def answers() -> Iterator[dict[str, Any]]:
     for name, status, body, then, value in ANSWERS:
         yield {"name": name, "status": status, "body": body, "then": then, "value": value}
 
@@ -73,6 +74,6 @@ FILES = [
     ("a refusal of manifests", 403, told(12, "BadManifestSignature"), "end"), ]
 
 
-def files():
+def files() -> Iterator[dict[str, Any]]:
     for name, status, body, then in FILES:
         yield {"name": name, "status": status, "body": body, "then": then}

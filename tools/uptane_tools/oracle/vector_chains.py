@@ -3,6 +3,7 @@ install what the reply assigns.
 """
 import copy
 import json
+from typing import Any, Callable, Iterator
 
 from uptane_tools.oracle import ed25519
 from uptane_tools.oracle.reference import METHOD, SCHEME, canonical, moment
@@ -19,10 +20,10 @@ class Chain:
     changes.
     """
 
-    def __init__(self, rotated):
+    def __init__(self, rotated: bool) -> None:
         with desk() as it:
 
-            def delivered(vehicle, counter):
+            def delivered(vehicle: Any, counter: int) -> str:
                 return line("deliver", body=manifest(vehicle, counter, reports_of(vehicle,
                                                                                   counter)))
 
@@ -54,27 +55,28 @@ class Chain:
         told[role] = resigned(told[role], change, keys or self.keys["director"][role]["keys"])
         if role == "snapshot" and rehash:
 
-            def name(signed):
+            def name(signed: dict[str, Any]) -> None:
                 return signed["meta"].update({"snapshot.json": named(told["snapshot"])})
 
             told["timestamp"] = resigned(told["timestamp"], name,
                                          self.keys["director"]["timestamp"]["keys"])
         return {"reply": canonical(told)}
 
-    def image(self, role, change, keys=None, rehash=True):
+    def image(self, role: str, change: Callable[..., Any], keys: list[str] | None = None,
+              rehash: bool = True) -> dict[str, str]:
         """The same of a file of the Image repository."""
         made = resigned(json.loads(self.files["image/%s.json" % role]), change, keys
                         or self.keys["image"][role]["keys"])
         found = {"image/%s.json" % role: canonical(made)}
         if role == "snapshot" and rehash:
 
-            def name(signed):
+            def name(signed: dict[str, Any]) -> None:
                 return signed["meta"].update({"snapshot.json": named(made)})
 
             found |= self.image("timestamp", name)
         return found
 
-    def spaced(self, renamed):
+    def spaced(self, renamed: bool) -> tuple[dict[str, str], dict[str, str]]:
         """The reply whose Snapshot has white space, and the same of the Image repository. Their
         Timestamps name that text, or the canonical one.
         """
@@ -82,7 +84,7 @@ class Chain:
         texts = canonical(told["snapshot"]), self.files["image/snapshot.json"]
         others = [it.replace(",", " , ", 1) for it in texts]
 
-        def name(text):
+        def name(text: str) -> Callable[..., Any]:
             hashes = {"sha256": digest(text)}
             return lambda signed: signed["meta"]["snapshot.json"].update(hashes=hashes)
 
@@ -93,7 +95,8 @@ class Chain:
         return {"reply": canonical(told).replace(
             texts[0], others[0])}, {"image/snapshot.json": others[1]} | found
 
-    def root(self, change, keys, repository="director", number=2):
+    def root(self, change: Callable[..., Any], keys: list[str], repository: str = "director",
+             number: int = 2) -> dict[str, str]:
         """The Root of this number after a change, signed by these keys. One that isn't there is
         made of the one before it.
         """
@@ -101,20 +104,21 @@ class Chain:
         found = self.files.get(name % (repository, number)) or self.files[name %
                                                                           (repository, number - 1)]
 
-        def changed(signed):
+        def changed(signed: dict[str, Any]) -> None:
             signed["version"] = number
             change(signed)
 
         return {name % (repository, number): canonical(resigned(json.loads(found), changed, keys))}
 
 
-def resigned(envelope, change, keys):
+def resigned(envelope: dict[str, Any], change: Callable[..., Any],
+             keys: list[str]) -> dict[str, Any]:
     signed = copy.deepcopy(envelope["signed"])
     change(signed)
     return json.loads(signed_by(keys, signed))
 
 
-def named(snapshot):
+def named(snapshot: dict[str, Any]) -> dict[str, Any]:
     return {
         "hashes": {"sha256": digest(canonical(snapshot))}, "version": snapshot["signed"]["version"]}
 
@@ -127,10 +131,10 @@ def target(**more):
     return lambda signed: signed["targets"][0].update(more)
 
 
-def of_role(role, secrets, threshold=1):
+def of_role(role: str, secrets: list[str], threshold: int = 1) -> Callable[..., Any]:
     """A Root's change: the role has these keys, and a key that no role has any more is gone."""
 
-    def change(signed):
+    def change(signed: dict[str, Any]) -> None:
         own = {
             key_identifier(bytes.fromhex(public(it))): {
                 "method": METHOD, "public": SCHEME.shown(bytes.fromhex(public(it)))}
@@ -142,10 +146,10 @@ def of_role(role, secrets, threshold=1):
     return change
 
 
-def of_key(secret, change):
+def of_key(secret: str, change: Callable[..., Any]) -> Callable[..., Any]:
     """A Root's change of the key of this secret: of its name, or of what stands there."""
 
-    def changed(signed):
+    def changed(signed: dict[str, Any]) -> None:
         name = key_identifier(bytes.fromhex(public(secret)))
         other, told = change(name, signed["keys"].pop(name))
         signed["keys"][other] = told
@@ -166,18 +170,18 @@ ROOTS = {it: (FIRST[it]["root"]["keys"], SECOND[it]["root"]["keys"]) for it in F
 BOTH_ROOTS = FIRST["director"]["root"]["keys"], SECOND["director"]["root"]["keys"]
 
 
-def one_key(role):
+def one_key(role: str) -> list[str]:
     return FIRST["director"][role]["keys"][:1]
 
 
-def with_signatures(chain, change):
+def with_signatures(chain: Chain, change: Callable[..., Any]) -> dict[str, str]:
     """The reply with other signatures of its Targets."""
     told = json.loads(chain.files["reply"])
     told["targets"]["signatures"] = change(told["targets"]["signatures"])
     return {"reply": canonical(told)}
 
 
-def upper(signature):
+def upper(signature: dict[str, str]) -> dict[str, str]:
     return signature | {"sig": signature["sig"].upper()}
 
 
@@ -328,7 +332,7 @@ def of_new_roots(it):
     for repository, whose in (("director", "the Director's"), ("image", "the Image repository's")):
         own, first, second = getattr(it, repository), FIRST[repository], SECOND[repository]
 
-        def root(change):
+        def root(change: Callable[..., Any]) -> dict[str, str]:
             return it.root(change, first["root"]["keys"], repository)
 
         more = {"root": 2} if repository == "director" else {}
@@ -391,7 +395,7 @@ def of_root_keys(it):
             change, roots) | signed, {}
     stranger = of_role("targets", [key(0x99)])
 
-    def of_no_role(signed):
+    def of_no_role(signed: dict[str, Any]) -> None:
         known = copy.deepcopy(signed)
         stranger(known)
         signed["keys"] |= known["keys"]
@@ -410,7 +414,7 @@ def of_root_keys(it):
         listed(threshold=0), roots) | it.director("targets", nothing, one_key("snapshot"),
                                                   root=2), {}
 
-    def above(signed):
+    def above(signed: dict[str, Any]) -> None:
         return signed["roles"]["timestamp"].update(threshold=2)
 
     last = it.root(nothing, roots, number=2)["director/2.root.json"]
@@ -440,7 +444,7 @@ def of_image_rotation(it):
     yes, no = "accepted", "refused"
     first, second = ROOTS["image"]
 
-    def root(change, keys):
+    def root(change: Callable[..., Any], keys: list[str]) -> dict[str, str]:
         return it.root(change, keys, "image")
 
     yield "none", "versions of the Image repository's files whose keys were replaced are forgotten", yes, {}, trusted("image", timestamp=99, snapshot=99)
@@ -486,7 +490,7 @@ def of_rotation(it):
     yield "a key twice", "a Root by one of two old keys, twice", no, it.root(
         nothing, second + 2 * first[:1]), {}
 
-    def twice(signed):
+    def twice(signed: dict[str, Any]) -> None:
         return signed["roles"]["root"].update(keyids=2 * signed["roles"]["root"]["keyids"][:1])
 
     yield "a key twice", "a Root that lists one of its keys twice, and isn't signed by the other", no, it.root(
@@ -505,13 +509,13 @@ def of_rotation(it):
                                                             by_both), {}
 
 
-def two_names(it, own, before):
+def two_names(it: Chain, own: list[str], before: list[str]) -> dict[str, str]:
     """The second Root whose root keys are one key and that key under another name, signed under
     both names and by the Root before.
     """
     other, name = 64 * "0", key_identifier(bytes.fromhex(public(own[0])))
 
-    def change(signed):
+    def change(signed: dict[str, Any]) -> None:
         signed["keys"][other] = signed["keys"][name]
         signed["roles"]["root"]["keyids"] = [name, other]
 
@@ -532,7 +536,7 @@ CASES = {
     "rotation": (of_rotation, of_image_rotation)}
 
 
-def bases():
+def bases() -> dict[str, Chain]:
     return {"update": Chain(False), "rotation": Chain(True)}
 
 
@@ -549,7 +553,7 @@ def chains(made, more_cases):
                    } | ({"replace": replaced} if replaced else {}) | more
 
 
-def contents():
+def contents() -> Iterator[dict[str, Any]]:
     name = "gateway-2.bin"
     told, content = image_of(name), CONTENT[name]
     yield {"name": "the image", "target": told, "content": content, "verdict": "accepted"}

@@ -4,6 +4,7 @@ manifests that the vehicles send.
 import hashlib
 import sqlite3
 from contextlib import closing
+from typing import Any
 
 from uptane_tools.oracle import reference
 from uptane_tools.oracle.reference import ROLES, SCHEME, canonical, moment, sealed
@@ -11,21 +12,21 @@ from uptane_tools.oracle.reference import ROLES, SCHEME, canonical, moment, seal
 NOW, DAY = 1767225600, 86400
 
 
-def key(byte):
+def key(byte: int) -> str:
     """A key of 32 equal bytes."""
     return "%02x" % byte * 32
 
 
-def public(secret):
+def public(secret: str) -> Any:
     """The public part of a secret in hex."""
     return SCHEME.public_of(bytes.fromhex(secret)).hex()
 
 
-def unhex(keys):
+def unhex(keys: list[str]) -> list[bytes]:
     return [bytes.fromhex(it) for it in keys]
 
 
-def digest(words, kind="sha256"):
+def digest(words: str, kind: str = "sha256") -> str:
     return hashlib.new(kind, words.encode()).hexdigest()
 
 
@@ -33,7 +34,7 @@ def line(do, at=NOW, **members):
     return canonical({"do": do, "at": at, **members})
 
 
-def signed_by(keys, payload):
+def signed_by(keys: list[str], payload: dict[str, Any] | str) -> str:
     """The text of an envelope round a payload, signed by these keys in their order."""
     return sealed(unhex(keys), payload if isinstance(payload, str) else canonical(payload))
 
@@ -41,7 +42,7 @@ def signed_by(keys, payload):
 # ---- vehicles, images, a campaign
 
 
-def role_keys(start):
+def role_keys(start: int) -> dict[str, dict[str, dict[str, Any]]]:
     """The keys of a root version: two root keys that both sign, and two of three for the
     Director's Targets.
     """
@@ -68,7 +69,7 @@ CONTENT = {
 BOTH = {"gateway-1.bin", "gateway-2.bin"}
 
 
-def image_of(name):
+def image_of(name: str) -> dict[str, Any]:
     """What a report says of an image: those of the gateway have two hashes."""
     hashes = {
         kind: digest(CONTENT[name], kind)
@@ -76,7 +77,7 @@ def image_of(name):
     return {"file": name, "length": len(CONTENT[name]), "hashes": hashes}
 
 
-def add_image(name):
+def add_image(name: str) -> str:
     told = image_of(name)
     hardware = "GW" if name in BOTH else "BR"
     return line("add_image", file=name, length=told["length"], **told["hashes"], hardware=[
@@ -106,7 +107,7 @@ def report(ecu, secret, counter, image, /, **more):
     return signed_by([secret], payload | more)
 
 
-def reports_of(vehicle, counter, images=None):
+def reports_of(vehicle: str, counter: int, images: dict[str, str] | None = None) -> list[str]:
     """The reports of a vehicle's ECUs, each of its first image where nothing else is said."""
     first = {"GW": "gateway-1.bin", "BR": "brake-1.bin"}
     return [
@@ -130,11 +131,11 @@ def manifest(vehicle, counter, reports, /, secret=None, **more):
 # ---- the desk that answers
 
 
-def desk():
+def desk() -> Any:
     return closing(Opened(sqlite3.connect(":memory:")))
 
 
 class Opened(reference.Desk):
 
-    def close(self):
+    def close(self) -> None:
         self.db.close()

@@ -1,6 +1,7 @@
 """More test vectors of chains: what needs no key or one key alone, files of another form, and what
 a vehicle knows of its ECUs. Each has one thing wrong, and is signed correctly otherwise."""
 import json
+from typing import Any, Callable
 
 from uptane_tools.oracle import ed25519
 from uptane_tools.oracle.reference import SCHEME, canonical, moment
@@ -51,16 +52,16 @@ def of_splices(it):
             yield "arbitrary software", "%s %s says it is a %s" % words, NO, made, {}
 
 
-def of_other(it):
+def of_other(it: Any) -> dict[str, str]:
     """The reply whose Timestamp is the Image repository's own."""
     own = json.loads(it.files["image/timestamp.json"])
     return {"reply": canonical(json.loads(it.files["reply"]) | {"timestamp": own})}
 
 
-def numbered(it, version):
+def numbered(it: Any, version: int) -> dict[str, str]:
     """The reply whose files are all of one version."""
 
-    def change(signed):
+    def change(signed: dict[str, Any]) -> None:
         signed["version"] = version
         for named in signed.get("meta", {}).values():
             named["version"] = version
@@ -71,7 +72,7 @@ def numbered(it, version):
         if role == "timestamp":
             hashes = {"sha256": digest(canonical(told["snapshot"]))}
 
-            def name(signed):
+            def name(signed: dict[str, Any]) -> None:
                 return signed["meta"]["snapshot.json"].update(hashes=hashes)
 
             told[role] = resigned(told[role], name, keys[role]["keys"])
@@ -81,7 +82,7 @@ def numbered(it, version):
 def both(it, **more):
     """The gateway's image with other members in both repositories."""
 
-    def change(signed):
+    def change(signed: dict[str, Any]) -> None:
         for one in signed["targets"]:
             if one["file"] == GATEWAY:
                 one.update(more)
@@ -139,7 +140,7 @@ def of_images(it):
     yield "mix and match", "the repositories have the hardware in another order", NO, ordered, {}
 
 
-def target_named(signed):
+def target_named(signed: dict[str, Any]) -> dict[str, Any]:
     return next(it for it in signed["targets"] if it["file"] == GATEWAY)
 
 
@@ -152,7 +153,7 @@ def of_files(it):
     yield kind, name, NO, it.image("timestamp", members(version=0)), {}
     yield "none", "files of the greatest version", YES, numbered(it, 2**53 - 1), {}
 
-    def upper(signed):
+    def upper(signed: dict[str, Any]) -> None:
         return (signed["meta"]["snapshot.json"]["hashes"].update(
             sha256=signed["meta"]["snapshot.json"]["hashes"]["sha256"].upper()))
 
@@ -167,7 +168,7 @@ def of_files(it):
     yield kind, "Targets that expire at a number", NO, it.director("targets",
                                                                    members(expires=NOW + DAY)), {}
 
-    def deep(levels):
+    def deep(levels: int) -> list[list[list[list]]]:
         return json.loads(levels * "[" + levels * "]")
 
     yield "none", "a member of 15 levels", YES, it.director("targets", members(more=deep(15))), {}
@@ -194,7 +195,7 @@ def of_files(it):
     yield kind, "a reply whose version is a text", NO, it.reply(version="1"), {}
     snapshot = it.files["image/snapshot.json"]
 
-    def name(text):
+    def name(text: str) -> Callable[..., Any]:
         hashes = {"sha256": digest(text)}
         return lambda signed: signed["meta"]["snapshot.json"].update(hashes=hashes)
 
@@ -315,7 +316,7 @@ def of_more_roots(it):
     told = it.reply(root=2)
     spare = FIRST["director"]["targets"]["keys"]
 
-    def root(change):
+    def root(change: Callable[..., Any]) -> dict[str, str]:
         return it.root(change, roots) | told
 
     more = SECOND["director"]["targets"]["keys"]
@@ -326,7 +327,7 @@ def of_more_roots(it):
     yield kind, "a Root without the role Snapshot", NO, root(lambda signed: signed["roles"].pop(
         "snapshot")), {}
 
-    def threshold(value):
+    def threshold(value: str) -> Callable[..., Any]:
         return lambda signed: signed["roles"]["targets"].update(threshold=value)
 
     yield kind, "a Root with a threshold that is a text", NO, root(threshold("2")), {}

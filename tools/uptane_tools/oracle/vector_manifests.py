@@ -1,5 +1,6 @@
 """Test vectors of manifests, with the refusal that each gets, and of replies."""
 import json
+from typing import Any, Iterator
 
 from uptane_tools.oracle import reference_http
 from uptane_tools.oracle.reference import canonical, moment
@@ -10,7 +11,7 @@ from uptane_tools.oracle.vector_fleet import (NOW, PRIMARY, ROTATE, SETUP, UPDAT
 # ---- manifests: one after another, from where the setup ends
 
 
-def without(text, name):
+def without(text: str, name: str) -> str:
     """A manifest of VIN-2 whose payload lacks a member, or whose one report does; signed all the
     same.
     """
@@ -19,23 +20,23 @@ def without(text, name):
     return canonical(told)
 
 
-def manifests():
+def manifests() -> Iterator[tuple[str, str]]:
     three, solo = reports_of("VIN-1", 1), key(0xA4)
 
     def one(**more):
         return report("solo", solo, 1, image_of("gateway-1.bin"), **more)
 
-    def as_told(payload):
+    def as_told(payload: str) -> str:
         return signed_by([solo], payload)
 
     payload = payload_of("VIN-2", 1, [one()])
     good = as_told(payload)
     image = image_of("gateway-1.bin")
 
-    def changed_report(name):
+    def changed_report(name: str) -> str:
         return signed_by([solo], without(canonical(json.loads(one())["signed"]), name))
 
-    def of_report(made):
+    def of_report(made: str) -> str:
         return as_told(payload_of("VIN-2", 1, [made]))
 
     def of_image(**more):
@@ -84,7 +85,7 @@ def manifests():
     first, odd = manifest("VIN-1", 1, three), image | {"hashes": image["hashes"] | {"sha512": "x"}}
     upper_case = image | {"hashes": {name: it.upper() for name, it in image["hashes"].items()}}
 
-    def later(counter, gw):
+    def later(counter: int, gw: str) -> str:
         return manifest("VIN-1", counter, [gw, *reports_of("VIN-1", 7)[1:]])
 
     yield "a manifest of three ECUs", first
@@ -111,10 +112,10 @@ def manifests():
         "VIN-2", 2**53 - 1, [one(attack="x")])
 
 
-def respelt(text):
+def respelt(text: str) -> str:
     """The same value, spelt otherwise: other white space, and the members in another order."""
 
-    def turned(value):
+    def turned(value: Any) -> Any:
         return ({name: turned(value[name]) for name in sorted(value, reverse=True)} if isinstance(
             value, dict) else (list(map(turned, value)) if isinstance(value, list) else value))
 
@@ -172,7 +173,7 @@ def delivered():
 # ---- replies: what an accepted manifest is answered, byte for byte
 
 
-def replies():
+def replies() -> Iterator[dict[str, Any]]:
     steps = [("nothing is assigned", [], "VIN-1", 1, None),
              ("three images, one of them with two hashes", UPDATE, "VIN-1", 2, None),
              ("one ECU has its image", [], "VIN-1", 3, {"gw": "gateway-2.bin"}),

@@ -1,5 +1,6 @@
 """Test vectors of canonical texts, key identifiers, signatures and envelopes."""
 import json
+from typing import Iterator
 
 from uptane_tools.oracle import ed25519, reference
 from uptane_tools.oracle.reference import METHOD, SCHEME, canonical
@@ -33,7 +34,7 @@ NOT_JSON = [("a leading zero", "01"), ("a plus sign", "+1"), ("a word", "nan"),
             ("128 levels", 128 * "[" + 128 * "]")]
 
 
-def canonical_texts():
+def canonical_texts() -> Iterator[dict[str, str]]:
     for name, text in TAKEN:
         value = reference.read_json(text)
         assert reference.is_plain(value) and reference.depth(value) <= 16
@@ -88,7 +89,7 @@ RFC_4231 = [
      "9b09ffa71b942fcb27635fbcd5b0e944bfdc63644f0713938a7f51535c3a35e2")]
 
 
-def outside():
+def outside() -> list[tuple]:
     """The vectors of the RFCs: name, secret, public part, data, signature."""
     if SCHEME is HmacSha256:
         return [("RFC 4231, test case %d" % number, secret, secret, data, bytes.fromhex(tag))
@@ -98,7 +99,7 @@ def outside():
             for name, it in zip(names, ed25519.vectors(), strict=True)]
 
 
-def signatures():
+def signatures() -> Iterator[dict[str, str]]:
     for name, secret, of, data, sig in outside():
         assert (SCHEME.public_of(secret), SCHEME.sign(secret, data)) == (of, sig)
         yield {

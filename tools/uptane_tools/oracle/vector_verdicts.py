@@ -3,6 +3,7 @@ trusted, and what isn't a fault. Those of `of_order` and `of_old_replies` have s
 """
 import copy
 import json
+from typing import Any
 
 from uptane_tools.oracle.reference import SCHEME, canonical, moment
 from uptane_tools.oracle.schemes import Ed25519, HmacSha256
@@ -47,7 +48,7 @@ def of_order(it):
     name = "an ECU was replaced, and the Image repository's Timestamp has expired"
     yield kind, name, NO, {}, both
 
-    def lacks(place):
+    def lacks(place: int) -> dict[str, str]:
         return it.director("targets", lambda signed: signed["targets"][place].update(file="no.bin"))
 
     kind = "wrong ECU"
@@ -97,9 +98,9 @@ def of_more_signatures(it):
 def of_image_targets(it):
     """The Image repository's Targets in another order, and with a filename twice."""
 
-    def twice(place):
+    def twice(place: int) -> dict[str, str]:
 
-        def change(signed):
+        def change(signed: dict[str, Any]) -> None:
             one = next(it for it in signed["targets"] if it["file"] == "gateway-2.bin")
             signed["targets"].insert(place, one | {"release": 9})
 

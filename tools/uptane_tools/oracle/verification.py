@@ -11,6 +11,7 @@ import hashlib
 import json
 import re
 from datetime import datetime, timezone
+from typing import Any, Callable
 
 from uptane_tools.operate.formats import FILE, IDENT, KEYID, METHODS, SIG, is_count, value_of
 from uptane_tools.oracle import ed25519
@@ -32,7 +33,7 @@ class Refused(Exception):
     """Why what was served isn't accepted: the words of a refusal."""
 
 
-def need(holds):
+def need(holds: bool | re.Match[str]) -> None:
     if not holds:
         raise Unread
 
@@ -45,12 +46,12 @@ def refuse_unless(holds, *words):
 # ---- what files say
 
 
-def text(told, name, holds):
+def text(told: dict[str, Any], name: str, holds: Callable[..., Any]) -> str:
     need(isinstance(told, dict) and isinstance(told.get(name), str) and holds(told[name]))
     return told[name]
 
 
-def count(told, name, least=0):
+def count(told: dict[str, Any], name: str, least: int = 0) -> int:
     need(isinstance(told, dict) and is_count(told.get(name), least))
     return told[name]
 
@@ -72,7 +73,7 @@ def envelope(bytes_):
     return (signatures, canonical(signed)), signed
 
 
-def head(told, kind):
+def head(told: dict[str, Any], kind: str) -> dict[str, Any] | None:
     need(text(told, "type", lambda it: True) == kind)
     repository = text(told, "repository", lambda it: it in ("director", "image"))
     shape = "[0-9]{4}-[0-9]{2}-[0-9]{2}T[0-9]{2}:[0-9]{2}:[0-5][0-9]Z"
@@ -89,7 +90,7 @@ def head(told, kind):
     }
 
 
-def vehicle_of(told, repository):
+def vehicle_of(told: dict[str, Any], repository: str) -> str | None:
     return text(told, "vehicle", IDENT) if repository == "director" else None
 
 
@@ -113,7 +114,7 @@ def root_in(bytes_):
     return file, sealed
 
 
-def second_in(hashes):
+def second_in(hashes: dict[str, str]) -> str | None:
     """A SHA-512 of its form; another member of that name is one that nobody knows."""
     second = hashes.get("sha512")
     is_one = isinstance(second, str) and re.fullmatch("[0-9a-f]{128}", second)
@@ -175,7 +176,7 @@ READERS = {"timestamp": timestamp_in, "snapshot": snapshot_in, "targets": target
 class Verifier:
     """A scheme, and the public parts that the vehicle holds besides those that Roots show."""
 
-    def __init__(self, method, held):
+    def __init__(self, method: str, held: Any) -> None:
         self.scheme, self.held = SCHEMES[method], {key_identifier(it): it for it in held}
 
     def shown(self, digits):
@@ -190,13 +191,14 @@ class Verifier:
         parts = (self.shown(key[1]), self.held.get(name))
         return [it for it in parts if it is not None and key_identifier(it) == name]
 
-    def is_known(self, name, key):
+    def is_known(self, name: str, key: tuple[str, str]) -> bool:
         """Whether it is a key of the scheme, with a public part that is shown so."""
         method, digits = key
         shown = map(self.scheme.shown, self.candidates(name, key))
         return method == self.scheme.method and digits in shown
 
-    def has_signed(self, sealed, name, key):
+    def has_signed(self, sealed: tuple[list[dict[str, Any]], str], name: str,
+                   key: tuple[str, str]) -> bool:
         """Whether a key signed: by the scheme that the vehicle trusts, whatever it is called."""
         (signatures, signed), named = sealed, (name, self.scheme.method)
         own = [it["sig"] for it in signatures if (it["keyid"], it["method"]) == named]
@@ -204,7 +206,7 @@ class Verifier:
             self.scheme.verify(public, signed.encode(), bytes.fromhex(it))
             for public in self.candidates(name, key) for it in own)
 
-    def is_signed_for(self, role, sealed):
+    def is_signed_for(self, role: dict[str, Any], sealed: tuple[list[dict[str, Any]], str]) -> bool:
         signers = [name for name, key in role["keys"].items() if self.has_signed(sealed, name, key)]
         return len(signers) >= role["threshold"]
 
@@ -228,7 +230,7 @@ def next_root(verifier, repository, before, bytes_):
     return root
 
 
-def with_root(trust, root):
+def with_root(trust: dict[str, dict[str, Any]], root: Any) -> dict[str, dict[str, Any]]:
     """What is trusted with a new Root. Versions under a role's old keys are forgotten: those of
     Timestamp and Snapshot together, that of Targets alone."""
     same = {role: {*trust["root"][role]["keys"]} == {*root[role]["keys"]} for role in FILES}
@@ -240,7 +242,8 @@ def with_root(trust, root):
     return {"root": root, "versions": versions}
 
 
-def follow(verifier, repository, trust, roots):
+def follow(verifier: Verifier, repository: str, trust: dict[str, dict[str, Any]],
+           roots: list[str]) -> tuple[dict[str, dict[str, Any]], Refused | None]:
     """What is trusted once each Root was looked at in its turn, and the first refusal, if any."""
     for bytes_ in roots:
         try:
@@ -250,7 +253,8 @@ def follow(verifier, repository, trust, roots):
     return trust, None
 
 
-def latest(verifier, repository, now, trust, roots):
+def latest(verifier: Verifier, repository: str, now: int, trust: dict[str, dict[str, Any]],
+           roots: list[str]) -> dict[str, dict[str, Any]] | None:
     trust, refused = follow(verifier, repository, trust, roots)
     if refused:
         raise refused
@@ -281,7 +285,7 @@ def check_files(verifier, asked, trust, texts):
     """The versions of a repository's files, and its Targets."""
     digest = hashlib.sha256((texts["snapshot"] or "").encode()).hexdigest()
 
-    def check(role, is_named):
+    def check(role: str, is_named: Callable[..., Any]) -> dict[str, Any] | None:
         return check_file(verifier, asked, role, trust, texts[role], is_named)
 
     timestamp = check("timestamp", lambda file: True)
@@ -303,7 +307,8 @@ def check_reply(verifier, now, primary, trust, reply):
     return versions, targets
 
 
-def check_target(primary, images, target):
+def check_target(primary: dict[str, Any], images: list[dict[str, Any]],
+                 target: dict[str, Any]) -> None:
     name, (file, _, hardware, _, release) = target["ecu"], target["image"]
     refuse_unless(name in primary["ecus"] or name not in primary["replaced"], "ReplacedEcu", name)
     refuse_unless(name in primary["ecus"], "UnknownEcu", name)
@@ -331,13 +336,13 @@ def verify(verifier, now, primary, served):
     return known | {"image": image | {"versions": versions}}, due
 
 
-def is_old(words):
+def is_old(words: tuple) -> bool:
     """Whether a refusal is of what was good once: a new manifest brings something newer."""
     is_expired = len(words) == 3 and (words[0], words[2]) == ("director", "Expired")
     return words[0] in ("OldRoot", "ReplacedEcu") or is_expired and words[1] != "root"
 
 
-def behind(trust, repository, texts):
+def behind(trust: dict[str, dict[str, Any]], repository: str, texts: dict[str, Any]) -> list[str]:
     """The texts of a repository's Roots behind the trusted one, up to the first that is missing."""
     found, number = [], trust["root"]["version"] + 1
     while texts.get("%s/%d.root.json" % (repository, number)) is not None:
@@ -346,7 +351,7 @@ def behind(trust, repository, texts):
     return found
 
 
-def is_reply(reply):
+def is_reply(reply: dict[str, Any]) -> bool:
     """Whether a reply has its members. Each of its files is read in its turn."""
     has_all = None not in reply["files"].values() and IDENT(reply["vehicle"])
     return has_all and is_count(reply["root"], 1) and is_count(reply["version"], 1)
@@ -393,7 +398,7 @@ def reply_in(text_):
     }
 
 
-def state_of(known):
+def state_of(known: dict[str, dict[str, dict[str, Any]]]) -> dict[str, dict[str, int]]:
     """What is trusted, as vectors say it: the number of the Root, and the versions."""
     return {
         repository: {"root": trust["root"]["version"], **trust["versions"]}

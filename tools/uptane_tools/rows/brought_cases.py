@@ -7,6 +7,7 @@ Each answer is written here by hand, beside what is wrong with the file.
 promise: brought-root, brought-keys, brought-targets
 """
 import json
+from typing import Any, Iterator
 
 from uptane_tools.oracle.ed25519 import P, decode, public_of, sign
 from uptane_tools.oracle.schemes import key_identifier
@@ -18,20 +19,20 @@ EXPIRES, GONE = "2027-06-01T00:00:00Z", "2027-01-15T08:00:00Z"
 HELD = "root 0, targets %s, snapshot 1 of 1, timestamp 1 of 1"
 
 
-def canonical(value):
+def canonical(value: dict[str, Any]) -> str:
     return json.dumps(value, sort_keys=True, separators=(",", ":"), ensure_ascii=False)
 
 
-def secret(name):
+def secret(name: str) -> bytes:
     return name.encode().ljust(32, b"-")
 
 
-def key(name):
+def key(name: str) -> tuple[str, dict[str, str]]:
     public = public_of(secret(name))
     return key_identifier(public), {"method": "ed25519", "public": public.hex()}
 
 
-def sealed(payload, signers):
+def sealed(payload: dict[str, Any], signers: list[str] | tuple) -> str:
     signed = canonical(payload)
     signatures = [{
         "keyid": key(it)[0], "method": "ed25519", "sig": sign(secret(it), signed.encode()).hex()}
@@ -39,11 +40,12 @@ def sealed(payload, signers):
     return canonical({"signatures": signatures})[:-1] + ',"signed":' + signed + "}"
 
 
-def role(number, names):
+def role(number: int, names: tuple) -> dict[str, Any]:
     return {"keyids": [key(name)[0] for name in names], "threshold": number}
 
 
-def root(roles, version=1, repository="director", expires=EXPIRES, keys=None):
+def root(roles: dict[str, tuple[int, tuple]], version: int = 1, repository: str = "director",
+         expires: str = EXPIRES, keys: dict[str, dict[str, str]] | None = None) -> dict[str, Any]:
     """The payload of a Root; of each role its threshold and its keys."""
     listed = dict(key(name) for _, names in roles.values() for name in names)
     return {
@@ -51,17 +53,20 @@ def root(roles, version=1, repository="director", expires=EXPIRES, keys=None):
             it: role(*told) for it, told in roles.items()}, "type": "root", "version": version}
 
 
-def roles_of(who, root_keys=(2, ("ann", "bob", "eve")), targets_keys=None):
+def roles_of(
+        who: str, root_keys: tuple[int, tuple] = (2, ("ann", "bob", "eve")),
+        targets_keys: tuple[int, tuple[str, str]] | None = None) -> dict[str, tuple[int, tuple]]:
     online = {"snapshot": (1, (who + "-s", )), "timestamp": (1, (who + "-ts", ))}
     return {"root": root_keys, "targets": targets_keys or (1, (who + "-t", ))} | online
 
 
-def image(name, release=1):
+def image(name: str, release: int = 1) -> dict[str, Any]:
     hashes = {"sha256": "ab" * 32}
     return {"file": name, "hardware": ["HP"], "hashes": hashes, "length": 5, "release": release}
 
 
-def targets(listed, version=1, expires=EXPIRES):
+def targets(listed: list[dict[str, Any]], version: int = 1,
+            expires: str = EXPIRES) -> dict[str, Any]:
     return {
         "expires": expires, "repository": "image", "targets": listed, "type": "targets",
         "version": version}
@@ -71,7 +76,7 @@ def hexes(*names):
     return ",".join(secret(it).hex() for it in names)
 
 
-def shown_rows():
+def shown_rows() -> Iterator[tuple[str, str]]:
     public = public_of(secret("ann")).hex()
     no_point = next(y for y in range(2, 99) if decode(little(y)) is None)
     yield public, public
@@ -84,11 +89,13 @@ NOTHING = "none none none"
 GIVEN = " ".join(hexes("d-" + it) for it in ("t", "s", "ts"))
 
 
-def root_row(text, answer, repository="director", at=NOW, kept=NOTHING, given=GIVEN, last=(0, "-")):
+def root_row(text: str, answer: str, repository: str = "director", at: int = NOW,
+             kept: str = NOTHING, given: str = GIVEN,
+             last: tuple[int, str] = (0, "-")) -> tuple[str, str]:
     return f"{repository} {last[0]} {last[1]} {at} {text} {kept} {given}", answer
 
 
-def root_rows():
+def root_rows() -> Iterator[tuple[str, str]]:
     """The Director's Root, with all secrets given."""
     held, roles, row = HELD % "1 of 1", roles_of("d"), root_row
     first = sealed(root(roles), ["ann", "eve"])
@@ -118,7 +125,7 @@ def root_rows():
     yield row(sealed(second, ["ann", "bob", "dan"]), held, last=last)
 
 
-def held_rows():
+def held_rows() -> Iterator[tuple[str, str]]:
     """Secrets that are held stay, others are refused, and the Director's Targets are online."""
     row, first = root_row, sealed(root(roles_of("d")), ["ann", "eve"])
     target, snapshot, timestamp = GIVEN.split()
@@ -128,11 +135,11 @@ def held_rows():
     yield row(first, "other keys timestamp", given=f"{target} {snapshot} {timestamp},{snapshot}")
 
 
-def offline_rows():
+def offline_rows() -> Iterator[tuple[str, str]]:
     """The Image repository's Targets may be kept offline."""
     text, others = IMAGE_ROOT, f"{hexes('i-s')} {hexes('i-ts')}"
 
-    def row(answer, given, kept=NOTHING):
+    def row(answer: str, given: str, kept: str = NOTHING) -> tuple[str, str]:
         return root_row(text, answer, repository="image", given=f"{given} {others}", kept=kept)
 
     yield row(HELD % "0 of 0", "none")
@@ -149,11 +156,12 @@ REGISTER = sealed(targets(LISTED, 99), ["kim"])
 BOTH = ("kim", "joe")
 
 
-def targets_row(text, answer, at=NOW, last=IMAGE_ROOT, register=REGISTER):
+def targets_row(text: str, answer: str, at: int = NOW, last: str = IMAGE_ROOT,
+                register: str = REGISTER) -> tuple[str, str]:
     return f"4 9 {at} {last} {text} {register}", answer
 
 
-def targets_rows():
+def targets_rows() -> Iterator[tuple[str, str]]:
     """Targets above version 4, up to 9."""
     row, good = targets_row, sealed(targets(LISTED, 5), BOTH)
     yield row(good, "version 5")
@@ -174,7 +182,7 @@ def targets_rows():
     yield row(IMAGE_ROOT, "BadShape type")
 
 
-def kept_rows():
+def kept_rows() -> Iterator[tuple[str, str]]:
     """Targets that stay; they may have expired."""
     for text, answer in ((sealed(targets(LISTED, 5, GONE), BOTH), "stay"), (sealed(
             targets(LISTED, 5), ("joe", )), "bad signature targets"), (sealed(
@@ -182,18 +190,18 @@ def kept_rows():
         yield f"{IMAGE_ROOT} {text} {REGISTER}", answer
 
 
-def sections():
+def sections() -> Any:
     made = (("shown", shown_rows()), ("root", [*root_rows(), *held_rows(), *offline_rows()]),
             ("targets", targets_rows()), ("kept", kept_rows()))
     return [(call, [" => ".join(row) for row in rows]) for call, rows in made]
 
 
-def texts(most=None):
+def texts(most: int | None = None) -> tuple[str, str]:
     """The input and what is told; at most so many cases of a section, if any are said."""
     parts = [(call, rows[:most]) for call, rows in sections()]
     return stdin(parts), stdout(parts)
 
 
-def first():
+def first() -> tuple[str, str]:
     """The same of the first of each section."""
     return texts(1)

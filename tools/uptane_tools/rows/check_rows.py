@@ -16,6 +16,8 @@ import socket
 import subprocess
 import sys
 import time
+from pathlib import Path
+from typing import Iterator
 
 from uptane_tools import arguments
 from uptane_tools.rows import computed, expected_files, row_texts, translated
@@ -27,7 +29,7 @@ COMPUTED = [("texts", "expected_texts"), ("decisions", "expected_decisions"),
             ("the store", "expected_store"), ("lines", "each_line", "wanted")]
 
 
-def read(path):
+def read(path: Path) -> str:
     return path.read_text(encoding="ascii")
 
 
@@ -38,7 +40,7 @@ def ran(path, *words, given=""):
     return done.returncode, done.stdout.decode("ascii", "replace")
 
 
-def scripts():
+def scripts() -> Iterator[tuple[str, bool]]:
     """Each script that an example or a row has, but those under a scheme that the rules haven't."""
     for script in sorted([*EXAMPLES.glob("*/script"), *ROWS.glob("*/script")]):
         if not (script.parent / "under").exists():
@@ -60,7 +62,7 @@ def scripts_under_ed25519():
         yield name, translated.are_as(wanted, done.stdout.decode("ascii").split("\n")[:-1])
 
 
-def texts():
+def texts() -> Iterator[tuple[str, bool]]:
     """The texts of the rows are those of the formats, and what crates of tests have of cases that
     are computed is a part of them.
     """
@@ -76,7 +78,7 @@ def texts():
         yield "files of %s, from the formats" % name, "".join(files) == row_texts.files(name)
 
 
-def primary():
+def primary() -> Iterator[tuple[str, bool]]:
     given, body, reply = (
         read(PRIMARY / name) for name in ("manifest-input.json", "manifest.json", "reply.json"))
     tool, keys = PRIMARY / "primary.py", str(PRIMARY / "director-secrets.json")
@@ -107,7 +109,7 @@ def served(path):
             running.kill()
 
 
-def reference():
+def reference() -> Iterator[tuple[str, bool]]:
     """What stands in for the product where the kit isn't there: a script's answers, and the
     exchanges of the page on HTTP.
     """

@@ -5,6 +5,8 @@ the first row, and those that are wrong on purpose.
 """
 import json
 import sqlite3
+from pathlib import Path
+from typing import Any, Iterator
 from uptane_tools import TOP
 from uptane_tools.oracle import reference
 from uptane_tools.trial import each_line
@@ -16,7 +18,7 @@ APART = [
     each_line.STOPS, each_line.WRONG, "campaign of 16 items for 1000 vehicles", each_line.NO_TEXT]
 
 
-def lines_of(path):
+def lines_of(path: Path) -> list[str]:
     return path.read_text(encoding="ascii").split("\n")[:-1] if path.exists() else []
 
 
@@ -27,14 +29,14 @@ class IsCommand(Exception):
 class Reader(reference.Desk):
     """Reads lines: what is read in full is a command, and its moment comes next."""
 
-    def in_range(self, line):
+    def in_range(self, line: dict[str, Any]) -> None:
         raise IsCommand
 
 
 READER = Reader(sqlite3.connect(":memory:"))
 
 
-def is_command(line):
+def is_command(line: str) -> bool:
     """Whether a line asks the desk something: it has no fault, and shows nothing."""
     try:
         READER.answer(line.encode())
@@ -48,10 +50,10 @@ class Row:
     printed and the text of its reply.
     """
 
-    def __init__(self, name, method, steps):
+    def __init__(self, name: str, method: str, steps: list[tuple[str, str, str]]) -> None:
         self.name, self.method, self.steps = name, method, steps
 
-    def given(self):
+    def given(self) -> str:
         out = ["row " + self.name, "@ " + self.method]
         for line, answer, reply in self.steps:
             asks = is_command(line)
@@ -59,14 +61,14 @@ class Row:
             out += [("< " if asks else "! ") + answer] * bool(line) + ["= " + reply] * bool(reply)
         return "\n".join(out) + "\n"
 
-    def wanted(self):
+    def wanted(self) -> str:
         answered = [step for step in self.steps if step[0]]
         asked = sum(is_command(line) for line, _, _ in answered)
         texts = sum(bool(reply) for _, _, reply in answered)
         return tells(self.name, len(answered), asked + texts, len(answered) + texts) + "\n"
 
 
-def row_of(folder):
+def row_of(folder: Path) -> Row:
     printed = iter(lines_of(folder / "printed"))
     replies = iter(lines_of(folder / "replies"))
     steps = []
@@ -91,13 +93,13 @@ def row_of_section(words, rows):
     return Row("each_answer, " + words, reference.METHOD, steps)
 
 
-def rows():
+def rows() -> Iterator[Row]:
     yield from (row_of(script.parent) for script in sorted(ROWS.glob("*/script")))
     yield from (
         row_of_section(*section) for section in each_line.sections() if section[0] not in APART)
 
 
-def controls():
+def controls() -> str:
     """Rows that are wrong on purpose: an answer, the text of a reply, the number of lines, a
     scheme.
     """
@@ -112,7 +114,7 @@ def controls():
     return "".join("row control of " + "\n".join(row) + "\n" for row in wrong)
 
 
-def tells(name, script, run, calls):
+def tells(name: str, script: int | str, run: int | str, calls: int | str) -> str:
     """The lines of a row, one for each medium. Read by bytes a script is answered the same, and
     so are calls in turns.
     """
@@ -121,10 +123,10 @@ def tells(name, script, run, calls):
     return "\n".join("%s in %s: %s" % (name, medium, ways) for medium in ("memory", "files"))
 
 
-def seen():
+def seen() -> str:
     """What shows that the program sees each of the controls."""
 
-    def differs(had, wanted):
+    def differs(had: str, wanted: str) -> str:
         return "DIFFERS: %s in place of %s" % (json.dumps(had), json.dumps(wanted))
 
     answer = differs("done\n", "already\n")
@@ -139,13 +141,13 @@ def seen():
     ]) + "\n"
 
 
-def texts(of=None):
+def texts(of: list[Row] | None = None) -> tuple[str, str]:
     """The input and what is told; of some rows, if any are said."""
     each = list(rows() if of is None else of)
     return ("\n" + "".join(row.given() for row in each) + controls(),
             "".join(row.wanted() for row in each) + seen())
 
 
-def first():
+def first() -> tuple[str, str]:
     """The same of the first manifest alone."""
     return texts([row_of(ROWS / "first_manifest")])

@@ -13,21 +13,22 @@ promise: ed25519-laws, ed25519-sign, ed25519-verify
 """
 import random
 import subprocess
+from typing import Any
 
 from uptane_tools import arguments
 from uptane_tools.oracle.ed25519 import (BASE, ORDER, P, add, decode, digest, encode, multiple,
                                          number, public_of, sign, vectors, verify)
 
 
-def little(count):
+def little(count: int) -> bytes:
     return count.to_bytes(32, "little")
 
 
-def turned(data, at, bit=1):
+def turned(data: bytes, at: int, bit: int = 1) -> bytes:
     return data[:at] + bytes([data[at] ^ bit]) + data[at + 1:]
 
 
-def key_row(data):
+def key_row(data: bytes) -> str:
     fits = "true" if len(data) == 32 else "false"
     public = public_of(data).hex() if len(data) == 32 else "none"
     shown = data.hex() if len(data) == 32 else ""
@@ -35,11 +36,11 @@ def key_row(data):
             f"shown as [{shown}]")
 
 
-def signature_row(secret, message):
+def signature_row(secret: bytes, message: bytes) -> str:
     return f"{secret.hex()} x{message.hex()} => {sign(secret, message).hex()}"
 
 
-def verified_row(public, message, signature):
+def verified_row(public: bytes, message: bytes, signature: bytes) -> str:
     answer = "true" if verify(public, message, signature) else "false"
     return f"{public.hex()} x{message.hex()} {signature.hex()} => {answer}"
 
@@ -123,7 +124,7 @@ def unwritten(message, signature):
         yield little(1), message, data + signature[32:]
 
 
-def sections():
+def sections() -> Any:
     known = vectors()
     secrets = [vector[0] for vector in known]
     yield "key", [
@@ -160,12 +161,12 @@ def drawn(word, count):
     return [("key", keys), ("signature", signatures), ("verified", checks)]
 
 
-def stdin(parts):
+def stdin(parts: list[tuple[str, list[str]]]) -> str:
     return "\n# " + "\n# ".join(f"{call}\n" + "".join(row + "\n" for row in rows)
                                 for call, rows in parts)
 
 
-def stdout(parts):
+def stdout(parts: list[tuple[str, list[str]]]) -> str:
     return "".join(f"{call}: {len(rows)}\n" for call, rows in parts)
 
 
@@ -185,13 +186,13 @@ def compare(program, parts):
     return 0 if told == stdout(parts) else 1
 
 
-def texts():
+def texts() -> tuple[str, str]:
     """The input and what is told."""
     parts = list(sections())
     return stdin(parts), stdout(parts)
 
 
-def first():
+def first() -> tuple[str, str]:
     """The same without what is changed in signatures: the vectors of the RFC alone."""
     parts = [
         (call, rows[:len(vectors())] if call == "verified" else rows) for call, rows in sections()]

@@ -3,6 +3,8 @@
     tools/run expected_files       tells it
 """
 import re
+from pathlib import Path
+from typing import Iterator
 
 from uptane_tools import TOP, arguments
 from uptane_tools.rows import row_texts
@@ -26,15 +28,15 @@ SEVERAL, ALERTS = {"nginx.conf", "haproxy.cfg", "uptane-desk@.service"}, {
 ROW = {"script", "printed"}
 
 
-def names(folder):
+def names(folder: Path) -> set[str]:
     return {path.name for path in folder.iterdir() if not path.name.startswith("_")}
 
 
-def folders(folder):
+def folders(folder: Path) -> set[str]:
     return {name for name in names(folder) if (folder / name).is_dir()}
 
 
-def listed(page):
+def listed(page: Path) -> set[str]:
     """The names that begin the lines of a page's table."""
     return set(re.findall(r"^\| `(\w+)/?` \|", page.read_text(encoding="utf-8"), re.MULTILINE))
 
@@ -45,7 +47,7 @@ def apart(what, wanted, there):
     yield from ("%s: nothing speaks of %s" % (what, name) for name in sorted(there - wanted))
 
 
-def lines(path):
+def lines(path: Path) -> list[str]:
     return path.read_text(encoding="ascii").split("\n")[:-1]
 
 
@@ -74,7 +76,7 @@ def text_gaps(row, has_replies, has_files):
         yield "row_texts: the files of %s" % row
 
 
-def gaps():
+def gaps() -> Iterator[str]:
     """A line for each example, row or text that is missing, or that nothing speaks of."""
     examples, rows = TOP / "examples", TOP / "rows"
     yield from apart("examples", listed(examples / "README.md"), folders(examples))

@@ -13,7 +13,7 @@ from uptane_tools.trial import each_line
 AT, P1, ZEROS = expected_streams.AT, expected_streams.P1, 64 * "0"
 
 
-def bench(counter):
+def bench(counter: int) -> str:
     report = {
         "counter": counter, "ecu": "P1", "file": "factory.bin", "key": P1.hex(), "length": 0,
         "sha256": row_texts.NOTHING, "time": AT}
@@ -32,7 +32,7 @@ def answers(lines):
     return [desk.answer(it.encode()).replace("\n", " ") for it in lines]
 
 
-def steps():
+def steps() -> list[tuple]:
     """Each line with what it is answered the first time and again, and each view with what it
     shows.
     """
@@ -56,7 +56,7 @@ def wrong(steps, row, **other):
     return changed, "row %d is answered %s" % (row, again if "again" in other else first)
 
 
-def texts():
+def texts() -> tuple[str, str]:
     """The input and what is told."""
     good = steps()
     reply = good[3][2]
@@ -76,11 +76,11 @@ def texts():
     return given, told
 
 
-def section(words, rows):
+def section(words: str, rows: list[tuple]) -> str:
     return "\n# %s\n" % words + "".join(" => ".join(row) + "\n" for row in rows)
 
 
-def places(words, number):
+def places(words: str, number: int) -> str:
     """Where each file stops: while it is opened, in the lines, and while it is closed."""
     lines = ["in row %d" % row for row in range(1, number + 1)]
     log = "%s, a log that stops: %s\n" % (words, ", ".join([
@@ -88,7 +88,7 @@ def places(words, number):
     return log + "%s, a database file that stops: while it is opened, while it is closed\n" % words
 
 
-def first():
+def first() -> tuple[str, str]:
     """The same of the first section."""
     given, told = texts()
     return "\n# " + given.split("\n# ")[1] + "\n", "".join(told.splitlines(True)[:2])

@@ -4,6 +4,7 @@ crate `up_test_stream`, whose input has the short ones. In a case `|` stands for
 of HTTP, `\\n` for that of a script.
 """
 import json
+from typing import Any, Iterator
 
 from uptane_tools import TOP
 from uptane_tools.rows import row_texts
@@ -12,11 +13,11 @@ AT, PIECE, MOST = 1767225600, 8192, 262144
 canon = row_texts.canonical
 
 
-def key(byte):
+def key(byte: int) -> dict[str, Any]:
     return {"keys": [32 * ("%02x" % byte)], "threshold": 1}
 
 
-def roles(first):
+def roles(first: int) -> dict[str, dict[str, Any]]:
     return {
         role: key(first + place)
         for place, role in enumerate(("root", "targets", "snapshot", "timestamp"))}
@@ -35,7 +36,7 @@ BENCH = canon({
     "vehicle": "V1"})
 
 
-def manifest():
+def manifest() -> str:
     image = {"file": "factory.bin", "hashes": {"sha256": row_texts.NOTHING}, "length": 0}
     report = {
         "attack": "", "counter": 1, "ecu": "P1", "image": image, "time": "2026-01-01T00:00:00Z",
@@ -49,28 +50,28 @@ def manifest():
 CLOSE = "Connection: close|"
 
 
-def length(text):
+def length(text: str) -> int:
     return len(text.replace("|", "\r\n"))
 
 
-def answer(status, body, more='', sent=True):
+def answer(status: str, body: str, more: str = '', sent: bool = True) -> Any:
     return ("HTTP/1.1 %s|Content-Type: application/json|Content-Length: %d|%s|%s" %
             (status, len(body), more, body if sent else ""))
 
 
-def error(number, text):
+def error(number: int, text: str) -> str:
     return '{"error":%d,"text":"%s"}' % (number, text)
 
 
-def post(more=''):
+def post(more: str = '') -> str:
     return "POST /director/manifest HTTP/1.1|Host: d|%s|" % more
 
 
-def posted(body):
+def posted(body: str) -> str:
     return post("Content-Length: %d|" % len(body)) + body
 
 
-def spaces(number):
+def spaces(number: int) -> str:
     return post("Content-Length: %d|" % number) + "<*%d* *>" % number
 
 
@@ -100,20 +101,20 @@ FILES = {
     "director": ["root", "1.root"], "image": ["root", "1.root", "targets", "snapshot", "timestamp"]}
 
 
-def get(repository, name):
+def get(repository: str, name: str) -> str:
     return "GET /%s/%s.json HTTP/1.1|Host: d||" % (repository, name)
 
 
 REPLY = answer("200 OK", row_texts.replies("first_manifest").split("\n")[0])
 
 
-def file_answer(repository, name):
+def file_answer(repository: str, name: str) -> str:
     """The answer with a file of version 1, made at the founding."""
     which = repository if name.endswith("root") else name
     return answer("200 OK", row_texts.file(row_texts.HmacSha256, which, 1, 0, 1, []))
 
 
-def sweep(step, input, requests, size=None):
+def sweep(step: int, input: str, requests: Any, size: int | None = None) -> tuple[str, str]:
     """The row of a sweep. A request is where it is whole, or None where only the input's end
     makes it one, its answer, and whether it is handed to the desk. A read that fails comes after
     all requests that were whole before it; a write that fails leaves the answers before it. The
@@ -122,7 +123,7 @@ def sweep(step, input, requests, size=None):
     size = length(input) if size is None else size
     ends = bool(requests) and requests[-1][0] is not None and CLOSE in requests[-1][1]
 
-    def told(cause, called, answered):
+    def told(cause: str, called: int, answered: int) -> str:
         return (" %s %d %d %d," % (cause, sum(it[2] for it in requests[:called]), answered,
                                    sum(len(it[1]) for it in requests[:answered])))
 
@@ -138,20 +139,20 @@ def sweep(step, input, requests, size=None):
     return "sweep %d %s" % (step, input), "reads:%s writes:%s" % ("".join(reads), "".join(writes))
 
 
-def worked(row):
+def worked(row: str) -> Iterator[Any]:
     """The lines of a worked row, and those that it has printed."""
     return ((TOP / "rows" / row / name).read_text(encoding="ascii").rstrip("\n").split("\n")
             for name in ("script", "printed"))
 
 
-def lines_sweep(step, script, printed):
+def lines_sweep(step: int, script: list[str], printed: list[str]) -> tuple[str, str]:
     """The same of the lines of a script, of which the last ends with the input, and what they
     have printed. Sent once more, the lines that were carried out are answered as before, but
     those that were `done`.
     """
     ends = [sum(len(line) + 1 for line in script[:place + 1]) for place in range(len(script) - 1)]
 
-    def told(cause, called, answered):
+    def told(cause: str, called: int, answered: int) -> str:
         return (" %s %d %d %d again," %
                 (cause, answered, sum(
                     len(line) + 2 for line in printed[:answered]), printed[:called].count("done")))
@@ -167,11 +168,11 @@ def lines_sweep(step, script, printed):
         "".join(reads), "".join(writes))
 
 
-def sections():
+def sections() -> Any:
     founded = [("do " + FOUND, "1: done\\n")]
     vehicle = founded + [("do " + VEHICLE, "1: done\\n")]
 
-    def both(input, wanted):
+    def both(input: str, wanted: str) -> list[tuple[str, str]]:
         return [("whole " + input, wanted), ("slow " + input, wanted)]
 
     short = [row for input, wanted in SHORT for row in both(input, "1: " + wanted)]
@@ -246,7 +247,7 @@ def sections():
 WRONG = "rows that are wrong on purpose"
 
 
-def parts():
+def parts() -> Iterator[tuple[str, list[tuple[str, str]], str]]:
     """Each section: its words, what its cases are given and want, and what is told of it."""
     rows = [("whole " + NO_HOST, "1: " + NO_FILE_ANSWER, "1: " + BAD),
             ("dance", "0: ", "no such row")]
@@ -257,12 +258,12 @@ def parts():
         yield words, of, "%s: %d\n" % (words, len(of))
 
 
-def media(words):
+def media(words: str) -> list[str]:
     """Each section is told over both media, but those of sockets."""
     return [""] if words.startswith("sockets") else ["in memory, ", "in files, "]
 
 
-def texts(most=None):
+def texts(most: int | None = None) -> tuple[str, str]:
     """The input and what is told, two cases wrong on purpose among them; of the sections that have
     at most so many characters, if any are said.
     """

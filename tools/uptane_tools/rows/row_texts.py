@@ -9,6 +9,7 @@ import hmac
 import json
 import sys
 from datetime import datetime, timedelta, timezone
+from typing import Any
 
 from uptane_tools import arguments
 
@@ -110,7 +111,7 @@ FILES = {
         ("director", 2, 2), ("image", 2, 2)] + [(role, 2, 2, 10, [A, Z]) for role in ROLES[1:]]}
 
 
-def canonical(value):
+def canonical(value: dict[str, Any]) -> str:
     return json.dumps(value, sort_keys=True, separators=(",", ":"))
 
 
@@ -119,7 +120,7 @@ class HmacSha256:
 
     method, shown = "hmac-sha256", ""
 
-    def public(secret):
+    def public(secret) -> Any:
         return secret
 
     def tag(secret, text):
@@ -136,23 +137,23 @@ class Sha256Tag:
     def public(secret):
         return hashlib.sha256(b"public " + secret).digest()
 
-    def tag(secret, text):
+    def tag(secret, text: bytes) -> str:
         return hashlib.sha256(Sha256Tag.public(secret) + text).hexdigest()
 
 
-def scheme_of(row):
+def scheme_of(row: str) -> Any:
     return Sha256Tag if row.endswith("_under_a_second_scheme") else HmacSha256
 
 
-def secret_of(repository, role, root):
+def secret_of(repository: str, role: str, root: int) -> bytes:
     return bytes([FIRST[root] + 4 * (repository == "image") + ROLES.index(role)]) * 32
 
 
-def keyid_of(scheme, secret):
+def keyid_of(scheme: Any, secret: bytes) -> str:
     return hmac.new(scheme.public(secret), b"uptane-key-id", hashlib.sha256).hexdigest()
 
 
-def envelope(scheme, secrets, payload):
+def envelope(scheme: Any, secrets: list[bytes], payload: dict[str, Any]) -> str:
     signed = canonical(payload)
     tags = [
         (keyid_of(scheme, it), scheme.method, scheme.tag(it, signed.encode())) for it in secrets]
@@ -160,15 +161,16 @@ def envelope(scheme, secrets, payload):
     return '{"signatures":[%s],"signed":%s}' % (signatures, signed)
 
 
-def expiry(repository, role, hours):
+def expiry(repository: str, role: str, hours: int) -> str:
     made = datetime(2026, 1, 1, tzinfo=timezone.utc) + timedelta(hours=hours)
     return (made + timedelta(days=DAYS[repository][role])).strftime("%Y-%m-%dT%H:%M:%SZ")
 
 
-def role_texts(scheme, repository, root, hours, version, targets, more):
+def role_texts(scheme: Any, repository: str, root: int, hours: int, version: int, targets: Any,
+               more: dict[str, str]) -> dict[str, str]:
     """The Targets, Snapshot and Timestamp files of one version."""
 
-    def text(role, members):
+    def text(role: str, members: dict[str, Any]) -> str:
         payload = {
             "expires": expiry(repository, role, hours), "repository": repository, "type": role,
             "version": version} | members | more
@@ -182,7 +184,7 @@ def role_texts(scheme, repository, root, hours, version, targets, more):
             "timestamp", {"meta": {"snapshot.json": entry}})}
 
 
-def root_text(scheme, repository, root, hours):
+def root_text(scheme: Any, repository: str, root: int, hours: int) -> str:
     """A Root file, which the root key before it signs too."""
     keyids = {role: keyid_of(scheme, secret_of(repository, role, root)) for role in ROLES}
     payload = {
@@ -195,7 +197,7 @@ def root_text(scheme, repository, root, hours):
                     payload)
 
 
-def reply(scheme, vehicle, version, root, targets):
+def reply(scheme: Any, vehicle: str, version: int, root: int, targets: list[dict[str, Any]]) -> str:
     texts = role_texts(scheme, "director", root, 0, version, targets, {"vehicle": vehicle})
     named = (root, texts["snapshot"], texts["targets"], texts["timestamp"], vehicle, version)
     form = '{"root":%d,"snapshot":%s,"targets":%s,"timestamp":%s,"vehicle":"%s","version":%d}'
@@ -206,7 +208,8 @@ def replies(row):
     return "".join(reply(scheme_of(row), *told) + "\n" for told in REPLIES[row])
 
 
-def file(scheme, which, root, hours, version=0, targets=()):
+def file(scheme: Any, which: str, root: int, hours: int, version: int = 0,
+         targets: list[dict[str, Any]] | tuple = ()) -> str:
     if which in DAYS:
         return root_text(scheme, which, root, hours)
     return role_texts(scheme, "image", root, hours, version, targets, {})[which]

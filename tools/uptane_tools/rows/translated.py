@@ -10,13 +10,15 @@ over what is signed now where it was valid, and else over another text. All else
 spelled.
 """
 import sys
+from pathlib import Path
+from typing import Any
 
 from uptane_tools import arguments
 from uptane_tools.operate.formats import HASH, LIST, OBJECT, canonical, value_of
 from uptane_tools.oracle.schemes import HmacSha256, SCHEMES, key_identifier
 
 
-def read(text):
+def read(text: str) -> dict[str, Any]:
     """The members of an object; none where the text isn't one."""
     try:
         value = value_of(text)
@@ -25,7 +27,7 @@ def read(text):
     return value if isinstance(value, dict) else {}
 
 
-def ecus_of(line):
+def ecus_of(line: dict[str, Any]) -> list[dict[str, Any]]:
     """What a line says of ECUs that come into the inventory."""
     ecus = line["ecus"] if line.get("do") == "add_vehicle" and LIST(line.get("ecus")) else [line]
     return [
@@ -43,20 +45,20 @@ def secrets_in(line, old):
         yield from (ecu["key"] for ecu in ecus_of(line))
 
 
-def is_envelope(value):
+def is_envelope(value: dict[str, Any]) -> bool:
     return OBJECT(value) and LIST(value.get("signatures")) and OBJECT(value.get("signed"))
 
 
 class Translation:
 
-    def __init__(self, lines, old, new):
+    def __init__(self, lines: list[str], old: Any, new: Any) -> None:
         named = [it for line in map(read, lines) for it in secrets_in(line, old) if HASH(it)]
         self.old, self.new, self.secrets = old, new, {
             old.public_of(it): it for it in map(bytes.fromhex, named)}
         self.by_identifier = {
             key_identifier(public): secret for public, secret in self.secrets.items()}
 
-    def line(self, line):
+    def line(self, line: str) -> str:
         told = read(line)
         for ecu in ecus_of(told):
             public = bytes.fromhex(ecu["key"])
@@ -67,7 +69,7 @@ class Translation:
             return line if body == told["body"] else canonical(told | {"body": body})
         return line
 
-    def body(self, text):
+    def body(self, text: str) -> str:
         """The text of a manifest. Its own signatures come last, since they are over those of the
         reports.
         """
@@ -83,7 +85,8 @@ class Translation:
                 text = self.spelled(text, one, new, signed, canonical(made["signed"]).encode())
         return text
 
-    def spelled(self, text, one, new, was_signed, signed):
+    def spelled(self, text: str, one: dict[str, str], new: dict[str, str], was_signed: bytes,
+                signed: bytes) -> str:
         """The text with a signature translated; `new` gets what it has become."""
         secret = self.by_identifier.get(one["keyid"])
         if secret is None:
@@ -97,18 +100,18 @@ class Translation:
         return text
 
 
-def translated(lines, old, new):
+def translated(lines: list[str], old: str, new: str) -> list[str]:
     """The lines under another scheme; both are given by their methods."""
     translation = Translation(lines, SCHEMES[old], SCHEMES[new])
     return list(map(translation.line, lines))
 
 
-def under(folder, method):
+def under(folder: Path, method: str) -> Any:
     """A row's or an example's script under a method, and the lines that it prints; none in place
     of a file's text, which is another where the script is translated.
     """
 
-    def text(name):
+    def text(name: str) -> str:
         return (folder / name).read_text(encoding="ascii")
 
     own = text("under").strip() if (folder / "under").exists() else HmacSha256.method
@@ -119,7 +122,7 @@ def under(folder, method):
         None if it.startswith("file ") else it for it in printed]
 
 
-def are_as(wanted, printed):
+def are_as(wanted: list[str | None], printed: list[str]) -> bool:
     """Whether the lines printed are these, whatever stands where there is none."""
     return printed is not None and len(wanted) == len(printed) and all(
         it in (None, got) for it, got in zip(wanted, printed))
