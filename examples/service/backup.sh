@@ -22,7 +22,8 @@ flock 9
 
 tool() { python3 "$TOOLS/run" "$@"; }
 unit_of() { if [ "$1" ]; then echo "uptane-desk@$1.service"; else echo uptane-desk.service; fi; }
-failed='' made='' named=''
+failed='' made='' named='' logs='' own=$(mktemp -d)
+trap 'rm -rf "$own"' EXIT
 
 # removes the copies of such names but for so many, the newest
 older() { find "$COPIES" -maxdepth 1 -name "$1" | sort -r | tail -n "+$(($2 + 1))" | while read -r old; do rm -f "$old" "$old-wal"; done; }
@@ -37,6 +38,9 @@ backup() {
     fi
 }
 
+# what a desk's service wrote in the last hour, where there is such a log
+logged() { if journalctl -q -o cat --since -1h -u "$(unit_of "$1")" > "$own/desk$1.log" 2> /dev/null; then logs="$logs --log desk$1=$own/desk$1.log"; fi; }
+
 each() { for desk in $(if [ "$DESKS" ]; then seq "$DESKS"; else echo alone; fi); do "$@" "${desk#alone}"; done; }
 for path in "$METRICS" "$PAGE"; do if [ "$path" ]; then install -d -m 755 "$(dirname "$path")"; fi; done
 install -d -m 700 "$COPIES"
@@ -47,7 +51,7 @@ tool check_file $made || failed=yes
 dropped() { older "desk$1-*Z.db" "$KEEP"; older "desk$1-*Z-before.db" "$KEEP"; older "desk$1-*Z-rotated.db" "$KEEP"; }
 if [ ! "$failed" ]; then each dropped; fi
 # shellcheck disable=SC2086
-if [ "$METRICS" ] && [ ! "$failed" ]; then tool metrics --to "$METRICS" $named || failed=yes; fi
+if [ "$METRICS" ] && [ ! "$failed" ]; then each logged; tool metrics --to "$METRICS" $named $logs || failed=yes; fi
 # shellcheck disable=SC2086
 if [ "$PAGE" ] && [ ! "$failed" ]; then { tool fleet_page $named > "$PAGE.new" && mv "$PAGE.new" "$PAGE"; } || failed=yes; fi
 # shellcheck disable=SC2086

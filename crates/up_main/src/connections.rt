@@ -3,6 +3,7 @@ ghost use Rattle.std.specs.Prelude.{◌≡◌, ◌⊎◌, IfErr};
 ghost use Rattle.up_lines.specs.Runs.{EndsRun};
 ghost use Rattle.up_http.specs.Serving.{cause_of};
 
+use crate::log::Log;
 use sqlite::Alter;
 use std::alloc::Global;
 use std::io;
@@ -21,6 +22,7 @@ use up_program::line::write_line;
 use up_program::messages::{connection_fault, listening};
 use up_program::times::{seconds, waits};
 use up_service::Fault;
+use up_service::refusals::Hears;
 use up_service::stream::serve_stream;
 use up_sign::scheme::Scheme;
 
@@ -47,19 +49,24 @@ pub(crate) fn serve<K: Scheme, D: Alter>(
         return told(&mut rt.stderr(), Err(Failure::Unheard));
     };
     write_line(&mut rt.stdout(), &listening(port));
-    let served = each_connection(count, &mut |number| serve_next(rt, desk, &listener, number));
+    let log = Log::new(rt);
+    let served = each_connection(
+        count,
+        &mut |number| { serve_next(rt, &log, desk, &listener, number) },
+    );
     told(&mut rt.stderr(), served)
 }
 
 /// Accepts the next connection, serves it, and closes it. A fault of it is told on standard error.
 fn serve_next<K: Scheme, D: Alter>(
     rt: &HostRuntime,
+    log: &Log<'_>,
     desk: &mut Desk<K, D>,
     listener: &TcpListener,
     number: u64,
 ) -> io::Result<()> {
     let (stream, _) = listener.accept()?;
-    if let Err(cause) = serve_one(rt, desk, &stream) {
+    if let Err(cause) = serve_one(rt, log, desk, &stream) {
         write_line(&mut rt.stderr(), &connection_fault(number, cause));
     }
     close(rt, &stream);
@@ -69,6 +76,7 @@ fn serve_next<K: Scheme, D: Alter>(
 /// Answers the requests of a connection, all at the moment at which it was accepted.
 fn serve_one<K: Scheme, D: Alter>(
     rt: &HostRuntime,
+    log: &Log<'_>,
     desk: &mut Desk<K, D>,
     stream: &TcpStream,
 ) -> Result<(), ScriptCause> {
@@ -81,12 +89,13 @@ fn serve_one<K: Scheme, D: Alter>(
     }
     let mut requests = half(|| begun.elapsed(rt), stream);
     let mut answers = half(|| begun.elapsed(rt), stream);
-    answer_requests(rt.alloc(), desk, at, &mut requests, &mut answers)
+    answer_requests(rt.alloc(), log, desk, at, &mut requests, &mut answers)
 }
 
 /// Answers requests, all at one moment. Where that fails, it is told what ended it.
-fn answer_requests<K: Scheme, D: Alter, R: Source, W: Sink>(
+fn answer_requests<K: Scheme, D: Alter, R: Source, W: Sink, L: Hears>(
     alloc: Global,
+    log: &L,
     desk: &mut Desk<K, D>,
     at: u64,
     requests: &mut R,
@@ -98,7 +107,7 @@ fn answer_requests<K: Scheme, D: Alter, R: Source, W: Sink>(
         (R.has_failed requests.new) (R.can_read requests.new ⊎ R.has_ended requests.new)
         (W.has_failed answers.new) (W.can_write answers.new) result }
 {
-    match serve_stream(alloc, desk, at, requests, answers) {
+    match serve_stream(alloc, log, desk, at, requests, answers) {
         Ok(_) => Ok(()),
         Err(fault) => Err(cause(fault.cause)),
     }

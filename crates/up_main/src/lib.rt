@@ -5,5 +5,6 @@
 mod connections;
 mod databases;
 mod files;
+mod log;
 pub mod program;
 mod scripts;

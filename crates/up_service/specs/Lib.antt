@@ -3,8 +3,10 @@ pub mod Desks
 pub mod Digests
 pub mod Jobs
 pub mod LineAnswers
+pub mod Refusals
 pub mod Responses
 pub mod Runs
 pub mod Scripts
 pub mod Streams
+pub mod Tallies
 pub mod Told

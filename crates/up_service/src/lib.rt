@@ -7,10 +7,12 @@ pub mod job;
 pub mod laws;
 pub mod line_answer;
 mod numbers;
+pub mod refusals;
 pub mod response;
 pub mod script;
 mod show;
 pub mod stream;
+pub mod tally;
 pub mod words;
 
 pub use up_heads::check::Check;

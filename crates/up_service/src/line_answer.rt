@@ -21,10 +21,8 @@ impl<C: Called + Asks + Viewed> Interpret<C> for Scripter {
     ghost gives = { TellsLine C.asks C.gives C.finds C.finds_plan };
 
     fn interpret(&self, alloc: Global, desk: &mut C, line: &[u8]) -> Result<Vec<u8>, AllocError> {
-        match line_text(alloc, desk, line) {
-            Ok(text) => Ok(text.into_bytes()),
-            Err(refused) => Err(refused),
-        }
+        let text = line_text(alloc, desk, line)?;
+        Ok(text.into_bytes())
     }
 }
 

@@ -6,6 +6,7 @@ ghost use Rattle.up_service.specs.Responses.{answer_response as answer_response_
 ghost use Rattle.up_service.specs.Told.{TellsCall, TellsNext};
 
 use crate::desk::Called;
+use crate::refusals::{Hears, tell};
 use http::StatusCode;
 use std::alloc::{AllocError, Global};
 use up_heads::responses::{check_response, refusal_response, response_text};
@@ -15,27 +16,30 @@ use up_machine::answer::Answer;
 use up_machine::command::Command;
 
 /// Answers the requests of a stream at a desk.
-#[derive(Clone, Copy, Debug, Drop)]
-pub struct Responder {
+#[derive(Drop)]
+pub struct Responder<'a, L> {
     /// The moment of each command, in seconds since 1970-01-01T00:00:00Z.
     pub at: u64,
+    /// What hears of refusals.
+    pub log: &'a L,
 }
 
-impl<C: Called> Respond<C> for Responder {
+impl<C: Called, L: Hears> Respond<C> for Responder<'_, L> {
     ghost use Rattle.up_service.specs.Told.{TellsNext};
 
     ghost gives = { λ r. TellsNext C.gives r.at };
 
     fn respond(&self, alloc: Global, desk: &mut C, next: &Next) -> Result<Vec<u8>, AllocError> {
-        let text = response(alloc, desk, self.at, next)?;
+        let text = response(alloc, self.log, desk, self.at, next)?;
         Ok(text.into_bytes())
     }
 }
 
 /// The response to a request, whose command is carried out at the desk.
 #[tactic(auto, unfolding(up_http::specs::Requests::asks_running))]
-fn response<C: Called>(
+fn response<C: Called, L: Hears>(
     alloc: Global,
+    log: &L,
     desk: &mut C,
     at: u64,
     next: &Next,
@@ -45,14 +49,20 @@ fn response<C: Called>(
     ensures err { OnErr result ((text : List ℕ) × TellsNext C.gives at desk.old next.now text desk.new) }
 {
     match &next.what {
-        What::Call(command) => called_response(alloc, desk, at, command, next.last, next.head),
-        What::Fixed(check) => check_response(alloc, *check, next.last, next.head),
+        What::Call(command) => {
+            called_response(alloc, log, desk, at, command, next.last, next.head)
+        }
+        What::Fixed(check) => {
+            log.hear_check(alloc, at, *check);
+            check_response(alloc, *check, next.last, next.head)
+        }
     }
 }
 
 /// The response to a command, which is carried out at the desk.
-fn called_response<C: Called>(
+fn called_response<C: Called, L: Hears>(
     alloc: Global,
+    log: &L,
     desk: &mut C,
     at: u64,
     command: &Command,
@@ -67,6 +77,7 @@ fn called_response<C: Called>(
         × TellsCall C.gives (λ answer. answer_response_of answer last head) desk.old at command.now text desk.new) }
 {
     let answer = desk.call(alloc, at, command);
+    tell(alloc, log, at, command, &answer);
     answer_response(alloc, &answer, last, head)
 }
 

@@ -5,6 +5,7 @@ ghost use Rattle.up_http.specs.Serving.{cause_of};
 ghost use Rattle.up_service.specs.Streams.{RunsStream};
 
 use crate::laws::streams_outlast_crashes;
+use crate::refusals::Hears;
 use crate::response::Responder;
 use sqlite::Alter;
 use std::alloc::Global;
@@ -25,9 +26,10 @@ use up_sign::scheme::Scheme;
 /// only where the reader failed; `Write` only where the writer failed, or took no byte; and `Memory` only where neither did.
 ///
 /// However it ended, a crash behind it leaves what could be left before, or the state behind some request; and none before the
-/// last that got the reply to a new manifest. So nothing that was answered is lost.
-pub fn serve_stream<K: Scheme, D: Alter, R: Source, W: Sink>(
+/// last that got the reply to a new manifest. So nothing that was answered is lost. `log` hears of each command that is refused.
+pub fn serve_stream<K: Scheme, D: Alter, R: Source, W: Sink, L: Hears>(
     alloc: Global,
+    log: &L,
     desk: &mut Desk<K, D>,
     at: u64,
     reader: &mut R,
@@ -47,5 +49,5 @@ pub fn serve_stream<K: Scheme, D: Alter, R: Source, W: Sink>(
         (W.has_failed writer.new) (W.can_write writer.new) result }
 {
     streams_outlast_crashes::<K, D>();
-    serve(alloc, &Responder { at }, desk, reader, writer)
+    serve(alloc, &Responder { at, log }, desk, reader, writer)
 }

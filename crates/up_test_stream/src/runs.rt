@@ -6,6 +6,7 @@ use crate::desks::AT;
 use sqlite::Alter;
 use std::alloc::{AllocError, Global};
 use up_desk::desk::Desk;
+use up_service::refusals::Deaf;
 use up_service::script::run_script;
 use up_service::stream::serve_stream;
 use up_service::{Fault, ScriptCause, ScriptFault, ServeFault};
@@ -22,7 +23,7 @@ pub(crate) fn streamed<D: Alter>(
 ) -> Result<String, AllocError> {
     let mut reader = Slow::new(input, reads);
     let mut writer = Shaky::new(alloc, writes);
-    match serve_stream(alloc, desk, AT, &mut reader, &mut writer) {
+    match serve_stream(alloc, &Deaf, desk, AT, &mut reader, &mut writer) {
         Ok(served) => number_told(alloc, served.requests, writer.written()),
         Err(fault) => fault_told(alloc, fault, writer.written()),
     }

@@ -9,6 +9,7 @@ use std::io;
 use std::io::Write;
 use std::net::{Shutdown, TcpListener, TcpStream};
 use up_desk::desk::Desk;
+use up_service::refusals::Deaf;
 use up_service::stream::serve_stream;
 use up_sign::hmac_sha256::HmacSha256;
 use up_test_rows::calls::Calls;
@@ -107,7 +108,7 @@ fn served<D: Alter>(
     stream: &TcpStream,
 ) -> io::Result<u32> {
     carry_out(alloc, desk, script)?;
-    match serve_stream(alloc, desk, AT, &mut &*stream, &mut &*stream) {
+    match serve_stream(alloc, &Deaf, desk, AT, &mut &*stream, &mut &*stream) {
         Ok(served) => Ok(served.requests),
         Err(_) => Err(io::Error::from(io::ErrorKind::Other)),
     }

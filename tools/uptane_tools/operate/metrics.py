@@ -2,27 +2,34 @@
 collector of its node exporter.
 
     tools/run metrics [DESK=]COPY [DESK=COPY ..] [--to FILE] [--now SECONDS] [--manifests N]
+                      [--log [DESK=]FILE ..]
 
 COPY is made as `docs/use/TABLES.md` says; it isn't written to. DESK names it in the label
 `desk`, `desk` where none is given. The metrics go to standard output, or to FILE, which is
 replaced whole: `/var/lib/prometheus/node-exporter/uptane.prom`, say. An assignment counts as
 open over N manifests (3) where the last N replies to its vehicle had it. Silent vehicles are
-reckoned from now, by this machine's clock, or from SECONDS.
+reckoned from now, by this machine's clock, or from SECONDS. FILE of `--log` is what the service
+of that desk wrote, of an hour, say: its refusals are counted by name.
 
 The status is 1, with a message and without metrics, where a copy isn't a database of this
 product.
 """
+import itertools
 import json
 import os
+import re
 import sqlite3
 import sys
 import time
+from collections import Counter
 from pathlib import Path
 
 from uptane_tools import arguments
 from uptane_tools.operate import fleet_tables
 from uptane_tools.operate.fleet_tables import DAY, IMAGES, ROOTS, VERSIONS, WEEK
 
+# a line of the service's log
+REFUSED = re.compile(r"uptane_desk: (?:vehicle \S+: )?refused (?:0 (.+)|\d+ (\w+))")
 HELP = {
     "copy_timestamp_seconds":
     "When the copy that these metrics tell of was made.",
@@ -62,6 +69,9 @@ HELP = {
     "Those that were accepted within the last day.",
     "file_bytes":
     "The size of the database file and its log.",
+    "refusals_logged":
+    "Manifests and requests that were refused, by the service's log of the hour before the copy: "
+    "it has 60 lines a minute of each refusal at most.",
     "growth_bytes_a_day":
     "What the file grew by within the last day, by its kept replies and their mean size.",
 }
@@ -135,11 +145,20 @@ def samples(path, now, number):
         yield from of_growth(db, path, vehicles, now)
 
 
-def text_of(desks, now, number):
+def of_log(path):
+    """How many lines tell each refusal."""
+    with open(path, encoding="utf-8", errors="replace") as lines:
+        found = Counter(told[1] or told[2] for told in map(REFUSED.match, lines) if told)
+    for name, number in sorted(found.items()):
+        yield "refusals_logged", {"refusal": name}, number
+
+
+def text_of(desks, now, number, logs):
     """All metrics, each with its help once. Names of desks, files and campaigns need no escape."""
     made = {name: [] for name in HELP}
     for desk, path in desks.items():
-        for name, labels, value in samples(path, now, number):
+        for name, labels, value in itertools.chain(samples(path, now, number),
+                                                   of_log(logs[desk]) if desk in logs else ()):
             words = ",".join('%s="%s"' % it for it in ({"desk": desk} | labels).items())
             made[name].append("uptane_desk_%s{%s} %d\n" % (name, words, value))
     head = "# HELP uptane_desk_%s %s\n# TYPE uptane_desk_%s gauge\n"
@@ -161,13 +180,19 @@ def main(words: arguments.Words = None) -> int:
     parser.add_argument("--to", type=Path)
     parser.add_argument("--now", type=int, default=None)
     parser.add_argument("--manifests", type=int, default=3)
+    parser.add_argument("--log",
+                        action="append",
+                        default=[],
+                        type=fleet_tables.named,
+                        metavar="[DESK=]FILE")
     given = parser.parse_args(words)
     desks = dict(given.copies)
     if len(desks) < len(given.copies) or not all(
             it.replace("-", "").replace("_", "").isalnum() and it.isascii() for it in desks):
         parser.error("each copy needs a name of its own, of letters, digits, - and _")
     try:
-        made = text_of(desks, int(time.time()) if given.now is None else given.now, given.manifests)
+        now = int(time.time()) if given.now is None else given.now
+        made = text_of(desks, now, given.manifests, dict(given.log))
         if given.to:
             written(given.to, made)
     except (fleet_tables.Other, OSError, sqlite3.Error) as wrong:

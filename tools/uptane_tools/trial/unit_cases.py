@@ -589,12 +589,22 @@ def upgraded(program, own):
 
 def copied():
     before = shown("MainPID")
+    delivered(http_cases.MANIFEST.replace(b'"V1"', b'"V7"'))
+    yield "a refused manifest is in its log, by vehicle", said(
+        b"uptane_desk: vehicle V7: refused 10 UnknownVehicle\n")
+    settings, made = Path("/etc/uptane/settings"), Path("/run/uptane.prom")
+    own = settings.read_text("ascii")
+    settings.write_text(own + "METRICS=%s\n" % made, "ascii")
 
     def copies():
         return sorted(Path("/var/backups/uptane").glob("desk-*Z.db"))
 
     yield "a copy while it serves", well("systemctl", "start", BACKUP) and len(
         copies()) == 1 and shown("MainPID") == before
+    settings.write_text(own, "ascii")
+    yield "metrics count what its log has", (
+        'uptane_desk_refusals_logged{desk="desk",refusal="UnknownVehicle"} 1\n') in made.read_text(
+            "ascii")
     drilled = ran("/usr/lib/uptane_desk/tools/run", "restore_drill", RUN[0], str(copies()[0]))
     yield "a restore of it, tried", drilled.returncode == 0 and b"\nserves: " in drilled.stdout
 

@@ -6,6 +6,8 @@ often the small Primary asks.
 
 In the place of systemd a small program starts and stops the services. What isn't installed
 (promtool, dpkg, curl, logrotate) is left out, and told.
+
+promise: lines-a-minute, refusal-line
 """
 import contextlib
 import hashlib
@@ -19,6 +21,7 @@ import stat
 import subprocess
 import sys
 import time
+import urllib.error
 import urllib.request
 from pathlib import Path
 
@@ -218,6 +221,8 @@ start)
     done;;
 esac 2> /dev/null
 """
+# all that the services wrote
+JOURNALCTL = "#!/bin/sh\ncat %s/*.said\n"
 # what `runuser -u USER -- WORDS` does, by the same user
 RUNUSER = '#!/bin/sh\nshift 3\nexec "$@"\n'
 
@@ -237,7 +242,8 @@ class Service:
                 "%s serve %s %d 1000000" % (program, self.file(name), port), encoding="ascii")
             (own / "run" / (self.unit(name) + ".pid")).write_text("0\n", encoding="ascii")
         (own / "bin" / "python3").symlink_to(os.path.realpath(sys.executable))
-        for name, text in (("systemctl", SYSTEMCTL % (own / "run")), ("runuser", RUNUSER)):
+        for name, text in (("systemctl", SYSTEMCTL % (own / "run")),
+                           ("journalctl", JOURNALCTL % (own / "run")), ("runuser", RUNUSER)):
             (own / "bin" / name).write_text(text, encoding="ascii")
             (own / "bin" / name).chmod(0o755)
         told = {
@@ -653,6 +659,49 @@ def backed_up(program, own):
         yield "a damaged backup is told", tool("restore_drill", program, damaged).returncode == 1
 
 
+def logged(program, own):
+    """Each refusal is a line of the service's log, with the vehicle that a manifest names; of more
+    than 60 a minute the rest is left out. The answers are as ever.
+    """
+    with service(program, own) as it:
+        trials.printed(program, it.file(), FOUNDING)
+        it.systemctl("start")
+        port = it.ports[""]
+        posted(port, manifest("V1", 5))
+        said = own / "run" / "uptane-desk.service.said"
+
+        def lines():
+            return said.read_text("ascii").splitlines()[1:]
+
+        told = [
+            posted(port, manifest("V1", 4))[0],
+            posted(port, manifest("V9", 1))[0],
+            posted(port, manifest("V1", 6, 8))[0],
+            posted(port, "{}")[0],
+            posted(port, "nothing")[0]]
+        for target in ("/image/9.root.json", "/nowhere"):
+            with contextlib.suppress(urllib.error.HTTPError):
+                it.get(target)
+        yield "what was refused is told, by vehicle and refusal", told == [
+            409, 404, 403, 400, 400] and lines() == [
+                "uptane_desk: vehicle V1: refused 13 Stale 5",
+                "uptane_desk: vehicle V9: refused 10 UnknownVehicle",
+                "uptane_desk: vehicle V1: refused 12 BadManifestSignature",
+                "uptane_desk: refused 7 BadShape signatures", "uptane_desk: refused 5 NotJson",
+                "uptane_desk: refused 29 UnknownFile", "uptane_desk: refused 0 not found"]
+        begun = int(time.time()) // 60
+        answers = {posted(port, manifest("V1", 4))[0] for _ in range(150)}
+        minutes = int(time.time()) // 60 - begun + 1
+        stale = [line for line in lines() if " 13 Stale " in line]
+        yield "60 lines a minute of each, and every answer", answers == {
+            409} and 60 <= len(stale) <= min(60 * minutes + 1, 151)
+        it.script("backup.sh")
+        text = (own / "metrics.prom").read_text("ascii")
+        yield "metrics count them by name", [
+            sample(text, "refusals_logged", refusal=name)
+            for name in ("Stale", "UnknownFile", "not found")] == [len(stale), 1, 1]
+
+
 def restored(it, backup, lines):
     """What vehicles then meet is what the drill and the restore say: V1 had version 5 and has 2,
     V2 had 1 and has none.
@@ -859,7 +908,7 @@ def cases(program):
     yield from between()
     parts = [planned, measured]
     if shutil.which("curl"):
-        parts += [applied, applied_to_several, backed_up, watched]
+        parts += [applied, applied_to_several, backed_up, logged, watched]
     else:
         print("there is no curl, so no scripts are applied")
     for part in [*parts, packaged]:
