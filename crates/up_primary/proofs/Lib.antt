@@ -21,3 +21,4 @@ pub mod Fetching
 pub mod Fresh
 pub mod Rounds
 pub mod FreshImages
+pub mod Histories

@@ -3,3 +3,4 @@ pub mod Forging
 pub mod Following
 pub mod Laws
 pub mod Rounds
+pub mod Histories

@@ -1,0 +1,23 @@
+use Rattle.up_primary.proofs.Histories.{bounded}
+use Rattle.up_primary.proofs.Runs.{Keeping}
+use Rattle.up_primary.proofs.SignedTexts.{Formats}
+use Rattle.up_primary.proofs.laws.histories_are_bounded.Goals as goal
+
+pub returns : goal.returns
+returns c =
+    let formats : Formats = record {
+      injective = c.canonical_laws.ensures.injective;
+      meaning = c.meaning_laws.ensures;
+      seals = c.envelope_laws.ensures.limits;
+      replies = c.replies_are_read_again.ensures;
+      images = c.files_are_read_again.ensures.images;
+    } in
+    let keeping : Keeping = record {
+      sound = c.states_stay_sound.ensures.run;
+      none_sound = c.states_stay_sound.ensures.empty;
+      typed = c.states_stay_typed.ensures.run;
+      none_typed = c.states_stay_typed.ensures.empty;
+      own = c.plans_name_ecus_once.ensures.run;
+      none_own = c.plans_name_ecus_once.ensures.empty;
+    } in
+    bounded formats keeping
