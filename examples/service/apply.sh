@@ -7,7 +7,7 @@
 # Scripts are taken from SPOOL, whole files named NAME.script, and checked. One that the checker refuses stops no service; where none is
 # left, and no refresh is asked for, nothing more is done. Scripts that only show and fetch are given to a copy, and stop nothing. Else
 # each desk, one after the other, is copied where scripts are given, stopped, given its lines, and started again, whatever happens; where
-# keys were rotated it is copied once more. What was answered is in SPOOL/answers, and in the journal with who gave it; what wasn't is in
+# keys were rotated it is copied once more. The program opens each copy before that goes on. What was answered is in SPOOL/answers, and in the journal with who gave it; what wasn't is in
 # SPOOL/held. The status is 0 where all was accepted and answered. `--mend` puts right what a run left that was killed: it starts the desk
 # that was stopped, and puts scripts into SPOOL/held. Each run begins so. Settings are read from /etc/uptane/settings.
 set -eu
@@ -45,7 +45,7 @@ highest=0
 # the last member of the file's signed part is its version, as canonical text has them in order
 above() {
     version=$(fetched "$1" | sed -n 's/.*,"version":\([0-9]*\)}}$/\1/p')
-    [ "$version" ] || { say "desk $1: no version"; exit 1; }
+    [ "$version" ] || { say "desk$1: no version"; exit 1; }
     if [ "$version" -gt "$highest" ]; then highest=$version; fi
 }
 
@@ -106,13 +106,19 @@ fi
 
 # ---- and given
 
+pid_of() { systemctl show -p MainPID --value "$(unit_of "$1")"; }
+# a file that was removed is the program's until it ends
+gone() {
+    [ ! -s "$(file_of "$1")" ] || [ "$(find "/proc/$(pid_of "$1")/fd" -lname "*/desk$1.db* (deleted)" 2> /dev/null)" ]
+}
+
 copied() {
     copy=$COPIES/desk$1-$(date -u +%Y%m%dT%H%M%SZ)-$2.db
     while [ -e "$copy" ]; do
         sleep 1
         copy=$COPIES/desk$1-$(date -u +%Y%m%dT%H%M%SZ)-$2.db
     done
-    tool copy_served "$(systemctl show -p MainPID --value "$(unit_of "$1")")" "$(file_of "$1")" "$copy"
+    tool copy_served "$(pid_of "$1")" "$(file_of "$1")" "$copy" && tool try_copy "$PROGRAM" "$copy"
 }
 
 # as the owner of the file: what another user makes can't be opened by the service
@@ -120,7 +126,7 @@ run() { runuser -u "$OWNER" -- "$PROGRAM" run "$2" < "$(script_of "$1")" > "$(an
 
 read_copy() {
     own=$(mktemp -d "$FOLDER/reading.XXXXXX")
-    if tool copy_served "$(systemctl show -p MainPID --value "$(unit_of "$1")")" "$(file_of "$1")" "$own/desk.db"; then
+    if tool copy_served "$(pid_of "$1")" "$(file_of "$1")" "$own/desk.db"; then
         chown -Rh "$OWNER" "$own"
         run "$1" "$own/desk.db"
     else
@@ -133,14 +139,15 @@ give() {
     : > "$(answers_of "$1")"
     [ -s "$(script_of "$1")" ] || return 0
     if [ "$reading" ]; then read_copy "$1"; return 0; fi
-    if [ "$number" != 0 ] && ! copied "$1" before; then say "desk $1: no copy, so nothing is given"; failed=yes; return 0; fi
+    if gone "$1"; then say "desk$1: its file is gone: it isn't stopped, and nothing is given"; failed=yes; return 0; fi
+    if [ "$number" != 0 ] && ! copied "$1" before; then say "desk$1: no copy, so nothing is given"; failed=yes; return 0; fi
     begun=$(date +%s) stopped=$(unit_of "$1")
     echo "$stopped" > "$RUN/uptane-stopped"
     systemctl stop "$stopped" || { failed=yes; return 0; }
     tool raised "$(file_of "$1")" "$COPIES" && run "$1" "$(file_of "$1")" || failed=yes
     started || failed=yes
     fetched "$1" > "$work/timestamp" || failed=yes
-    echo "desk${1:+ $1}: $(wc -l < "$(answers_of "$1")") lines answered, off the line for $(($(date +%s) - begun)) seconds"
+    echo "desk$1: $(wc -l < "$(answers_of "$1")") lines answered, off the line for $(($(date +%s) - begun)) seconds"
 }
 install -d -m 700 "$COPIES"
 each give

@@ -15,5 +15,9 @@ install -d -m 700 /var/backups/uptane /var/log/uptane
 if [ -r "$SETTINGS" ]; then . "$SETTINGS"; fi
 for folder in "$COPIES" "$DIVISION"; do if [ "$folder" ]; then install -d -m 700 "$folder"; fi; done
 for path in "$METRICS" "$PAGE" "$WATCHED"; do if [ "$path" ]; then install -d -m 755 "$(dirname "$path")"; fi; done
-if [ -d /run/systemd/system ]; then systemctl daemon-reload; fi
 systemctl enable uptane-desk.service uptane-desk-refresh.timer uptane-desk-backup.timer uptane-desk-watch.timer uptane-desk-now.path
+# (what the timers start does nothing before the founding)
+if [ -d /run/systemd/system ]; then
+    systemctl daemon-reload
+    systemctl start uptane-desk-refresh.timer uptane-desk-backup.timer uptane-desk-watch.timer uptane-desk-now.path
+fi

@@ -3,28 +3,44 @@
 #
 #     watch.sh
 #
-# A desk that doesn't answer for LATE seconds is down: a start may take so long. A Timestamp that has less than 9 hours left wasn't
-# refreshed, and a copy that is 3 hours old wasn't made. What is amiss is printed each time; the status is 1 where it is another than
-# the last time, and each 6 hours. With WATCHED, metrics are written there. Settings are read from /etc/uptane/settings.
+# A desk whose file is gone, though there was one (FOUNDED/NAME tells), is lost with the program that still has it. One that doesn't
+# answer for LATE seconds is down: a start may take so long. A Timestamp that has less than 9 hours left wasn't refreshed, and a copy that
+# is 3 hours old wasn't made. What is amiss is printed each time; the status is 1 where it is another than the last time, and each 6
+# hours. With WATCHED, metrics are written there. Settings are read from /etc/uptane/settings.
 set -eu
 umask 022
 : "${SETTINGS:=/etc/uptane/settings}"
 # shellcheck source=/dev/null
 if [ -r "$SETTINGS" ]; then . "$SETTINGS"; fi
 : "${PORT:=8080}" "${FOLDER:=/var/lib/uptane}" "${COPIES:=/var/backups/uptane}" "${DESKS:=}" "${RUN:=/run}"
-: "${LATE:=180}" "${LEAST_LEFT:=32400}" "${OLDEST:=10800}" "${WATCHED:=}"
+: "${LATE:=180}" "${LEAST_LEFT:=32400}" "${OLDEST:=10800}" "${WATCHED:=}" "${FOUNDED:=/etc/uptane/founded}"
 
 now=$(date +%s) state=$RUN/uptane-watch lines=''
 amiss=$state/amiss
 mkdir -p "$state"
 [ -e "$state/first" ] || echo "$now" > "$state/first"
 : > "$amiss"
-say() { echo "desk${1:+ $1}: $2" >> "$amiss"; }
+say() { echo "desk$1: $2" >> "$amiss"; }
 metric() { lines="$lines$(printf 'uptane_desk_%s{desk="desk%s"} %s' "$2" "$1" "$3")
 "; }
 
 watch() {
-    [ -e "$FOLDER/desk$1.db" ] || return 0
+    file=$FOLDER/desk$1.db mark=$FOUNDED/desk$1.db
+    if [ ! -e "$mark" ]; then
+        if [ ! -s "$file" ]; then return 0; fi
+        mkdir -p "$FOUNDED" && : > "$mark"
+    fi
+    process=$(systemctl show -p MainPID --value "uptane-desk${1:+@$1}.service")
+    if [ "$(find "/proc/$process/fd" -lname "*/desk$1.db* (deleted)" 2> /dev/null)" ]; then
+        there=0
+        say "$1" "its file is gone, and the program still has it: don't stop it (OPERATING, To restore)"
+    elif [ ! -s "$file" ]; then
+        there=0
+        say "$1" "its file is gone (OPERATING, To restore)"
+    else
+        there=1
+    fi
+    metric "$1" file_there "$there"
     expires=$(curl -fsS -m 30 "http://127.0.0.1:$((PORT + ${1:-0}))/image/timestamp.json" 2> /dev/null |
         sed -n 's/.*"expires":"\([0-9TZ:-]*\)".*/\1/p')
     if [ "$expires" ]; then
@@ -53,7 +69,12 @@ if [ "$WATCHED" ]; then
     mv "$WATCHED.new" "$WATCHED"
 fi
 cat "$amiss" >&2
-if [ ! -s "$amiss" ]; then rm -f "$state/told"; exit 0; fi
-if cut -d: -f1,2 "$amiss" | cmp -s - "$state/told" && [ -z "$(find "$state/told" -mmin +360)" ]; then exit 0; fi
-cut -d: -f1,2 "$amiss" > "$state/told"
+if [ ! -s "$amiss" ]; then
+    if [ -e "$state/told" ]; then echo "all is well again"; fi
+    rm -f "$state/told"
+    exit 0
+fi
+cut -d: -f1,2 "$amiss" > "$state/now"
+if cmp -s "$state/now" "$state/told" && [ -z "$(find "$state/told" -mmin +360)" ]; then exit 0; fi
+mv "$state/now" "$state/told"
 exit 1

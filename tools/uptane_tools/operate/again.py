@@ -1,9 +1,13 @@
 """The lines that a restore asks for again, made from the file as it was when it was lost, or any
-later copy than the one that is restored.
+later copy than the one that is restored; where there is none, from the journal.
 """
+import gzip
 import json
+import re
 import sqlite3
+import time
 from collections.abc import Iterator
+from contextlib import suppress
 from pathlib import Path
 from typing import Any
 
@@ -101,3 +105,80 @@ def lines(copy: Path, later: Path, now: int) -> Iterator[str]:
         if versions[1] > versions[0] or files:
             yield canonical({
                 "at": now, "do": "refresh", "version": max(versions[1], versions[0] + files) + 1})
+
+
+# ---- by the journal
+
+GIVEN = ("add_image", "add_vehicle", "replace_ecu", "open_campaign", "close_campaign")
+
+
+def given(journal: Path) -> Iterator[Members]:
+    """What was done, the oldest first, those files included that were rotated away."""
+    for path in [*sorted(journal.parent.glob(journal.name + "-*")), journal]:
+        with gzip.open(path, "rt") if path.suffix == ".gz" else path.open(encoding="utf-8") as file:
+            for line in file:
+                with suppress(ValueError):
+                    it = json.loads(line)
+                    if it.get("answer") == "done":
+                        yield it
+
+
+def is_new(db: sqlite3.Connection, asked: Members) -> bool:
+    """Whether the copy hasn't what a line made."""
+    sql, of = {
+        "add_image": ("SELECT 1 FROM image WHERE file = ?", "file"),
+        "add_vehicle": ("SELECT 1 FROM vehicle WHERE vehicle = ?",
+                        "vehicle"), "replace_ecu": ("SELECT 1 FROM retired WHERE ecu = ?", "old"),
+        "open_campaign": ("SELECT 1 FROM campaign WHERE name = ?", "campaign"),
+        "close_campaign": ("SELECT 1 FROM campaign WHERE name = ? AND NOT running",
+                           "campaign")}[asked["do"]]
+    return db.execute(sql, (asked[of], )).fetchone() is None
+
+
+def made_at(copy: Path) -> str:
+    """When the copy was made: its name tells, or its time."""
+    told = re.search(r"-(\d{8}T\d{6}Z)", copy.name)
+    at = time.strptime(told[1], "%Y%m%dT%H%M%SZ") if told else time.gmtime(copy.stat().st_mtime)
+    return time.strftime("%Y-%m-%dT%H:%M:%SZ", at)
+
+
+def rotations(copy: Path, copies: Path, root: int) -> list[Members]:
+    """The rotations behind this root, by the keys in other copies of the same desk."""
+    found: list[Members] = []
+    for path in copies.glob(copy.name.partition("-")[0] + "-*.db"):
+        with suppress(fleet_tables.Other, OSError, sqlite3.Error), fleet_tables.opened(path) as db:
+            last = fleet_tables.meta_of(db)["root"]
+            if last - root > len(found):
+                found = [keys_of(db, it) for it in range(root + 1, last + 1)]
+    return found
+
+
+def by_journal(copy: Path, journal: Path, copies: Path, now: int) -> tuple[list[str], list[str]]:
+    """The lines that the journal has and the copy hasn't, and a sentence for each that can't be
+    made, since the journal leaves its keys out.
+    """
+    lacking, rest, rotated, files = [], [], 0, 0
+    with fleet_tables.opened(copy) as db:
+        meta = fleet_tables.meta_of(db)
+        version, since = meta["image_version"], made_at(copy)
+        for it in given(journal):
+            asked, do = it["asked"], it["asked"]["do"]
+            if do == "refresh":
+                version = max(version, asked["version"])
+            version += do in ("rotate", "add_image")
+            rotated += do == "rotate" and it["given"] > since
+            if do in GIVEN and is_new(db, asked):
+                if "left out" in json.dumps(asked):
+                    lacking.append("to give again by hand, as the journal has no keys: line %d of "
+                                   "%s, of %s" % (it["line"], it["script"], it["given"]))
+                else:
+                    rest.append({**asked, "at": now})
+                    files += do == "add_image"
+        kept = rotations(copy, copies, meta["root"])
+        if rotated > len(kept):
+            lacking.append("to give again by hand: %d rotations, whose keys no copy has" %
+                           (rotated - len(kept)))
+        made = [{"at": now, "do": "rotate", **it} for it in kept] + rest
+        last = max(version, meta["image_version"] + files + len(kept)) + 1
+        return [
+            canonical(it) for it in [*made, {"at": now, "do": "refresh", "version": last}]], lacking

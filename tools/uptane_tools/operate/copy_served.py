@@ -4,7 +4,9 @@ lets it go on.
     tools/run copy_served PID FILE COPY [--one]
 
 PID is the program's (`systemctl show -p MainPID --value uptane-desk`), and it has to have FILE
-open; 0 where no program runs. Clients wait while the program is stopped, which is printed. Where
+open; 0 where no program runs. Where FILE or its log was removed meanwhile, what the program still
+has open of it is copied: it is there until the program ends. Clients wait while the program is
+stopped, which is printed. Where
 the filesystem can clone a file (XFS, Btrfs), and COPY is on the same one, that is some
 milliseconds however large the file is; else it is as long as the copy takes. COPY and its log
 COPY-wal are made, for their owner alone, and mustn't be there. They are what a kill at that
@@ -23,23 +25,39 @@ import time
 from pathlib import Path
 
 from uptane_tools import arguments
-from uptane_tools.operate import page_sums
+from uptane_tools.operate import fleet_tables, page_sums
 
 PATIENCE = 10
 # the call of Linux that gives a new file the blocks of another (FICLONE)
 CLONE = 0x40049409
 
 
-def has_open(pid: int, path: str) -> bool:
-    """Whether the process has the file open."""
-    wanted = os.stat(path)
+def handle(pid: int, path: str) -> str | None:
+    """The name by which to read what the process has open under this path: the path itself, or
+    the process's own handle where the file was removed; none where it hasn't it open.
+    """
+    wanted, removed = os.stat(path) if os.path.exists(path) else None, None
     for link in Path("/proc/%d/fd" % pid).iterdir():
         try:
-            if os.path.samestat(os.stat(link), wanted):
-                return True
+            if wanted and os.path.samestat(os.stat(link), wanted):
+                return path
+            if os.readlink(link).endswith("/%s (deleted)" % os.path.basename(path)):
+                removed = str(link)
         except OSError:
             pass
-    return False
+    return removed
+
+
+def sources(pid: int, path: str) -> list[tuple[str, str]]:
+    """What is to be copied: the ends of the names, each with what it is read from."""
+    if not pid:
+        return [(end, path + end) for end in ("", "-wal") if os.path.exists(path + end)]
+    file, log = handle(pid, path), handle(pid, path + "-wal")
+    if not file:
+        raise OSError("process %d doesn't have %s open" % (pid, path))
+    if not log and file == path and os.path.exists(path + "-wal"):
+        log = path + "-wal"
+    return [("", file), *([("-wal", log)] if log else [])]
 
 
 def is_stopped(pid: int) -> bool:
@@ -77,16 +95,13 @@ def copy(pid: int, path: str, to: str) -> tuple[bool, float]:
     """Copies both files while the process stands still. What was made is taken away again where
     it fails. Whether both are clones, and how many seconds it stood still.
     """
-    if pid and not has_open(pid, path):
-        raise OSError("process %d doesn't have %s open" % (pid, path))
-    made, clones, begun = [], [], time.monotonic()
+    made, clones, begun, given = [], [], time.monotonic(), sources(pid, path)
     try:
         if pid:
             stop(pid)
-        for end in ("", "-wal"):
-            if os.path.exists(path + end):
-                made.append(to + end)
-                clones.append(copied(path + end, to + end))
+        for end, one in given:
+            made.append(to + end)
+            clones.append(copied(one, to + end))
     except OSError:
         for name in made:
             if os.path.exists(name):
@@ -95,6 +110,8 @@ def copy(pid: int, path: str, to: str) -> tuple[bool, float]:
     finally:
         if pid:
             os.kill(pid, signal.SIGCONT)
+    if any(one != path + end for end, one in given):
+        print("%s was removed: copied is what process %d still has open" % (path, pid))
     return all(clones), time.monotonic() - begun
 
 
@@ -109,7 +126,7 @@ def made(pid: int, path: str, to: str, one: bool) -> int:
         return 1
     how = "cloned" if is_clone else "copied, since the filesystem can't clone it there"
     print("%d bytes %s; the program stood still for %.3f seconds" %
-          (os.stat(to).st_size, how, took if pid else 0))
+          (fleet_tables.size_of(Path(to)), how, took if pid else 0))
     for name in (to, to + "-wal"):
         if os.path.exists(name):
             with open(name, "rb") as file:

@@ -53,7 +53,7 @@ Version: %s
 Architecture: %s
 Maintainer: %s
 Depends: libc6, python3 (>= 3.10), curl, passwd, util-linux
-Recommends: libjemalloc2, nginx | haproxy
+Recommends: libjemalloc2, nginx | haproxy, openssl
 Suggests: prometheus-node-exporter, logrotate
 Section: net
 Priority: optional
@@ -79,11 +79,13 @@ INSTALLED = """#!/bin/sh
 set -e
 if [ "$1" = configure ] && [ -z "$DPKG_ROOT" ]; then sh /usr/lib/uptane_desk/setup.sh; fi
 if [ "$1" = configure ] && [ "$2" ] && [ -z "$DPKG_ROOT" ] && [ -d /run/systemd/system ]; then
-    # the timers are light, and their scripts are the new ones; the service goes on until it is told
-    systemctl start uptane-desk-watch.timer uptane-desk-now.path
+    # the timers' scripts are the new ones; the service goes on until it is told
     for unit in $(systemctl list-units --plain --no-legend --state=active 'uptane-desk.service' 'uptane-desk@*.service' | cut -d' ' -f1); do
         echo "$unit still runs the program of $2: systemctl restart $unit starts this one, and copies the file first if its schema is older"
     done
+fi
+if [ "$1" = configure ] && [ -z "$DPKG_ROOT" ] && ! ls /var/lib/uptane/desk*.db > /dev/null 2>&1; then
+    echo "nothing is founded yet: read Founding in /usr/share/doc/uptane-desk/docs/use/OPERATING.md"
 fi
 """
 BEFORE = """#!/bin/sh

@@ -1,21 +1,24 @@
-"""Restores a desk's file from a copy: looks at the copy, stops the service, puts the copy in
-place, and starts the service again.
+"""Restores a desk's file from a copy: has the program open the copy, stops the service, puts the
+copy in place, and starts the service again.
 
-    tools/run restore COPY [--desk N] [--tell] [--lines FILE]
+    tools/run restore COPY [--desk N] [--tell] [--lines FILE] [--lost FILE]
 
 To be run by root. The settings are those of `/etc/uptane/settings`, or of the file that SETTINGS
-names. The file that was there and its log are kept in FOLDER/before-TIME, and the copy stays as
-it is. What comes to its place belongs to OWNER and is OWNER's alone. No script is given
-meanwhile.
+names. COPY stays as it is. It is first copied beside the file and opened there by the program, as
+OWNER, in the time of a start; what the program refuses is told, and changes nothing. Then the file
+that was there and its log are kept in FOLDER/before-TIME. No script is given meanwhile.
 
-Where the file that was there can still be read, it is told what the copy hasn't: how many
-manifests, the lines to give again, and which vehicles will refuse replies as older ones, how
-many and until about when, by how often each one asked. `--lines FILE` writes those lines as a
-script, which holds secrets where keys were rotated. `--tell` tells, and changes nothing.
+It is told what the copy hasn't, by the file that was there, or by the file LOST: how many
+manifests, the lines to give again, and which vehicles will refuse replies as older ones, how many
+and until about when, by how often each one asked. `--lines FILE` writes those lines as a script,
+which holds secrets where keys were rotated; where the lost file can't be read they are those of
+the journal. FILE mustn't be there, and is made before anything is changed. `--tell` tells, and
+changes nothing.
 
-The status is 0 where the service answers from the restored file, and 1 with a message where it
-doesn't; what there is to do stands in the message.
+The status is 0 where the service answers from the restored file, 1 with a message where it
+doesn't, which says what there is to do, and 2 where FILE can't be made.
 """
+import argparse
 import contextlib
 import fcntl
 import json
@@ -24,18 +27,20 @@ import pwd
 import sqlite3
 import subprocess
 import sys
+import tempfile
 import time
 import urllib.request
 from collections.abc import Iterator
 from pathlib import Path
 
 from uptane_tools import arguments
-from uptane_tools.operate import again, check_file, copy_served, fleet_tables, restore_drill
+from uptane_tools.operate import again, check_file, fleet_tables, restore_drill, try_copy
 
 # what apply.sh and backup.sh take where the settings don't say
 USUAL = {
     "FOLDER": "/var/lib/uptane", "OWNER": "uptane", "PORT": "8080", "RUN": "/run", "DESKS": "",
-    "JOURNAL": "/var/log/uptane/journal", "PATIENCE": "600"}
+    "JOURNAL": "/var/log/uptane/journal", "PATIENCE": "600", "PROGRAM": "/usr/bin/uptane_desk",
+    "COPIES": "/var/backups/uptane"}
 
 
 class Failed(Exception):
@@ -80,19 +85,41 @@ def older(copy: Path, later: Path) -> Iterator[tuple[str, int, int]]:
                 yield name, back, int(time.time() + (back + 1) * every([row[0] for row in rows]))
 
 
-def told(copy: Path, later: Path, lines: Path | None) -> Iterator[str]:
+def told(copy: Path, later: Path) -> list[str]:
     """What the copy hasn't, for an operator to read."""
-    yield from restore_drill.forgotten(copy, later, False)
-    for name, back, until in older(copy, later):
+    made, until = list(restore_drill.forgotten(copy, later, False)), 0
+    for name, back, until_then in older(copy, later):
         words = ("vehicle %s refuses the replies to its next %d manifests as older ones, until "
                  "about %s")
-        yield words % (name, back, time.strftime("%Y-%m-%d", time.gmtime(until)))
-    if lines:
-        made = list(again.lines(copy, later, int(time.time())))
-        with open(os.open(lines, os.O_WRONLY | os.O_CREAT | os.O_EXCL, 0o600), "w",
-                  encoding="ascii") as file:
+        made.append(words % (name, back, moment(until_then)))
+        until = max(until, until_then)
+    if until:
+        made.append("until about %s vehicles report `goes back to version`, which is no attack" %
+                    moment(until))
+    return made
+
+
+def moment(at: int) -> str:
+    return time.strftime("%Y-%m-%dT%H:%MZ", time.gmtime(at))
+
+
+def compared(copy: Path, lost: Path, lines: int | None, its: dict[str, str]) -> Iterator[str]:
+    """What the copy hasn't; the lines go to the file that is open."""
+    try:
+        yield from told(copy, lost)
+        made = list(again.lines(copy, lost, int(time.time())))
+        by = str(lost)
+    except (fleet_tables.Other, OSError, ValueError, sqlite3.Error) as wrong:
+        yield "what the copy hasn't can't be told by %s: %s" % (lost, wrong)
+        yield "where the lost file is elsewhere, name it by --lost"
+        by, made = its["JOURNAL"], []
+        if lines is not None:
+            made, lacking = again.by_journal(copy, Path(by), Path(its["COPIES"]), int(time.time()))
+            yield from lacking
+    if lines is not None:
+        with open(lines, "w", encoding="ascii", closefd=False) as file:
             file.write("".join(line + "\n" for line in made))
-        yield "%d lines to give again are in %s" % (len(made), lines)
+        yield "%d lines to give again, by %s, are written" % (len(made), by)
 
 
 # ---- putting it in place
@@ -108,16 +135,29 @@ def moved(path: Path, to: Path, owner: pwd.struct_passwd) -> None:
         it.rename(to / it.name)
 
 
-def placed(copy: Path, path: Path, owner: pwd.struct_passwd) -> None:
-    """The copy and its log, synchronised; the log comes first, since a file without it may be
-    taken without what the log has.
+def taken(copy: Path, own: Path, its: dict[str, str], owner: pwd.struct_passwd) -> Path:
+    """The copy at its new place, beside the file, once the program has opened it there."""
+    path = own / "desk.db"
+    try_copy.restored(copy, path)
+    for it in (own, path, fleet_tables.log_of(path)):
+        if it.exists():
+            os.chown(it, owner.pw_uid, owner.pw_gid)
+    try:
+        try_copy.opened(["runuser", "-u", its["OWNER"], "--", its["PROGRAM"]], path)
+    except try_copy.Refused as wrong:
+        raise Failed("%s; nothing is changed: take an older copy" % wrong) from wrong
+    return path
+
+
+def placed(made: Path, path: Path) -> None:
+    """What the program opened, synchronised, under the file's name; the log comes first, since a
+    file without it may be taken without what the log has.
     """
-    for one, other in ((fleet_tables.log_of(copy), fleet_tables.log_of(path)), (copy, path)):
+    for one, other in ((fleet_tables.log_of(made), fleet_tables.log_of(path)), (made, path)):
         if one.exists():
-            copy_served.copied(str(one), str(other))
-            with open(other, "rb") as made:
-                os.fchown(made.fileno(), owner.pw_uid, owner.pw_gid)
-                os.fsync(made.fileno())
+            with open(one, "rb") as file:
+                os.fsync(file.fileno())
+            one.rename(other)
     folder = os.open(path.parent, os.O_RDONLY)
     os.fsync(folder)
     os.close(folder)
@@ -132,7 +172,8 @@ def version(port: int, unit: str, patience: float) -> int:
                                         timeout=60) as answer:
                 return int(json.load(answer)["signed"]["version"])
         if time.monotonic() > until or systemctl("is-failed", unit).returncode == 0:
-            raise Failed("the restored file isn't served: look at journalctl -u %s" % unit)
+            raise Failed("the restored file isn't served: look at journalctl -u %s; for another "
+                         "copy, --lost names what was there first" % unit)
         time.sleep(0.5)
 
 
@@ -146,18 +187,18 @@ def noted(journal: Path, copy: Path, path: Path) -> None:
         file.write(json.dumps(entry, sort_keys=True) + "\n")
 
 
-def restored(copy: Path, desk: str, its: dict[str, str]) -> Iterator[str]:
+def restored(copy: Path, made: Path, desk: str, its: dict[str, str]) -> Iterator[str]:
     unit = "uptane-desk@%s.service" % desk if desk else "uptane-desk.service"
-    path, owner = Path(its["FOLDER"]) / ("desk%s.db" % desk), pwd.getpwnam(its["OWNER"])
+    path, owner = file_of(desk, its), pwd.getpwnam(its["OWNER"])
     aside = path.parent / time.strftime("before-%Y%m%dT%H%M%SZ", time.gmtime())
     if systemctl("stop", unit).returncode:
         raise Failed("%s doesn't stop; nothing is changed" % unit)
     moved(path, aside, owner)
     try:
-        placed(copy, path, owner)
+        placed(made, path)
     except OSError as wrong:
-        for made in (path, fleet_tables.log_of(path)):
-            made.unlink(missing_ok=True)
+        for it in (path, fleet_tables.log_of(path)):
+            it.unlink(missing_ok=True)
         for it in aside.iterdir() if aside.exists() else ():
             it.rename(path.parent / it.name)
         systemctl("start", unit)
@@ -172,19 +213,24 @@ def restored(copy: Path, desk: str, its: dict[str, str]) -> Iterator[str]:
         unit, version(int(its["PORT"]) + int(desk or 0), unit, float(its["PATIENCE"])))
 
 
-def looked_at(copy: Path, desk: str, its: dict[str, str], lines: Path | None) -> Iterator[str]:
+def file_of(desk: str, its: dict[str, str]) -> Path:
+    return Path(its["FOLDER"]) / ("desk%s.db" % desk)
+
+
+def done(given: argparse.Namespace, its: dict[str, str], lines: int | None) -> Iterator[str]:
     """What is amiss with the copy keeps it from being restored; what is beyond it is told."""
-    if bool(desk) != bool(its["DESKS"]):
+    if bool(given.desk) != bool(its["DESKS"]):
         raise Failed("the settings name %s: give --desk accordingly" %
                      ("%s desks" % its["DESKS"] if its["DESKS"] else "one desk alone"))
-    amiss = list(check_file.amiss(copy))
+    amiss = list(check_file.amiss(given.copy))
     if amiss:
-        raise Failed("; ".join(amiss))
-    path = Path(its["FOLDER"]) / ("desk%s.db" % desk)
-    try:
-        yield from told(copy, path, lines)
-    except (fleet_tables.Other, OSError, ValueError, sqlite3.Error) as wrong:
-        yield "what the copy hasn't can't be told: %s: %s" % (path, wrong)
+        raise Failed("%s; nothing is changed" % "; ".join(amiss))
+    path = file_of(given.desk, its)
+    with tempfile.TemporaryDirectory(dir=path.parent, prefix="restoring-") as own:
+        made = taken(given.copy, Path(own), its, pwd.getpwnam(its["OWNER"]))
+        yield from compared(given.copy, given.lost or path, lines, its)
+        if not given.tell:
+            yield from restored(given.copy, made, given.desk, its)
 
 
 def main(words: arguments.Words = None) -> int:
@@ -193,18 +239,25 @@ def main(words: arguments.Words = None) -> int:
     parser.add_argument("--desk", default="")
     parser.add_argument("--tell", action="store_true")
     parser.add_argument("--lines", type=Path)
+    parser.add_argument("--lost", type=Path)
     given = parser.parse_args(words)
     os.umask(0o077)
+    try:
+        lines = os.open(given.lines, os.O_WRONLY | os.O_CREAT
+                        | os.O_EXCL, 0o600) if given.lines else None
+    except OSError as wrong:
+        print("restore: --lines: %s; nothing is changed" % wrong, file=sys.stderr)
+        return 2
     try:
         its = settings(Path(os.environ.get("SETTINGS", "/etc/uptane/settings")))
         with open(Path(its["RUN"]) / "uptane-apply.lock", "a", encoding="ascii") as lock:
             # (no script is given between the look and the start)
             fcntl.flock(lock, fcntl.LOCK_EX)
-            for line in looked_at(given.copy, given.desk, its, given.lines):
-                print(line, flush=True)
-            for line in () if given.tell else restored(given.copy, given.desk, its):
+            for line in done(given, its, lines):
                 print(line, flush=True)
     except (Failed, fleet_tables.Other, KeyError, OSError, ValueError, sqlite3.Error) as wrong:
         print("restore: %s: %s" % (given.copy, wrong), file=sys.stderr)
+        if given.lines and not given.lines.stat().st_size:
+            given.lines.unlink()
         return 1
     return 0

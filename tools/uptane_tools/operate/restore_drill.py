@@ -29,7 +29,7 @@ from pathlib import Path
 from typing import Iterator
 
 from uptane_tools import arguments
-from uptane_tools.operate import check_file, copy_served, fleet_tables
+from uptane_tools.operate import check_file, fleet_tables, try_copy
 from uptane_tools.operate.formats import Named
 
 # seconds that a start may take
@@ -41,15 +41,6 @@ class Failed(Exception):
 
 
 # ---- restoring
-
-
-def restored(copy: Path, folder: Path) -> Path:
-    """The backup and its log at a new place."""
-    to = folder / "desk.db"
-    for one, other in ((copy, to), (fleet_tables.log_of(copy), fleet_tables.log_of(to))):
-        if one.exists():
-            copy_served.copied(one, other)
-    return to
 
 
 def free_port() -> int:
@@ -151,7 +142,8 @@ def forgotten(copy: Path, later: Path, each: bool) -> Iterator[str]:
     before, after = state(copy), state(later)
     lost = sum(version - before["vehicles"].get(name, (0, 0))[0]
                for name, (version, _) in after["vehicles"].items())
-    yield "forgotten: %d manifests of %d seconds" % (lost, after["newest"] - before["newest"])
+    yield "forgotten: %d manifests, behind %s until %s" % (lost, *(
+        time.strftime("%Y-%m-%dT%H:%M:%SZ", time.gmtime(it["newest"])) for it in (before, after)))
     told = {name: meets(name, before, after) for name in sorted(after["vehicles"])}
     counts = Counter(kind for kind, _ in told.values())
     yield "vehicles: " + ", ".join("%d %s" % (counts[kind], kind)
@@ -167,7 +159,8 @@ def drill(program: Path, copy: Path, later: Path | None, each: bool, folder: Pat
         raise Failed("; ".join(amiss))
     with tempfile.TemporaryDirectory(dir=folder, prefix="drill-") as own:
         steps.append(("restored", time.monotonic()))
-        path = restored(copy, Path(own))
+        path = Path(own) / "desk.db"
+        try_copy.restored(copy, path)
         steps.append(("started", time.monotonic()))
         version, _ = served(program, path)
         ended = time.monotonic()

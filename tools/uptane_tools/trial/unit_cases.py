@@ -8,7 +8,7 @@ at the end, and it has a network of its own. That needs root, overlayfs, systemd
 systemd-nspawn (Debian's `systemd-container`), iproute2 and curl. Where one of them is missing
 nothing is tried, and it says which. Takes a few minutes. With SCHEME=ed25519 the program is
 uptane_desk_ed25519. PART is one of ends, hardened, refreshed, dropped, copied, killed, broken,
-restored, upgraded, queued, several, removed, in this order; all where none is named.
+lost, restored, upgraded, queued, several, removed, in this order; all where none is named.
 """
 import contextlib
 import http.client
@@ -229,6 +229,11 @@ def set_up(program, own):
     yield "before the founding nothing starts, and nothing fails", states == [0, 0, 0
                                                                               ] + 3 * ["inactive"]
     said = carried_out(page()[1], own)
+    timers = [
+        "uptane-desk-%s" % it for it in ("refresh.timer", "backup.timer", "watch.timer", "now.path")
+    ]
+    yield "what watches and copies runs from the first", [
+        shown("ActiveState", unit) for unit in timers] == 4 * ["active"]
     yield "the founding, and the service starts", said == (
         "done\ndone\nreply V1 version 1 targets 0\n", True)
     yield "the service serves", delivered(
@@ -243,7 +248,7 @@ def set_up(program, own):
     yield "the file and its folder are their owner's alone", modes == [0o700, 0o600] and {
         FOLDER.owner(), FILE.owner()} == {"uptane"}
     hook = Path("/etc/uptane/failed")
-    hook.write_text('#!/bin/sh\necho "$1" >> /run/failed\n', "ascii")
+    hook.write_text('#!/bin/sh\necho "$1" >> /run/failed\ncat > /run/said\n', "ascii")
     hook.chmod(0o755)
     maps = Path("/proc/%s/maps" % shown("MainPID")).read_text("utf-8")
     if Path("/usr/lib/x86_64-linux-gnu/libjemalloc.so.2").exists():
@@ -292,6 +297,15 @@ def ends():
     begun = changed(served_so(3)) and well("systemctl", "restart", UNIT)
     yield "the last of the connections", begun and comes_back(lambda: [
         asked("/image/root.json"), asked("/image/root.json")])
+    at_once = []
+    for _ in range(12):
+        well("systemctl", "restart", UNIT)
+        with contextlib.suppress(OSError), contextlib.closing(
+                http.client.HTTPConnection("127.0.0.1", PORT, timeout=PATIENCE)) as client:
+            client.request("GET", "/image/root.json")
+            at_once.append(client.getresponse().status)
+    yield "where a start is told as done, it listens", at_once == 12 * [200]
+    well("systemctl", "reset-failed", UNIT)
     wrong = changed(served_so(0)) and ran("systemctl", "restart",
                                           UNIT) and until(lambda: shown("ActiveState") == "failed")
     # (those before, behind the last of the connections, may be among them)
@@ -533,6 +547,39 @@ def broken():
 # ---- a restore, and a newer program
 
 
+def lost():
+    """The file is removed while it is served: that is told within the next look, and what the
+    program has is copied. Once it has ended, each start fails, which is told too.
+    """
+    well("systemctl", "stop", "uptane-desk-watch.timer")
+    shutil.rmtree("/run/uptane-watch", ignore_errors=True)
+    Path("/run/failed").unlink(missing_ok=True)
+    FILE.unlink()
+    trials.log_of(FILE).unlink(missing_ok=True)
+    kept = delivered(http_cases.next_manifest(2))
+    words = "desk: its file is gone, and the program still has it: don't stop it"
+    yield "a file that is gone is told, with why", not well(
+        "systemctl", "start",
+        WATCH) and failed_so(WATCH) and until(lambda: words in Path("/run/said").read_text("utf-8"))
+    before = shown("MainPID")
+    yield "no refresh stops what has it", not well(
+        "systemctl", "start", REFRESH) and shown("MainPID") == before and failed_so(REFRESH)
+    yield "what the program has is copied", well("systemctl", "start", BACKUP)
+    backup = sorted(Path("/var/backups/uptane").glob("desk-*Z.db"))[-1]
+    fewer = changed("[Unit]\nStartLimitBurst=4\n")
+    well("systemctl", "kill", "--signal=KILL", UNIT)
+    yield "once it has ended the service fails, and that is told", fewer and until(lambda: shown(
+        "ActiveState") == "failed") and failed_so(UNIT) and not FILE.exists()
+    yield "its log says why", said(b"/var/lib/uptane/desk.db is gone: restore a copy")
+    yield "so does a backup", not well("systemctl", "start", BACKUP) and failed_so(BACKUP)
+    done = ran("/usr/lib/uptane_desk/tools/run", "restore", str(backup))
+    print(done.stdout.decode("utf-8") + done.stderr.decode("utf-8"), end="")
+    yield "restored, with what came last", changed("") and done.returncode == 0 and delivered(
+        http_cases.next_manifest(2)) == kept
+    for path in FOLDER.glob("before-*"):
+        shutil.rmtree(path)
+
+
 def restored():
     """The file is lost; the tool that the page names brings the newest copy back, and the
     service runs over it.
@@ -684,9 +731,9 @@ def cases(program, names):
         yield from set_up(program, own)
         parts = {
             "ends": ends, "hardened": hardened, "refreshed": refreshed, "dropped": dropped,
-            "copied": copied, "killed": killed, "broken": broken, "restored": restored,
-            "upgraded": lambda: upgraded(program, own), "queued": lambda: queued(own),
-            "several": lambda: several(own), "removed": removed}
+            "copied": copied, "killed": killed, "broken": broken, "lost": lost,
+            "restored": restored, "upgraded": lambda: upgraded(program, own),
+            "queued": lambda: queued(own), "several": lambda: several(own), "removed": removed}
         for name, part in parts.items():
             if not names or name in names:
                 yield from part()

@@ -251,7 +251,7 @@ class Service:
             "JOURNAL": own / "journal", "COPIES": own / "copies"}
         told |= {
             "RUN": own / "run", "PORT": first, "DESKS": desks or "", "DIVISION": own / "division",
-            "PATIENCE": 60, "SETTINGS": "/nonexistent", "KEEP": 3}
+            "PATIENCE": 60, "SETTINGS": "/nonexistent", "KEEP": 3, "FOUNDED": own / "founded"}
         told |= {
             "METRICS": own / "metrics.prom", "PAGE": own / "page.html", "AFTER": own / "after",
             "AFTER_APPLY": own / "after-apply"}
@@ -401,7 +401,8 @@ def applied(program, own):
             path.name for path in (own / "spool").glob("*.script")) == []
         it.drop("3.script", vehicle("V3", 7), vehicle("V4", 6))
         it.env["PROGRAM"] = str(own / "fails")
-        (own / "fails").write_text("#!/bin/sh\nread line\necho done\nexit 4\n", encoding="ascii")
+        (own / "fails").write_text("#!/bin/sh\nread line || exit 0\necho done\nexit 4\n",
+                                   encoding="ascii")
         (own / "fails").chmod(0o755)
         failed = it.script("apply.sh")
         yield "a program that stops: the service goes on", failed.returncode == 1 and it.calls(
@@ -433,7 +434,7 @@ def read_alone(it):
 def killed(it):
     """apply.sh is killed while it gives a script: no desk stays down, and no script is lost."""
     (it.own / "fails").write_text(
-        "#!/bin/sh\nread line\necho done\n: > %s/stands\nexec sleep 600\n" % it.own,
+        "#!/bin/sh\nread line || exit 0\necho done\n: > %s/stands\nexec sleep 600\n" % it.own,
         encoding="ascii")
     it.drop("4.script", vehicle("V5", 5), vehicle("V6", 4))
     with subprocess.Popen(["sh", SERVICE / "apply.sh"], env=it.env, stdout=subprocess.DEVNULL,
@@ -653,10 +654,142 @@ def backed_up(program, own):
             "to give again: refresh to a version above 9: the last that was served"]
         yield from restored(it, backup, lines)
         damaged = own / "damaged.db"
-        data = bytearray(later.read_bytes())
+        data = bytearray(backup.read_bytes())
         data[5000] ^= 1
         damaged.write_bytes(data)
         yield "a damaged backup is told", tool("restore_drill", program, damaged).returncode == 1
+        yield from refused(it, damaged)
+        yield from by_journal(it, backup)
+
+
+def refused(it, damaged):
+    """What keeps a restore from being done is told before anything is changed."""
+    before, script = it.file().read_bytes(), it.own / "again.script"
+    it.calls()
+    for words in ([], ["--tell"]):
+        done = tool("restore", damaged, *words, env=it.env)
+        yield "a damaged copy isn't restored", done.returncode == 1 and done.stderr.endswith(
+            "%s; nothing is changed: take an older copy\n" %
+            trials.UNOPENED["damaged"].decode("ascii").strip())
+    backup = sorted((it.own / "copies").glob("desk-*Z.db"))[-1]
+    for path in (script, it.own / "nowhere" / "again.script"):
+        done = tool("restore", backup, "--lines", path, env=it.env)
+        yield "nor where its lines can't be written", done.returncode == 2 and done.stderr.endswith(
+            "; nothing is changed\n")
+    left = list((it.own / "data").glob("restoring-*"))
+    yield "and nothing is changed", it.file().read_bytes() == before and it.calls(
+    ) == [] and script.stat().st_size > 0 and left == []
+
+
+def by_journal(it, backup):
+    """The file can't be read: what operators gave is in the journal, and the keys of a rotation
+    in the copy that was made behind it. A file that lies elsewhere is named.
+    """
+    it.drop("more.script", image(5), vehicle("V8", 5), campaign("more", release=5),
+            fleet.line("rotate", NOW, **fleet.key_set(2)),
+            fleet.line("close_campaign", NOW, campaign="more"))
+    yield "operators go on", it.script("apply.sh").returncode == 0 and it.answers(
+        "more.answers") == 5 * ["done"]
+    is_public = b'"method":"ed25519"' in it.get("/director/root.json")
+    version, lost = it.version(), it.own / "lost.db"
+    it.systemctl("stop")
+    it.file().rename(lost)
+    trials.log_of(it.file()).unlink()
+    made = it.own / "journal.script"
+    done = tool("restore", backup, "--lines", made, env=it.env)
+    print(done.stdout + done.stderr, end="")
+    asked = [json.loads(line) for line in made.read_text("ascii").splitlines()]
+    yield "lines by the journal, where the file is gone", done.returncode == 0 and [
+        one["do"] for one in asked] == [
+            "rotate", "add_image", *(["add_vehicle"] if is_public else []), "open_campaign",
+            "close_campaign", "refresh"] and is_public != ("line 2 of more.script" in done.stdout)
+    it.drop("journal.script", *made.read_text("ascii").splitlines())
+    yield "they are taken, and no version goes back", it.script("apply.sh").returncode == 0 and set(
+        it.answers("journal.answers")) == {"done"} and it.version() > version
+    told = tool("restore", backup, "--tell", "--lost", lost, env=it.env).stdout
+    yield "a lost file that lies elsewhere tells", "to give again: add_vehicle V8\n" in told
+
+
+def lost(program, own):
+    """A file that is gone is told, while the program still has it and once it is down; what the
+    program has is copied, and nothing is forgotten.
+    """
+    with service(program, own) as it:
+        it.env["LATE"] = "999999"
+        yield "before the founding there is nothing to tell", it.script(
+            "watch.sh").returncode == 0 and not (own / "founded").exists()
+        trials.printed(program, it.file(), FOUNDING)
+        it.systemctl("start")
+        yield "a copy, and all is well", it.script("backup.sh").returncode == 0 and it.script(
+            "watch.sh").returncode == 0 and (own / "founded" / "desk.db").exists()
+        it.file().unlink()
+        trials.log_of(it.file()).unlink()
+        kept = posted(it.ports[""], manifest("V1", 1))
+        it.calls()
+        told = it.script("watch.sh")
+        yield "the watch tells that it is gone", told.returncode == 1 and (
+            "desk: its file is gone, and the program still has it: don't stop it") in told.stderr
+        yield "and a metric", sample((own / "watch.prom").read_text("ascii"), "file_there") == 0
+        it.drop("late.script", image(2))
+        given = [it.script("apply.sh", *words) for words in ([], ["--refresh"])]
+        yield "nothing is given then, and nothing stopped", [one.returncode for one in given] == [
+            1, 1] and it.calls() == []
+        time.sleep(1.1)
+        saved = it.script("backup.sh")
+        backup = sorted((own / "copies").glob("desk-*Z.db"))[-1]
+        yield "a copy is made of what the program has", saved.returncode == 0 and (
+            "was removed: copied is what process") in saved.stdout
+        done = tool("restore", backup, env=it.env)
+        yield "and restored: nothing is forgotten", done.returncode == 0 and posted(
+            it.ports[""], manifest("V1", 1)) == kept
+        it.script("watch.sh")
+        it.systemctl("stop")
+        it.file().unlink()
+        trials.log_of(it.file()).unlink(missing_ok=True)
+        told = it.script("watch.sh")
+        yield "one that is gone while nothing runs", told.returncode == 1 and (
+            "desk: its file is gone (") in told.stderr
+        begun = ran("sh", SERVICE / "before.sh", it.file(), env=it.env)
+        yield "no start makes an empty one", begun.returncode == 1 and " is gone: restore" in (
+            begun.stderr)
+
+
+def damaged(program, own):
+    """A file is damaged while it is served: its copy doesn't count, no older one goes, and what
+    comes behind a backup gets whole files.
+    """
+    with service(program, own) as it:
+        trials.printed(program, it.file(), FOUNDING)
+        it.systemctl("start")
+        posted(it.ports[""], manifest("V1", 1))
+        (own / "after").write_text('#!/bin/sh\ncp -p "$@" %s\n' % (own / "elsewhere"),
+                                   encoding="ascii")
+        (own / "after").chmod(0o755)
+        (own / "elsewhere").mkdir()
+        it.script("backup.sh")
+        alone = list((own / "elsewhere").iterdir())
+        served = trials.printed(program, alone[0], [fleet.line("show", NOW, vehicle="V1")])
+        yield "what is brought elsewhere is whole", len(alone) == 1 and served[0].startswith(
+            "vehicle V1 version 1")
+        for _ in range(3):
+            time.sleep(1.1)
+            it.script("backup.sh")
+        good = sorted((own / "copies").glob("desk-*Z.db"))
+        with open(it.file(), "r+b") as file:
+            file.seek(-2000, 2)
+            file.write(b"sixteen bytes !!")
+        done = it.script("backup.sh")
+        print(done.stderr, end="")
+        yield "a copy of a damaged file fails", done.returncode == 1 and trials.UNOPENED[
+            "damaged"].decode("ascii") in done.stderr
+        yield "it doesn't count, and no older one goes", sorted(
+            (own / "copies").glob("desk-*Z.db")) == good and len(
+                list((own / "copies").glob("desk-*Z-untaken.db"))) == 1
+        it.drop("late.script", image(2))
+        it.calls()
+        yield "no script is given to it, and it isn't stopped", it.script(
+            "apply.sh").returncode == 1 and it.calls() == []
+        yield "an older one is restored", tool("restore", good[-1], env=it.env).returncode == 0
 
 
 def logged(program, own):
@@ -908,7 +1041,11 @@ def cases(program):
     yield from between()
     parts = [planned, measured]
     if shutil.which("curl"):
+<<<<<<< HEAD
         parts += [applied, applied_to_several, backed_up, logged, watched]
+=======
+        parts += [applied, applied_to_several, backed_up, damaged, lost, watched]
+>>>>>>> b595a346 (A file that is gone alarms, a damaged copy doesn't count, and a restore tries the copy first)
     else:
         print("there is no curl, so no scripts are applied")
     for part in [*parts, packaged]:
