@@ -8,7 +8,7 @@
 # left, and no refresh is asked for, nothing more is done. Scripts that only show and fetch are given to a copy, and stop nothing. Else
 # each desk, one after the other, is copied where scripts are given, stopped, given its lines, and started again, whatever happens; where
 # keys were rotated it is copied once more. The program opens each copy before that goes on. What was answered is in SPOOL/answers, and in the journal with who gave it; what wasn't is in
-# SPOOL/held. The status is 0 where all was accepted and answered. `--mend` puts right what a run left that was killed: it starts the desk
+# SPOOL/held. The status is 0 where all was accepted, and answered without a refusal. `--mend` puts right what a run left that was killed: it starts the desk
 # that was stopped, and puts scripts into SPOOL/held. Each run begins so. Settings are read from /etc/uptane/settings.
 set -eu
 umask 077

@@ -16,11 +16,12 @@ line is printed:
 Looked for are: what is no JSON, words and members that the program doesn't know (it ignores a
 member that it doesn't know, so a misspelt `needs` is an image without needs for good), members
 that are missing, of a wrong kind or outside their limits, names past their limits, members that
-stand twice, moments more than a day (or DAYS) from now, moments that go back, a key that stands
-twice, and lines and scripts that are too long. Final are a version of the Image repository, a
-release of an image and a counter near their end, behind which no further one comes, and a
-filename that leaves the folder in which a Primary puts images; `--final` calls them `look`.
-Whether a vehicle or an image is there, only the program can tell.
+stand twice, moments more than a day (or DAYS) after now, in lines that make files also moments so
+far before now and moments that go back, a key that stands twice, and lines and scripts that are
+too long. Final are a version of the Image repository, a release of an image and a counter near
+their end, behind which no further one comes, and a filename that leaves the folder in which a
+Primary puts images; `--final` calls them `look`. Whether a vehicle or an image is there, only the
+program can tell.
 
 The status is 0 where nothing is amiss, 1 where something is, and 2 where the script can't be
 read. Words and members are those that `docs/integrate/FORMATS.md` lists.
@@ -98,6 +99,8 @@ KINDS: dict[str, tuple[Test, str]] = {
              "1 to 4 keys of 32 bytes, none twice"), "threshold": (lambda v: is_count(v, 1, 4),
                                                                    "1 to the number of keys")}
 KINDS["image"] = KINDS["director"]
+# lines that make no file: they may have been written days ago
+NO_FILES = {"add_vehicle", "replace_ecu", "open_campaign", "close_campaign", "show", "fetch"}
 OPTIONAL = {"needs", "conflicts", "attack", "sha512"}
 
 
@@ -242,15 +245,16 @@ class Line:
     def whole(asked: Named, name: str) -> bool:
         return isinstance(asked.get(name), list) and all(isinstance(it, dict) for it in asked[name])
 
-    def moment(self, at: int, before: int | None, now: int, far: float) -> None:
+    def moment(self, at: int, before: int | None, now: int, far: float, makes: bool) -> None:
+        """`makes` tells whether the line makes files, which expire by its moment."""
         if at > LAST_AT:
             self.fault("at", "past 2100-01-01T00:00:00Z; the moment is in seconds")
-        elif abs(at - now) > far:
-            days = abs(at - now) / DAY
+        elif at - now > far or makes and now - at > far:
             self.look(
-                "at", "%.1f days %s now; it is taken as it stands, and files expire by it" %
-                (days, "after" if at > now else "before"))
-        if before is not None and at < before:
+                "at", "%.1f days %s now; it is taken as it stands, and %s" %
+                (abs(at - now) / DAY, "after" if at > now else "before",
+                 "files expire by it" if makes else "done at once"))
+        if makes and before is not None and at < before:
             self.look("at", "earlier than in a line before")
 
 
@@ -268,7 +272,7 @@ def repeated(text: bytes) -> list[str]:
 
 
 def checked(text: bytes, before: int | None, now: int, far: float) -> tuple[list[str], int | None]:
-    """What is amiss in a line, and its moment where it has one."""
+    """What is amiss in a line, and its moment where it makes files by it."""
     line = Line()
     if len(text) > LONGEST:
         line.fault("line", "longer than %d bytes: it ends the run" % LONGEST)
@@ -295,9 +299,10 @@ def checked(text: bytes, before: int | None, now: int, far: float) -> tuple[list
     line.together(asked)
     line.last(asked)
     at = asked["at"] if COUNT(asked.get("at")) else None
+    makes = asked["do"] not in NO_FILES
     if at is not None:
-        line.moment(at, before, now, far)
-    return line.found, at
+        line.moment(at, before, now, far, makes)
+    return line.found, at if makes else None
 
 
 def amiss(script: bytes, now: int, far: float = DAY) -> Iterator[str]:

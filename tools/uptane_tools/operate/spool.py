@@ -25,8 +25,10 @@ the lines before may make.
 each line of a script to JOURNAL: when it was given, by whom (the owner of the file that was
 dropped), the script's name and SHA-256, the line without its secrets, and the answer. `--public`
 tells that ECUs' keys are public ones, which stay in: what a workshop registered is found again.
-A script that wasn't answered to its end is put into SPOOL/held, for root alone; so is one of a
-WORK that a killed run left. JOURNAL is only ever added to.
+A script that wasn't answered to its end is put into SPOOL/held, for root alone, and
+SPOOL/answers/NAME.held says so; so is one of a WORK that a killed run left. The status is 1 where
+there is one, or a line was refused. What an earlier script of a NAME left in SPOOL/answers is
+removed. JOURNAL is only ever added to.
 """
 import hashlib
 import json
@@ -54,6 +56,8 @@ READ = ("show", "fetch")
 LEFT_OUT = ("key", "keys", "body")
 OF_ECUS = ("add_vehicle", "replace_ecu")
 LONGEST_ANSWER = 200
+# what an operator finds of a script
+ENDS = (".answers", ".refused", ".held")
 
 # ---- taking
 
@@ -91,11 +95,14 @@ def amiss(name: str, script: bytes, now: int, others: int) -> list[str]:
             ] if name.endswith(".looked.script") else found
 
 
-def put(folder: Path, name: str, text: str) -> None:
-    """Writes a file for operators, in a folder that root alone writes to."""
+def put(spool: Path, script: str, end: str, text: str) -> None:
+    """Writes what became of a script, for operators, in a folder that root alone writes to."""
+    folder, name = spool / "answers", script.removesuffix(".script")
     folder.mkdir(mode=0o750, exist_ok=True)
-    path = folder / name
-    path.unlink(missing_ok=True)
+    path = folder / (name + end)
+    if end != ".held":
+        for other in ENDS:
+            (folder / (name + other)).unlink(missing_ok=True)
     path.write_text(text, encoding="utf-8")
     path.chmod(0o640)
     shutil.chown(path, group=folder.stat().st_gid)
@@ -115,8 +122,7 @@ def take(spool: Path, work: Path, journal: Path) -> int:
         one = {"name": path.name, "who": who, "sha256": hashlib.sha256(script).hexdigest()}
         if found:
             refused += 1
-            put(spool / "answers",
-                path.name.removesuffix(".script") + ".refused", "\n".join(found) + "\n")
+            put(spool, path.name, ".refused", "\n".join(found) + "\n")
             added(journal, [{
                 "given": stamp(), "who": who, "script": path.name, "sha256": one["sha256"],
                 "refused": [it[:LONGEST_ANSWER] for it in found]}])
@@ -226,16 +232,22 @@ def keep(spool: Path, work: Path, journal: Path, public: bool) -> int:
         if it["name"] == "refresh":
             short += own != ["done"]
             continue
-        put(spool / "answers", it["name"].removesuffix(".script") + ".answers",
-            "".join(line + "\n" for line in own))
+        put(spool, it["name"], ".answers", "".join(line + "\n" for line in own))
+        refused = sum(line.startswith("refused ") for line in own)
+        if refused:
+            short += 1
+            print("spool: %s: %d of %d lines were refused" % (it["name"], refused, len(lines)),
+                  file=sys.stderr)
         if len(own) < len(lines):
             short += 1
             held = spool / "held"
             held.mkdir(mode=0o700, exist_ok=True)
             shutil.copyfile(work / ("%04d.script" % number), held / it["name"])
-            print(
-                "spool: %s: %d of %d lines were answered; it is in %s" %
-                (it["name"], len(own), len(lines), held), file=sys.stderr)
+            words = "%d of %d lines were answered; it is in %s" % (len(own), len(lines), held)
+            put(spool, it["name"], ".held", words + "\n")
+            if not own:
+                (spool / "answers" / (it["name"].removesuffix(".script") + ".answers")).unlink()
+            print("spool: %s: %s" % (it["name"], words), file=sys.stderr)
     added(journal, entries)
     return 1 if short else 0
 

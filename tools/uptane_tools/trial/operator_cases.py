@@ -369,9 +369,13 @@ def checker():
         leaves = check_script.checked(fleet.line("add_image", NOW, **IMAGE | {"file": name}), None,
                                       NOW, 1e12)[0]
         yield "the filename " + name, bool(leaves) == (name[0] == "/" or ".." in name.split("/"))
-    backwards = [fleet.line("show", at, vehicle="v") for at in (NOW, NOW - 1)]
+    backwards = [fleet.line("refresh", at, version=it) for it, at in ((5, NOW), (6, NOW - 1))]
     yield "moments that go back", list(check_script.amiss("\n".join(backwards).encode(), NOW)) == [
         "line 2: look: at: earlier than in a line before"]
+    days = [fleet.line("close_campaign", NOW, campaign="a")] * 2
+    yield "a line that makes no file may wait, though not for its moment", [
+        list(check_script.amiss("\n".join(days).encode(), at)) == []
+        for at in (NOW + 90 * 86400, NOW - 86400, NOW - 2 * 86400)] == [True, True, False]
     yield "lines past the limit", list(check_script.amiss(100_001 * b"\n", NOW)) == [
         "line 100001: fault: line: a script has at most 100000 lines"]
     # random lines, some of them damaged: what the rules refuse for the line's sake is a fault, and

@@ -373,8 +373,10 @@ def applied(program, own):
         it.drop("2-campaign.script", campaign("first"), campaign("first", release=1))
         version, listed = it.version(), len(it.journal())
         done = it.script("apply.sh", "--refresh")
-        yield "scripts and a refresh in one stop", done.returncode == 0 and it.calls() == [
+        yield "scripts and a refresh in one stop", it.calls() == [
             "stop uptane-desk.service", "start uptane-desk.service"] and it.version() == version + 2
+        yield "a line that is refused is told", done.returncode == 1 and (
+            "spool: 2-campaign.script: 1 of 2 lines were refused\n") in done.stderr
         yield "each has its answers", (it.answers("1-image.answers"),
                                        it.answers("2-campaign.answers")) == (["done", "done"], [
                                            "done", "refused 24 CampaignTaken"])
@@ -410,6 +412,8 @@ def applied(program, own):
         held = own / "spool" / "held"
         yield "the script is held, for root alone", (held / "3.script").exists() and stat.S_IMODE(
             held.stat().st_mode) == 0o700 and it.answers("3.answers") == ["done"]
+        yield "its operator finds that", it.answers("3.held")[0].startswith(
+            "1 of 2 lines were answered; it is in ")
         yield "and the journal says how far it came", [
             one["answer"] for one in it.journal()[-2:]] == ["done", None]
         yield from killed(it)
@@ -419,14 +423,18 @@ def applied(program, own):
 
 
 def read_alone(it):
-    """A script that only shows stops nothing."""
+    """A script that only shows stops nothing. Nothing is left of an earlier one of its name."""
     it.calls()
+    it.drop("show.script", "{}")
+    it.script("apply.sh")
+    told = it.answers("show.refused")
     it.drop("show.script", fleet.line("show", NOW, vehicle="V1"),
             fleet.line("fetch", NOW, repository="image", file="timestamp.json"))
     done = it.script("apply.sh")
     answers = it.answers("show.answers")
     yield "what only shows stops nothing", done.returncode == 0 and it.calls() == [] and [
         line.split()[0] for line in answers] == ["vehicle", "file"]
+    yield "nor does a refusal of before stay", told and it.answers("show.refused") is None
     yield "and leaves nothing behind", [
         path.name for path in (it.own / "data").iterdir() if path.is_dir()] == []
 
