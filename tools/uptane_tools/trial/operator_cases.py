@@ -837,18 +837,14 @@ def operating(program, own):
     text = "\n".join(["", lines[0], "", "nope", '{"at":1767225600,"do":"show","vehicle":"V9"}'
                       ]) + "\n"
     (own / "today.script").write_text(text, encoding="ascii")
-    yield "the page has both idioms", len(idioms()) == 2
+    yield "the page has its idiom", len(idioms()) == 1
     for idiom in idioms():
         asked = idiom.replace("uptane_desk run", "%s run" % program).replace(
             "/var/lib/uptane/desk.db", str(path))
         ran = subprocess.run(["bash", "-c", asked], cwd=own, capture_output=True, check=False)
-        if "paste" in idiom:
-            told = ran.stdout.decode("ascii").splitlines()
-            yield "refused lines beside their answers", told == [
-                "4\tnope\trefused 5 NotJson",
-                '5\t{"at":1767225600,"do":"show","vehicle":"V9"}\trefused 10 UnknownVehicle']
-        elif ran.returncode or ran.stderr:
-            yield "the idiom: " + idiom, False
+        told = (own / "today.answers").read_text("ascii").splitlines()
+        yield "the idiom: " + idiom, not ran.stderr and told == [
+            "already", "refused 5 NotJson", "refused 10 UnknownVehicle"]
 
 
 def idioms():
@@ -858,7 +854,7 @@ def idioms():
     every = [
         " ".join(line.strip().rstrip("\\") for line in it.splitlines())
         for it in re.findall(r"(?:^    .*\n)+", page, re.MULTILINE)]
-    return [it for it in every if "uptane_desk run" in it or "paste" in it]
+    return [it for it in every if "uptane_desk run" in it]
 
 
 def cases(program):
