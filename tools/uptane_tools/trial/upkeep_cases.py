@@ -1049,11 +1049,7 @@ def cases(program):
     yield from between()
     parts = [planned, measured]
     if shutil.which("curl"):
-<<<<<<< HEAD
-        parts += [applied, applied_to_several, backed_up, logged, watched]
-=======
-        parts += [applied, applied_to_several, backed_up, damaged, lost, watched]
->>>>>>> b595a346 (A file that is gone alarms, a damaged copy doesn't count, and a restore tries the copy first)
+        parts += [applied, applied_to_several, backed_up, logged, damaged, lost, watched]
     else:
         print("there is no curl, so no scripts are applied")
     for part in [*parts, packaged]:
