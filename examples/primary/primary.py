@@ -90,22 +90,25 @@ def of_get(status, text):
     return "none" if (status, value) == (404, 29) else "end"
 
 
+def exchanged(url, data):
+    """The status of one answer, and its bytes: one more at most than a file may have."""
+    request = urllib.request.Request(url, data=data, headers={"Connection": "close"})
+    try:
+        with urllib.request.urlopen(request, timeout=PATIENCE) as answer:
+            return answer.status, answer.read(forms.LARGEST + 1)
+    except urllib.error.HTTPError as refused:
+        return refused.code, refused.read(forms.LARGEST + 1)
+
+
 def asked(url, body=None):
     """The status and the text of an answer. Where none comes, or the service says that the fault is
     its own, the same is asked again after a while: a manifest that was accepted meanwhile is
-    answered by its kept reply. More than a file may have isn't read."""
+    answered by its kept reply."""
     for wait in (*WAITS, None):
         try:
-            data = body and body.encode("ascii")
-            request = urllib.request.Request(url, data=data, headers={"Connection": "close"})
-            with urllib.request.urlopen(request, timeout=PATIENCE) as answer:
-                text = answer.read(forms.LARGEST + 1)
-                verify.expect(len(text) <= forms.LARGEST, "%s has no end", url)
-                came = answer.status, text.decode("ascii")
-        except urllib.error.HTTPError as refused:
-            text = refused.read(forms.LARGEST + 1)
-            verify.expect(len(text) <= forms.LARGEST, "%s has no end", url)
-            came = refused.code, text.decode("ascii", "replace")
+            status, data = exchanged(url, body and body.encode("ascii"))
+            verify.expect(len(data) <= forms.LARGEST, "%s has no end", url)
+            came = status, data.decode("ascii", "strict" if status == 200 else "replace")
         except (OSError, http.client.HTTPException, UnicodeError) as error:
             came, wrong = None, error
         if came and follows(*came)[0] != "again":
@@ -142,13 +145,14 @@ def primary_of(told):
 
 def new_manifest(told, now):
     """The body of the next manifest: its counter and that of each report rise, and each ECU reports
-    what it has, and the attack that it has seen."""
+    what it has, and the attack that it has seen. The greatest number is never signed: no counter
+    would come behind it."""
+    if max(it["counter"] for it in (told, *told["ecus"])) + 1 >= MOST:
+        raise Failed("no counter is left")
     told["counter"] += 1
     secrets, reports = {}, []
     for ecu in told["ecus"]:
         ecu["counter"] += 1
-        if max(ecu["counter"], told["counter"]) >= MOST:
-            raise Failed("the counters of %s come to their end" % ecu["ecu"])
         secrets[ecu["ecu"]] = ecu["secret"]
         own = ecu["installed"]
         has = {name: own[name] for name in ("file", "length", "sha256", "sha512") if name in own}
@@ -174,9 +178,9 @@ def answered(told, url, save):
         if not told.get("pending"):
             told["pending"] = new_manifest(told, now)
             save()
-        status, text = send(url, told["pending"])
-        what, value = follows(status, text)
         try:
+            status, text = send(url, told["pending"])
+            what, value = follows(status, text)
             if what == "read":
                 reply, fetch = reply_of(text), fetcher(url)
                 return verify.verified(told, reply, fetch, role_secrets(told), now)
@@ -200,11 +204,11 @@ def answered(told, url, save):
 
 def skip(told, name, now):
     """The ECU has lost its counter, and the refusal doesn't say what the last one was. Counters may
-    skip: so it goes on from the time in seconds, or from twice what was refused, which comes above
-    any other in a few tries."""
+    skip: so the next one is the time in seconds, or twice what was refused, which comes above any
+    other in a few tries."""
     for ecu in told["ecus"]:
         if ecu["ecu"] == name:
-            ecu["counter"] = max(2 * ecu["counter"], now)
+            ecu["counter"] = max(2 * ecu["counter"], now) - 1
     told["pending"] = None
 
 
@@ -215,25 +219,35 @@ def within(folder, name):
     return folder / name
 
 
-def install(told, due, folder):
+def images_in(folder):
+    """Finds an image by its filename, where the folder has it."""
+
+    def image(name):
+        path = within(folder, name) if folder else None
+        return path.read_bytes() if path and path.is_file() else None
+
+    return image
+
+
+def install(told, due, image):
     """Puts each image into its ECU once all that are due are there and are what was meant: one may
-    need another. Returns whether something was installed."""
+    need another. Returns how many were installed, and nothing where one isn't there."""
     found = {}
     for ecu in (it for it in told["ecus"] if it["ecu"] in due):
         target = due[ecu["ecu"]]
-        path = within(folder, target["file"]) if folder else None
-        if path and path.is_file():
-            verify.check_image(target, path.read_bytes())
+        content = image(target["file"])
+        if content is not None:
+            verify.check_image(target, content)
             has = {"file": target["file"], "length": target["length"], **hashes(target["hashes"])}
             found[ecu["ecu"]] = has | {"release": target["release"]}
         else:
             print("%s is to install %s, which isn't here yet" % (ecu["ecu"], target["file"]))
     if len(found) < len(due):
-        return False
+        return None
     for ecu in (it for it in told["ecus"] if it["ecu"] in due):
         ecu["installed"] = found[ecu["ecu"]]
         print("%s installed %s" % (ecu["ecu"], ecu["installed"]["file"]))
-    return bool(due)
+    return len(due)
 
 
 def write(path, told):
@@ -244,20 +258,17 @@ def write(path, told):
     os.replace(new, path)
 
 
-def go_round(url, path, images):
-    """A round. What is wrong with the metadata or an image is told in the Primary's own report, from
-    the next manifest on, until a reply is accepted again."""
-    told = json.loads(path.read_text(encoding="ascii"))
-    use(told)
-    save = lambda: write(path, told)
+def went(told, url, save, image):
+    """A round, and what `install` returns. What is wrong with the metadata or an image is told in the
+    Primary's own report, from the next manifest on, until metadata is accepted again."""
     own = primary_of(told)
     try:
         due = answered(told, url, save)
         told["pending"], own["attack"] = None, ""
         save()
-        has_installed = install(told, due, images)
+        installed = install(told, due, image)
         print("verified: version %d, targets %d" % (told["director"]["versions"]["targets"], len(due)))
-        return has_installed
+        return installed
     except verify.Refused as wrong:
         own["attack"] = "".join(it for it in str(wrong) if " " <= it <= "~")[:256]
         raise
@@ -265,27 +276,38 @@ def go_round(url, path, images):
         save()
 
 
-def pause(failed, has_installed=False):
+def go_round(url, path, images):
+    told = json.loads(path.read_text(encoding="ascii"))
+    use(told)
+    return went(told, url, lambda: write(path, told), images_in(images))
+
+
+def pause(failed, installed=0):
     """The seconds until the next round, behind so many that failed in a row. They differ at random,
     so that a fleet that was switched on at one moment, or met one outage, doesn't come at one
     moment: by a tenth, and behind a failure by half the wait. What was installed is told soon."""
-    if not failed:
-        return SOON * random.uniform(0.5, 1) if has_installed else INTERVAL * random.uniform(0.9, 1.1)
-    return min(INTERVAL, SOON * 2 ** min(failed - 1, 20)) * random.uniform(0.5, 1)
+    if not failed and not installed:
+        return INTERVAL * random.uniform(0.9, 1.1)
+    return min(INTERVAL, SOON * 2 ** min(max(failed - 1, 0), 20)) * random.uniform(0.5, 1)
+
+
+def behind(go, failed):
+    """Goes a round, behind so many that failed in a row: how many have by then, and the seconds until
+    the next one. An image that isn't there is a failure too."""
+    installed = None
+    try:
+        installed = go()
+    except (Failed, verify.Refused, OSError, ValueError, KeyError, TypeError, AttributeError) as wrong:
+        is_told = isinstance(wrong, (Failed, verify.Refused))
+        print("primary: %s" % (wrong if is_told else repr(wrong)), file=sys.stderr, flush=True)
+    failed = failed + 1 if installed is None else 0
+    return failed, pause(failed, installed)
 
 
 def go_rounds(url, path, images):
     failed = 0
     while True:
-        has_installed = False
-        try:
-            has_installed = go_round(url, path, images)
-            failed = 0
-        except (Failed, verify.Refused, OSError, ValueError, KeyError, TypeError, AttributeError) as wrong:
-            is_told = isinstance(wrong, (Failed, verify.Refused))
-            print("primary: %s" % (wrong if is_told else repr(wrong)), file=sys.stderr, flush=True)
-            failed += 1
-        wait = pause(failed, has_installed)
+        failed, wait = behind(lambda: go_round(url, path, images), failed)
         print("the next round is in %d minutes" % (wait // 60), flush=True)
         time.sleep(wait)
 

@@ -4,6 +4,7 @@
 //     node primary.mjs vectors FOLDER                 answers the vectors, and names those that it answers otherwise
 //     node primary.mjs trust URL VEHICLE              puts the first Root of each repository into VEHICLE, as in the factory
 //     node primary.mjs round URL VEHICLE [IMAGES]     one round: a new manifest, the metadata of both repositories, what is to be installed
+//     node primary.mjs rounds URL VEHICLE [IMAGES]    rounds without end: one a day, and sooner behind one that failed
 //
 // VEHICLE is a file of the form of examples/primary/vehicle.json, or of examples/primary/ed25519/vehicle.json. It is for its owner alone: it
 // holds the secrets of the ECUs, and under HMAC those of the repositories' roles too.
@@ -12,6 +13,7 @@ import { existsSync, readFileSync, renameSync, writeFileSync } from 'node:fs';
 import { join } from 'node:path';
 
 class Failed extends Error {} // what ends a round without a verdict
+class Stopped extends Error {} // the power is gone, as the vectors have it
 class Refused extends Error {}
 class Old extends Refused {} // good once: a new manifest brings new metadata
 
@@ -158,11 +160,12 @@ function built({ vehicle, primary, key, counter, reports }) {
   return sealed(bytes(key), canonical({ type: 'manifest', vehicle, primary, counter, reports: envelopes.map(read) }));
 }
 
+// The greatest number is never signed: no counter would come behind it.
 function manifest(vehicle, now) {
+  if (Math.max(...[vehicle, ...vehicle.ecus].map((it) => it.counter)) + 1 >= MOST) throw new Failed('no counter is left');
   vehicle.counter += 1;
   const reports = vehicle.ecus.map((ecu) => {
     ecu.counter += 1;
-    if (Math.max(ecu.counter, vehicle.counter) >= MOST) throw new Failed(`the counters of ${ecu.ecu} come to their end`);
     return { ...ecu.installed, ecu: ecu.ecu, key: ecu.secret, counter: ecu.counter, time: now, attack: ecu.attack };
   });
   return built({ ...vehicle, key: vehicle.ecus.find((it) => it.ecu === vehicle.primary).secret, reports });
@@ -349,7 +352,23 @@ function checkImage(target, content) {
 
 // ---- rounds
 
-const WAITS = [1, 3, 9, 0], PATIENCE = 100_000;
+const WAITS = [1, 3, 9, 0], PATIENCE = 100_000, INTERVAL = 86_400, SOON = 300;
+const between = (least, most) => least + Math.random() * (most - least);
+
+// What the vectors of rounds put others in the place of: one answer, of at most a byte more than a file may have, the clock, and a wait.
+const world = {
+  async exchanged(url, body) {
+    const came = await fetch(url, { method: body ? 'POST' : 'GET', body, signal: AbortSignal.timeout(PATIENCE) }), pieces = [];
+    let length = 0;
+    for await (const piece of came.body ?? []) {
+      pieces.push(piece);
+      if ((length += piece.length) > LARGEST) break;
+    }
+    return { status: came.status, text: Buffer.concat(pieces).toString('latin1') };
+  },
+  now: () => Math.floor(Date.now() / 1000),
+  sleep: (seconds) => new Promise((done) => setTimeout(done, seconds * 1000)),
+};
 
 // What a Primary does after an answer: `read` it; send the same `again`, since the answer is no verdict on it; raise the manifest's
 // `counter`, or that of an ECU's `report`; or nothing until somebody has made good what the answer names.
@@ -376,17 +395,12 @@ function ofGet(status, text) {
 async function asked(url, body) {
   for (const wait of WAITS) {
     try {
-      const came = await fetch(url, { method: body ? 'POST' : 'GET', body, signal: AbortSignal.timeout(PATIENCE) });
-      const pieces = [];
-      let length = 0;
-      for await (const piece of came.body ?? []) {
-        pieces.push(piece);
-        expect((length += piece.length) <= LARGEST, `${url} has no end`);
-      }
-      const text = Buffer.concat(pieces).toString('latin1'), [what, value] = follows(came.status, text);
-      if (what !== 'again') return { status: came.status, text, what, value };
-    } catch (wrong) { if (wrong instanceof Refused) throw wrong; /* else there was no answer */ }
-    if (wait) await new Promise((done) => setTimeout(done, wait * 1000 * (1 + Math.random() / 2)));
+      const { status, text } = await world.exchanged(url, body);
+      expect(text.length <= LARGEST, `${url} has no end`);
+      const [what, value] = follows(status, text);
+      if (what !== 'again') return { status, text, what, value };
+    } catch (wrong) { if (wrong instanceof Refused || wrong instanceof Stopped) throw wrong; /* else there was no answer */ }
+    if (wait) await world.sleep(wait * between(1, 1.5));
   }
   throw new Failed(`no answer from ${url}`);
 }
@@ -404,11 +418,12 @@ async function answered(vehicle, url, save) {
   const secrets = Object.fromEntries((vehicle.role_secrets ?? []).map((it) => [keyid(bytes(it)), bytes(it)]));
   let isSecond = false;
   for (let turn = 0; turn < 2 + 2 * vehicle.ecus.length; turn += 1) {
-    const now = Math.floor(Date.now() / 1000);
+    const now = world.now();
     vehicle.pending ??= manifest(vehicle, now);
     save();
-    const { status, text, what, value } = await asked(`${url}/director/manifest`, vehicle.pending);
+    let status, text, what, value;
     try {
+      ({ status, text, what, value } = await asked(`${url}/director/manifest`, vehicle.pending));
       if (what === 'read') return await verified(vehicle, replyOf(text), fetcher(url), secrets, now);
     } catch (wrong) {
       if (wrong instanceof Refused) vehicle.pending = null;
@@ -419,8 +434,8 @@ async function answered(vehicle, url, save) {
     }
     vehicle.pending = null;
     if (what === 'counter') vehicle.counter = Math.max(vehicle.counter, value);
-    // (no one says what an ECU's last counter was: twice what was refused comes above any other in a few tries)
-    else if (what === 'report') vehicle.ecus.filter((it) => it.ecu === value).forEach((it) => { it.counter = Math.max(2 * it.counter, now); });
+    // (no one says what an ECU's last counter was: the next is the time, or twice what was refused, which comes above any other in a few tries)
+    else if (what === 'report') vehicle.ecus.filter((it) => it.ecu === value).forEach((it) => { it.counter = Math.max(2 * it.counter, now) - 1; });
     else if (what === 'mend') throw new Failed(`${status} ${text}`);
   }
   throw new Failed('the service goes on refusing the counters');
@@ -429,16 +444,23 @@ async function answered(vehicle, url, save) {
 // A filename is not a path: `/` and a first `.` are written as %2F and %2E.
 const pathOf = (images, file) => join(images, encodeURIComponent(file).replace(/^\./, '%2E'));
 
-// Installs all that is due, once each image is there and is what was meant: one may need another.
-function install(vehicle, due, images) {
-  const ecus = vehicle.ecus.filter((it) => due[it.ecu]), has = (it) => images && existsSync(pathOf(images, due[it.ecu].file));
-  for (const { ecu } of ecus.filter((it) => !has(it))) console.log(`${ecu} is to install ${due[ecu].file}, which isn't here yet`);
-  for (const { ecu } of ecus.filter(has)) checkImage(due[ecu], readFileSync(pathOf(images, due[ecu].file)));
-  for (const it of ecus.every(has) ? ecus : []) {
+const imagesIn = (folder) => (file) => (folder && existsSync(pathOf(folder, file)) ? readFileSync(pathOf(folder, file)) : null);
+
+// Installs all that is due, once each image is there and is what was meant: one may need another. Returns how many were installed, and
+// nothing where one isn't there.
+function install(vehicle, due, image) {
+  const ecus = vehicle.ecus.filter((it) => due[it.ecu]), contents = ecus.map((it) => image(due[it.ecu].file));
+  ecus.forEach(({ ecu }, at) => {
+    if (contents[at] === null) console.log(`${ecu} is to install ${due[ecu].file}, which isn't here yet`);
+    else checkImage(due[ecu], contents[at]);
+  });
+  if (contents.includes(null)) return null;
+  for (const it of ecus) {
     const target = due[it.ecu];
     it.installed = { file: target.file, length: target.length, ...hashesOf(target.hashes), release: target.release };
     console.log(`${it.ecu} installed ${target.file}`);
   }
+  return ecus.length;
 }
 
 function write(path, vehicle) {
@@ -446,21 +468,53 @@ function write(path, vehicle) {
   renameSync(`${path}.new`, path);
 }
 
-// A round. What is wrong with the metadata or an image is told in the Primary's own report, until a reply is accepted again.
-async function round(url, path, images) {
-  const vehicle = read(readFileSync(path, 'ascii')), save = () => write(path, vehicle), own = vehicle.ecus.find((it) => it.ecu === vehicle.primary);
-  method = vehicle.method ?? method;
+// A round, and what `install` returns. What is wrong with the metadata or an image is told in the Primary's own report, until metadata is
+// accepted again.
+async function went(vehicle, url, save, image) {
+  const own = vehicle.ecus.find((it) => it.ecu === vehicle.primary);
   try {
     const due = await answered(vehicle, url, save);
     Object.assign(vehicle, { pending: null });
     own.attack = '';
     save();
-    install(vehicle, due, images);
+    const installed = install(vehicle, due, image);
     console.log(`verified: version ${vehicle.director.versions.targets}, targets ${Object.keys(due).length}`);
+    return installed;
   } catch (wrong) {
     if (wrong instanceof Refused) own.attack = wrong.message.replace(/[^ -~]/g, '').slice(0, 256);
     throw wrong;
   } finally { save(); }
+}
+
+async function round(url, path, images) {
+  const vehicle = read(readFileSync(path, 'ascii'));
+  method = vehicle.method ?? method;
+  return went(vehicle, url, () => write(path, vehicle), imagesIn(images));
+}
+
+// The seconds until the next round, behind so many that failed in a row. They differ at random, so that a fleet doesn't come at one moment.
+function pause(failed, installed) {
+  if (!failed && !installed) return between(0.9, 1.1) * INTERVAL;
+  return between(0.5, 1) * Math.min(INTERVAL, SOON * 2 ** Math.max(failed - 1, 0));
+}
+
+// Goes a round: how many have failed in a row by then, and the seconds until the next. An image that isn't there is a failure too.
+async function behind(go, before) {
+  let installed = null;
+  try { installed = await go(); } catch (wrong) {
+    if (wrong instanceof Stopped) throw wrong;
+    console.error(`primary: ${wrong.message}`);
+  }
+  const failed = installed === null ? before + 1 : 0;
+  return [failed, pause(failed, installed)];
+}
+
+async function rounds(...words) {
+  for (let failed = 0, wait = 0; ;) {
+    [failed, wait] = await behind(() => round(...words), failed);
+    console.log(`the next round is in ${Math.floor(wait / 60)} minutes`);
+    await world.sleep(wait);
+  }
 }
 
 async function trust(url, path) {
@@ -495,6 +549,7 @@ async function vectors(folder) {
     signatures(load(`${method}/signatures`), compare);
     for (const it of load(`${method}/manifests`).builds) compare(it.name, built(it.build), it.body);
     await chains(load(`${method}/chains`), compare, got);
+    await ofRounds(load(`${method}/rounds`), compare);
   }
   console.log(`${tried - other} passed, ${other} failed`);
   return other ? 1 : 0;
@@ -539,6 +594,103 @@ async function chains(vector, compare, got) {
   for (const it of vector.contents) compare(it.name, got(() => checkImage(it.target, Buffer.from(it.content))) !== null, it.verdict === 'accepted');
 }
 
+// A case of rounds: what is seen of each, in the form in which the case has what is due.
+async function ofRounds(told, compare) {
+  const own = { ...world }, { log, error } = console;
+  for (const it of told.cases) {
+    const vehicle = knownAt(told, it), seen = [];
+    let failed = it.knows?.failed ?? 0, last = { counter: vehicle.counter, counters: {} }, kept = vehicle;
+    for (const ecu of vehicle.ecus) last.counters[ecu.ecu] = ecu.counter;
+    Object.assign(console, { log() {}, error() {} });
+    for (const due of it.rounds) {
+      const known = structuredClone(kept), line = lineOf(told, due);
+      for (const repository of ['director', 'image']) withText(known[repository].root, '');
+      for (const ecu of known.ecus.filter((one) => due.replaced?.[one.ecu])) {
+        (known.replaced ??= []).push(ecu.ecu);
+        Object.assign(ecu, { ecu: due.replaced[ecu.ecu], counter: 0 });
+      }
+      const before = Object.fromEntries(known.ecus.map((one) => [one.ecu, one.installed.file])), images = { ...told.images, ...due.images };
+      kept = structuredClone(known);
+      const save = () => { if (line.isUp) kept = structuredClone(known); };
+      const image = (file) => (typeof images[file] === 'string' ? Buffer.from(images[file]) : null);
+      let verdict = null, wait = null;
+      const now = due.now ?? told.now;
+      Object.assign(world, { exchanged: line.exchanged, now: () => now, sleep: async (seconds) => { line.waits.push(seconds); } });
+      const go = async () => {
+        try {
+          const done = await went(known, 'http://desk', save, image);
+          verdict = 'accepted';
+          return done;
+        } catch (wrong) {
+          if (wrong instanceof Refused) verdict = 'refused';
+          throw wrong;
+        }
+      };
+      try { [failed, wait] = await behind(go, failed); } catch { verdict = 'stopped'; }
+      const sent = line.sent.map((body, at) => {
+        const [is, next] = sentAs(body, due.sent[at] ?? {}, last, { before, own: vehicle.primary, now });
+        last = next;
+        return is;
+      });
+      const isIn = (value, bounds) => (bounds ? value !== null && value >= bounds[0] && value <= bounds[1] : value === null);
+      const installed = known.ecus.filter((one) => one.installed.file !== before[one.ecu]).map((one) => [one.ecu, one.installed.file]);
+      const waits = line.waits.map((value, at) => (isIn(value, [due.waits[at], 1.5 * due.waits[at]]) ? due.waits[at] : value));
+      const states = Object.keys(due.trusts ?? {}).map((one) => (
+        [one, { root: kept[one].root.signed.version, timestamp: 0, snapshot: 0, targets: 0, ...kept[one].versions }]));
+      seen.push([sent, verdict, waits, isIn(wait, due.next) ? due.next : wait, Object.fromEntries(installed),
+        due.fetched ? line.fetched : null, Object.fromEntries(states)]);
+    }
+    Object.assign(console, { log, error });
+    compare(`rounds: ${it.name}`, seen, it.rounds.map((due) => (
+      [due.sent, due.verdict, due.waits, due.next, due.installs ?? {}, due.fetched ?? null, due.trusts ?? {}])));
+  }
+  Object.assign(world, own);
+}
+
+function knownAt({ vehicle: { role_keys: keys, ...vehicle }, files }, { knows = {} }) {
+  const known = (repository) => ({ root: read(files[`${repository}/1.root.json`]), versions: { ...knows.trusted?.[repository] } });
+  const ecus = vehicle.ecus.map(({ installed: { hashes, ...installed }, ...ecu }) => (
+    { ...ecu, installed: { ...installed, ...hashes }, counter: knows.counters?.[ecu.ecu] ?? ecu.counter }));
+  const more = { role_secrets: Object.values(keys), director: known('director'), image: known('image') };
+  return { ...vehicle, ecus, counter: knows.counter ?? vehicle.counter, ...more };
+}
+
+// What answers a round as its vector says, and notes what is sent and fetched.
+function lineOf(told, due) {
+  const posts = [...due.answers], gets = structuredClone(due.gets ?? {}), line = { isUp: true, sent: [], waits: [], fetched: {} };
+  const fileAt = (name) => {
+    if (gets[name]) return gets[name].length > 1 ? gets[name].shift() : gets[name][0];
+    return name in told.files ? { status: 200, body: told.files[name] } : { status: 404, body: '{"error":29,"text":"UnknownFile"}' };
+  };
+  line.exchanged = async (url, body) => {
+    const name = url.replace('http://desk/', '');
+    if (body) line.sent.push(body);
+    else line.fetched[name] = (line.fetched[name] ?? 0) + 1;
+    const came = body ? posts.shift() ?? null : fileAt(name);
+    line.isUp = came !== 'stop';
+    if (!line.isUp) throw new Stopped('stop');
+    if (came === null) throw new Error('no answer');
+    return { status: came.status, text: (came.text === undefined ? came.body : told.texts[came.text]).padEnd(came.bytes ?? 0) };
+  };
+  return line;
+}
+
+// What is due where the body is it, and else the body; and what was sent last from then on.
+function sentAs(body, due, last, { before, own, now }) {
+  if (!due.new) return [body === last.body ? due : body, { ...last, body }];
+  const { signed } = JSON.parse(body), reports = Object.fromEntries(signed.reports.map((it) => [it.signed.ecu, it]));
+  const isReport = ([name, it]) => {
+    const { counter, attack, image } = it.signed, least = last.counters[name] ?? -1;
+    const isCounter = (least < counter && counter < MOST) || JSON.stringify(it) === JSON.stringify(last.reports?.[name]);
+    const isRaised = due.raised !== name || counter === Math.max(2 * least, now);
+    return isCounter && isRaised && (attack !== '') === (name === own && due.attack) && image.file === before[name];
+  };
+  const isAll = signed.reports.length === Object.keys(before).length && Object.entries(reports).every(isReport);
+  const is = isAll && signed.counter > Math.max(last.counter, due.above ?? 0) && signed.counter < MOST;
+  const counters = Object.fromEntries(Object.entries(reports).map(([name, it]) => [name, it.signed.counter]));
+  return [is ? due : body, { body, counter: signed.counter, counters, reports }];
+}
+
 // ---- words
 
 const [word, ...given] = process.argv.slice(2);
@@ -546,8 +698,9 @@ try {
   if (word === 'vectors' && given.length === 1) process.exitCode = await vectors(given[0]);
   else if (word === 'trust' && given.length === 2) await trust(...given);
   else if (word === 'round' && (given.length === 2 || given.length === 3)) await round(...given);
+  else if (word === 'rounds' && (given.length === 2 || given.length === 3)) await rounds(...given);
   else {
-    console.error('primary.mjs vectors FOLDER | trust URL VEHICLE | round URL VEHICLE [IMAGES]');
+    console.error('primary.mjs vectors FOLDER | trust URL VEHICLE | round URL VEHICLE [IMAGES] | rounds URL VEHICLE [IMAGES]');
     process.exitCode = 2;
   }
 } catch (wrong) {

@@ -14,7 +14,7 @@ import sys
 from typing import Any, Iterator
 
 from uptane_tools import RUN, TOP, arguments
-from uptane_tools.oracle import vector_forms, vector_verdicts, verification
+from uptane_tools.oracle import vector_forms, vector_rounds, vector_verdicts, verification
 from uptane_tools.oracle.reference import METHOD, SCHEME
 from uptane_tools.oracle.schemes import Ed25519, HmacSha256, key_identifier
 from uptane_tools.oracle.vector_answers import answers, files
@@ -26,7 +26,7 @@ from uptane_tools.oracle.vector_signatures import (canonical_texts, encodings, e
 
 FOLDER = TOP / "vectors"
 SHARED = ("canonical_texts.json", "key_identifiers.json", "answers.json")
-OF_A_SCHEME = ("signatures.json", "manifests.json", "replies.json", "chains.json")
+OF_A_SCHEME = ("signatures.json", "manifests.json", "replies.json", "chains.json", "rounds.json")
 
 # ---- files
 
@@ -118,6 +118,14 @@ def of_the_scheme() -> list[tuple[str, str]]:
                         made, {
                             base: (*vector_forms.CASES[base], *vector_verdicts.CASES[base])
                             for base in made}))), listed("contents", contents())))
+    update = made["update"]
+    contained.append(
+        text("rounds of a vehicle: what comes back, and what it sends, waits, installs and trusts",
+             method, member("now", NOW),
+             member("vehicle", vector_rounds.KNOWN | {"role_keys": known_keys()}),
+             by_name("files", vector_rounds.files(update)),
+             by_name("texts", vector_rounds.texts(update)), member("images", vector_rounds.IMAGES),
+             listed("cases", vector_rounds.cases())))
     return [("%s/%s" % (METHOD, name), it) for name, it in zip(OF_A_SCHEME, contained, strict=True)]
 
 

@@ -524,7 +524,7 @@ def two_names(it: Chain, own: list[str], before: list[str]) -> dict[str, str]:
     return {"director/2.root.json": canonical(made)}
 
 
-VEHICLE = {
+VEHICLE: dict[str, Any] = {
     "vehicle": "VIN-1", "primary": "gw", "ecus": [{
         "ecu": ecu, "hardware": kind,
         "installed": image_of("gateway-1.bin" if kind == "GW" else "brake-1.bin") | {"release": 1}}

@@ -1025,6 +1025,7 @@ def paced():
             raise primary.Failed("no answer")
         if len(rounds) == 5:
             raise KeyboardInterrupt
+        return 0
 
     before = primary.go_round, primary.time.sleep
     primary.go_round, primary.time.sleep = round, slept.append

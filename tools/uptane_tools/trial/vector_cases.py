@@ -20,7 +20,7 @@ from contextlib import closing
 from uptane_tools import arguments
 from uptane_tools.measure import fleet
 from uptane_tools.oracle import make_vectors, reference, schemes, vector_fleet
-from uptane_tools.trial import http_cases, small_primary, trials
+from uptane_tools.trial import http_cases, small_primary, small_rounds, trials
 
 PRIMARY = trials.TOP / "examples" / "primary"
 envelopes, verify, primary = small_primary.modules()
@@ -89,6 +89,9 @@ def under(method):
     for case in vectors("manifests", method)["builds"]:
         yield "build: %(name)s" % case, build_is_answered(SMALL, case)
     yield from verified(SMALL, method)
+    told = vectors("rounds", method)
+    for case in told["cases"]:
+        yield "rounds: %(name)s" % case, small_rounds.is_answered(SMALL, told, case)
     told = vectors("chains", method)
     yield "a change of the repository between two requests", begins_again(told)
     if told["vehicle"]["role_keys"]:

@@ -13,7 +13,7 @@ from dataclasses import dataclass
 from pathlib import Path
 
 from uptane_tools import arguments
-from uptane_tools.trial import trials, vector_cases
+from uptane_tools.trial import small_rounds, trials, vector_cases
 
 NAMES = ("ed25519", "envelopes", "forms", "verify", "primary")
 FOLDER = trials.TOP / "examples" / "primary"
@@ -99,6 +99,10 @@ def vectors():
             yield (method, case["name"]), functools.partial(chain, told=told, case=case)
         for case in told["contents"]:
             yield (method, case["name"]), functools.partial(image, case=case)
+        told = vector_cases.vectors("rounds", method)
+        for case in told["cases"]:
+            rounds = functools.partial(small_rounds.is_answered, told=told, case=case)
+            yield (method, "rounds: " + case["name"]), rounds
         for case in vector_cases.vectors("manifests", method)["builds"]:
             build = vector_cases.build_is_answered
             yield (method, "build: " + case["name"]), functools.partial(build, case=case)

@@ -1,0 +1,294 @@
+"""Test vectors of a vehicle's rounds: what comes back, one answer after another, and what a Primary
+sends, waits, installs and trusts then. What it has to do is written by hand, from the rules of
+`docs/integrate/PRIMARY.md`.
+"""
+from uptane_tools.operate.formats import MOST
+from uptane_tools.oracle.vector_answers import told
+from uptane_tools.oracle.vector_chains import INSTALLS, VEHICLE, members, nothing, target
+from uptane_tools.oracle.vector_fleet import CONTENT, ECUS, FIRST, NOW, moment
+from uptane_tools.oracle.vector_forms import numbered
+
+LARGEST = 4_194_304
+# what the vehicle knows: each of its ECUs has its secret, and reported by this counter last
+KNOWN = VEHICLE | {
+    "counter": 4, "ecus": [
+        it | {"secret": ECUS["VIN-1"][it["ecu"]][1], "counter": 4} for it in VEHICLE["ecus"]]}
+IMAGES = {name: CONTENT[name] for name in sorted({*INSTALLS.values()})}
+ROOT, TARGETS = "director/2.root.json", "image/targets.json"
+OF_IMAGES = {
+    "image/%s" % it: 1 for it in ("2.root.json", "timestamp.json", "snapshot.json", "targets.json")}
+# seconds until the next round: at least, at most
+DAILY, SOON = [77760, 95040], [150, 300]
+NONE, STOP = None, "stop"
+SAME = {"new": False}
+
+
+def texts(it):
+    """The replies and the files that cases name."""
+    empty = members(targets=[])
+    return {
+        "nothing": it.director("targets", empty)["reply"],
+        "update": it.files["reply"], "another vehicle's": it.other, "expired": it.director(
+            "timestamp", members(expires=moment(NOW)))["reply"], "of root 2": it.director(
+                "targets", empty, root=2)["reply"], "unknown image": it.director(
+                    "targets", target(release=9))["reply"],
+        "of version 3": numbered(it, 3)["reply"], "targets": it.files[TARGETS], "root 2": it.root(
+            nothing, FIRST["director"]["root"]["keys"])[ROOT], "other targets": it.image(
+                "targets", members(version=4))[TARGETS]}
+
+
+def files(it):
+    return {name: text for name, text in it.files.items() if name != "reply"}
+
+
+# ---- what comes back, and what was sent
+
+
+def comes(name, **more):
+    return {"status": 200, "text": name} | more
+
+
+def refusal(status, number, words):
+    return {"status": status, "body": told(number, words)}
+
+
+def body(status, words, **more):
+    return {"status": status, "body": words} | more
+
+
+def new(attack=False, **more):
+    return {"new": True, "attack": attack} | more
+
+
+NO_FILE = refusal(404, 29, "UnknownFile")
+FOUR = 4 * [NONE]
+ALL = [1, 3, 9]
+
+
+def behind(failed):
+    """The seconds until the next round behind so many in a row that failed."""
+    most = min(86400, 300 * 2**(failed - 1))
+    return [most // 2, most]
+
+
+def state(director, image, root=1):
+    versions = [dict.fromkeys(("timestamp", "snapshot", "targets"), it) for it in (director, image)]
+    return {"director": {"root": root} | versions[0], "image": {"root": 1} | versions[1]}
+
+
+def gone(answers, sent, verdict, wait, waits=(), **more):
+    """A round: what comes to its manifests, and what is to be seen of it."""
+    return {"answers": answers, "sent": sent, "verdict": verdict, "waits": [*waits], "next": wait
+            } | more
+
+
+def well(*, attack=False, **more):
+    """A round in which nothing is assigned."""
+    given = {"trusts": state(1, 0)} | more
+    return gone([comes("nothing")], [new(attack)], "accepted", DAILY, **given)
+
+
+def without(failed, sent=None, **more):
+    """A round in which no answer comes."""
+    return gone(FOUR, sent or [new(), *3 * [SAME]], None, behind(failed), ALL, **more)
+
+
+def again(**more):
+    """A round that sends the last body again, to which nothing is assigned."""
+    return gone([comes("nothing")], [SAME], "accepted", DAILY, trusts=state(1, 0), **more)
+
+
+def updated(wait=None, *, attack=False, **more):
+    """A round in which all ECUs install something."""
+    given = {"installs": INSTALLS, "trusts": state(1, 5), "fetched": {ROOT: 1} | OF_IMAGES} | more
+    return gone([comes("update")], [new(attack)], "accepted", wait or SOON, **given)
+
+
+def refused(reply="another vehicle's", *, failed=1, attack=False, **more):
+    return gone([comes(reply)], [new(attack)], "refused", behind(failed), **more)
+
+
+# ---- the cases: a name, what the vehicle knows otherwise, and its rounds
+
+
+def of_answers():
+    yield "nothing is assigned", {}, [well(fetched={ROOT: 1})]
+    yield "an update, and what is reported then", {}, [updated(), well(trusts=state(1, 5))]
+    yield "three times no answer", {}, [
+        gone([*3 * [NONE], comes("nothing")], [new(), *3 * [SAME]], "accepted", DAILY, ALL)]
+    yield "no answer at all: the same body in the next round", {}, [without(1), again()]
+    strange = [
+        body(502, "<html>502</html>"),
+        refusal(503, 1, "Memory"),
+        refusal(400, 0, "bad request"),
+        comes("nothing")]
+    yield "answers that are no verdict on the body", {}, [
+        gone(strange, [new(), *3 * [SAME]], "accepted", DAILY, ALL)]
+    same = 4 * [SAME]
+    yield "rounds that fail wait longer, until one doesn't", {}, [
+        without(1), without(2, same),
+        without(3, same), again(),
+        without(1)]
+    yield "twenty rounds have failed: a day at most", {"failed": 19}, [without(20)]
+    yield "a stop before the answer: the same body", {}, [
+        gone([STOP], [new()], "stopped", None),
+        again(now=NOW + 60)]
+    yield "a body of more bytes than are read", {}, [
+        gone([body(200, "", bytes=LARGEST + 1)], [new()], "refused", SOON, trusts=state(0, 0)),
+        well(attack=True)]
+    yield "more bytes than are read, with another status", {}, [
+        gone([body(502, "", bytes=LARGEST + 1)], [new()], "refused", SOON)]
+    yield "a reply of as many bytes as are read", {}, [
+        gone([comes("nothing", bytes=LARGEST)], [new()], "accepted", DAILY)]
+
+
+def of_counters():
+
+    def stale(number):
+        return refusal(409, 13, "Stale %d" % number)
+
+    def replayed(ecu):
+        return refusal(409, 18, "ReportReplayed %s" % ecu)
+
+    found = comes("nothing")
+    yield "a counter that was lost", {}, [
+        gone([stale(70), found], [new(), new(above=70)], "accepted", DAILY)]
+    yield "13 with a number below the counter that was sent", {}, [
+        gone([stale(2), found], [new(), new()], "accepted", DAILY)]
+    for name, number in (("the one before the greatest", MOST - 1), ("the greatest counter", MOST)):
+        yield "13 names %s: no counter is left" % name, {}, [
+            gone([stale(number)], [new()], None, SOON)]
+    yield "a manifest's counter is the one before the greatest", {"counter": MOST - 1}, [
+        gone([], [], None, SOON)]
+    yield "a report's counter that was lost", {}, [
+        gone([replayed("left"), found], [new(), new(raised="left")], "accepted", DAILY)]
+    yield "one that was above the clock", {}, [
+        gone([replayed("left")] * 3 + [found], [new(), *3 * [new(raised="left")]], "accepted",
+             DAILY)]
+    yield "twice the counter would be too much", {"counters": {"left": MOST // 2 + 1}}, [
+        gone([replayed("left")], [new()], None, SOON)]
+    raised = [new(raised="left"), new(raised="right")]
+    answers = [replayed("left"), replayed("right"), stale(70)]
+    sent = [*raised, new(above=70)]
+    yield "seven refused manifests, and the eighth accepted", {}, [
+        gone(2 * answers + [stale(99), found],
+             [new(), *sent, *sent, new(above=99)], "accepted", DAILY)]
+    yield "eight refused manifests: the round ends, and the next has a new one", {}, [
+        gone(2 * answers + [stale(99), stale(999)],
+             [new(), *sent, *sent, new(above=99)], None, SOON),
+        well()]
+    yield "no answer behind a counter: the same body in the next round", {}, [
+        gone([stale(70), *FOUR], [new(), new(above=70), *3 * [SAME]], None, SOON, ALL),
+        again()]
+    yield "no try counts twice: the body is sent again, and is refused 18", {}, [
+        gone([NONE, replayed("gw"), NONE, found], [new(), SAME, new(raised="gw"), SAME], "accepted",
+             DAILY, [1, 1])]
+
+
+def of_mending():
+    put = {"replaced": {"left": "left-2"}}
+    yield "an ECU was replaced before its report arrived", {}, [
+        without(1),
+        gone([refusal(409, 14, "UnknownEcu left")], [SAME], None, behind(2), **put),
+        well()]
+    yield "the inventory has another ECU than the vehicle", {}, [
+        gone([refusal(409, 16, "MissingEcu left-2")], [new()], None, SOON),
+        well(**put)]
+    yield "what isn't mended is refused anew", {}, [
+        gone([refusal(403, 12, "BadManifestSignature")], [new()], None, behind(it)) for it in (1, 2)
+    ]
+    yield "an error that nobody knows", {}, [
+        gone([refusal(404, 29, "UnknownFile")], [new()], None, SOON),
+        well()]
+
+
+def of_verdicts():
+    yield "a refused reply: an attack, until a reply is accepted", {}, [
+        refused(fetched={ROOT: 1}, trusts=state(0, 0)),
+        well(attack=True),
+        well()]
+    yield "the attack is told in each manifest", {}, [
+        refused(),
+        gone([refusal(409, 13, "Stale 70"), *FOUR],
+             [new(True), new(True, above=70), *3 * [SAME]], None, behind(2), ALL),
+        again(),
+        well()]
+    old, found = comes("expired"), comes("nothing")
+    yield "an old reply, and a new manifest at once", {}, [
+        gone([old, found], [new(), new()], "accepted", DAILY, trusts=state(1, 0))]
+    yield "a second old reply is refused, and an attack", {}, [
+        gone([old, old], [new(), new()], "refused", SOON, trusts=state(0, 0)),
+        well(attack=True)]
+    yield "the second old reply comes behind another refusal", {}, [
+        gone([old, refusal(409, 13, "Stale 70"), old], [new(), new(), new(above=70)], "refused",
+             SOON)]
+    yield "an old reply in each of two rounds", {}, [
+        gone([old, found], [new(), new()], "accepted", DAILY),
+        gone([old, found], [new(), new()], "accepted", DAILY)]
+    yield "an old reply, and no answer to the new manifest", {}, [
+        gone([old, *FOUR], [new(), new(), *3 * [SAME]], None, SOON, ALL),
+        again()]
+    yield "a kept reply of an older Root: the newer one is trusted", {}, [
+        gone([found, comes("of root 2")], [new(), new()], "accepted", DAILY, gets={
+            ROOT: [comes("root 2")]}, trusts=state(1, 0, root=2))]
+    yield "a kept reply from before an ECU was replaced", {}, [
+        without(1),
+        gone([comes("update"), found], [SAME, new()], "accepted", DAILY, replaced={
+            "left": "left-2"})]
+    known = {"trusted": {"director": {"timestamp": 3, "snapshot": 3, "targets": 3}}}
+    yield "a restored database comes up to the version that the vehicle keeps", known, [
+        refused("update", trusts=state(3, 0)),
+        gone([comes("of version 3")], [new(True)], "accepted", SOON, installs=INSTALLS,
+             trusts=state(3, 5))]
+
+
+def of_files():
+    got = comes("nothing")
+    yield "no answer to a GET, twice", {}, [
+        gone([got], [new()], "accepted", DAILY, [1, 3], gets={ROOT: [NONE, NONE, NO_FILE]},
+             fetched={ROOT: 3})]
+    yield "no answer to a GET at all: the same body in the next round", {}, [
+        gone([got], [new()], None, SOON, ALL, gets={ROOT: [NONE]}, fetched={ROOT: 4}, trusts=state(
+            0, 0)),
+        again()]
+    yield "a proxy's page with status 200 to a GET", {}, [
+        gone([got], [new()], "accepted", DAILY, [1], gets={
+            ROOT: [body(200, "<html>200</html>"), NO_FILE]}, fetched={ROOT: 2})]
+    yield "29 with another status than 404 to a GET", {}, [
+        gone([got], [new()], None, SOON, gets={ROOT: [refusal(400, 29, "UnknownFile")]}, fetched={
+            ROOT: 1}),
+        again()]
+    twice = {ROOT: 1} | dict.fromkeys(OF_IMAGES, 2)
+    yield "the Image repository changes between two requests", {}, [
+        updated(gets={TARGETS: [comes("other targets"), comes("targets")]}, fetched=twice)]
+    yield "its Targets come at the second time alone", {}, [
+        updated(gets={TARGETS: [NO_FILE, comes("targets")]}, fetched=twice)]
+    yield "the Image repository's files never fit", {}, [
+        refused("update", gets={TARGETS: [comes("other targets")]}, fetched=twice, trusts=state(
+            0, 0)),
+        well(attack=True)]
+    yield "the Image repository hasn't such an image: nothing is fetched once more", {}, [
+        refused("unknown image", fetched={ROOT: 1} | OF_IMAGES, trusts=state(0, 0))]
+
+
+def of_images():
+    brake = "brake-2.bin"
+    lacks = {"images": {brake: None}, "installs": {}}
+    yield "an image that can't be had", {}, [updated(**lacks), updated()]
+    yield "two rounds without it", {}, [updated(**lacks), updated(behind(2), **lacks)]
+    yield "an attack ends where an image can't be had", {}, [
+        refused(), updated(behind(2), attack=True, **lacks),
+        well(trusts=state(1, 5))]
+    other = IMAGES[brake].replace("2", "3")
+    yield "a wrong image: none is installed, and the versions are kept", {}, [
+        refused("update", images={brake: other}, trusts=state(1, 5)),
+        updated(attack=True),
+        well(trusts=state(1, 5))]
+    yield "a wrong image, and one that can't be had", {}, [
+        refused("update", images={brake: other, "gateway-2.bin": None})]
+
+
+def cases():
+    for of in (of_answers, of_counters, of_mending, of_verdicts, of_files, of_images):
+        for name, knows, rounds in of():
+            yield {"name": name} | ({"knows": knows} if knows else {}) | {"rounds": rounds}
