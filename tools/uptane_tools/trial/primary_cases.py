@@ -399,8 +399,7 @@ def by_the_page(program, own, primary=None):
     first = [
         "done", "done", "reply V1 version 1 targets 0",
         "trusted: root version 1 of both repositories", "verified: version 2, targets 0"]
-    second = [
-        "done", "done", "P1 installed gateway-1.bin", "verified: version 3, targets 1", "done"]
+    second = ["done", "done", "P1 installed gateway-1.bin", "verified: version 3, targets 1"]
     yield "the page's commands%s" % (" with `%s`" % primary if primary else
                                      ""), told == first + second and b"Traceback" not in ran.stderr
 

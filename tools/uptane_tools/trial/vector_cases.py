@@ -27,6 +27,8 @@ envelopes, verify, primary = small_primary.modules()
 # the small Primary in Python, whose modules these are
 SMALL = types.SimpleNamespace(envelopes=envelopes, primary=primary, verify=verify)
 FOLDER = trials.TOP / "vectors"
+# the members that have vectors
+CASES = {"cases", "files", "signatures", "encodings", "envelopes", "builds", "contents"}
 HMAC, METHOD = schemes.HmacSha256.method, reference.METHOD
 
 
@@ -46,6 +48,12 @@ def made():
     for text in shown:
         yield "the page shows %s.." % text[:60], any(text in it for it in texts)
     found = {str(path.relative_to(FOLDER)) for path in FOLDER.rglob("*") if path.is_file()}
+    lists = [
+        it for name in sorted(found - {"README.md"})
+        for it in json.loads((FOLDER / name).read_text(encoding="ascii")).items()]
+    count = sum(len(value) for name, value in lists if name in CASES and isinstance(value, list))
+    page = (FOLDER / "README.md").read_text(encoding="ascii")
+    yield "the page says that there are %d" % count, "\n\n%d, for " % count in page
     yield "there is no other file", found == make_vectors.names() | {"README.md"}
 
 
