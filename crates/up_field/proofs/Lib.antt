@@ -5,6 +5,8 @@ pub mod CombSteps
 pub mod Digits
 pub mod Doubling
 pub mod FarSteps
+pub mod Nearly
+pub mod Nothing
 pub mod OddSteps
 pub mod Pairs
 pub mod Powers

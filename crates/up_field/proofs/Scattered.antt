@@ -41,30 +41,41 @@ all_set P ds i d k l h j = from (k == i) refl
     from true e = subst P (sym (get_or-set_at ds i k d 0 (eqb-true k i e) l)) h
     from false e = subst P (sym (get_or-set_other ds i k d 0 (λ z. eqb_ne k i e z))) j
 
--- the last digits of each half of 256, so many
-abbrev pub halves : List ℕ → ℕ → ℕ
-halves ds i = scattered (drop (128 - i) (take 128 ds)) + 2 ^ 128 * scattered (drop (256 - i) ds)
+-- a digit more of 258
+pub last-none : (ds : List ℕ) → length ds ≡ 258 → scattered (drop (258 - 0) ds) ≡ 0
+last-none ds l = ap scattered (drop_all (258 - 0) ds (omega (arith, l))) ∙ scattered-nil
 
-module _ (ds : List ℕ) (l : length ds ≡ 256) where
-  half : length (take 128 ds) ≡ 128
-  half = length-take-le 128 ds (omega (arith, l))
+pub last-more : (ds : List ℕ) → length ds ≡ 258 → (i : ℕ) → i < 258 → 2 * scattered (drop (258 - i) ds) + get_or ds (257 - i) 0 ≡ scattered (drop (258 - (i + 1)) ds)
+last-more ds l i h =
+    let k = scattered-drop ds (257 - i) (omega (arith, h, l)) in
+    let x : scattered (drop (257 - i + 1) ds) ≡ scattered (drop (258 - i) ds) = ap (λ z. scattered (drop z ds)) (omega (arith, h)) in
+    let y : scattered (drop (258 - (i + 1)) ds) ≡ scattered (drop (257 - i) ds) = ap (λ z. scattered (drop z ds)) (omega (arith, h)) in
+    omega (arith, k, x, y)
+
+-- the last digits of each half of 258, so many
+abbrev pub halves : List ℕ → ℕ → ℕ
+halves ds i = scattered (drop (129 - i) (take 129 ds)) + 2 ^ 129 * scattered (drop (258 - i) ds)
+
+module _ (ds : List ℕ) (l : length ds ≡ 258) where
+  half : length (take 129 ds) ≡ 129
+  half = length-take-le 129 ds (omega (arith, l))
 
   pub halves-none : halves ds 0 ≡ 0
   halves-none =
-      let x : scattered (drop (128 - 0) (take 128 ds)) ≡ 0 = ap scattered (drop_all (128 - 0) (take 128 ds) (omega (arith, half))) ∙ scattered-nil in
-      let y : scattered (drop (256 - 0) ds) ≡ 0 = ap scattered (drop_all (256 - 0) ds (omega (arith, l))) ∙ scattered-nil in
+      let x : scattered (drop (129 - 0) (take 129 ds)) ≡ 0 = ap scattered (drop_all (129 - 0) (take 129 ds) (omega (arith, half))) ∙ scattered-nil in
+      let y : scattered (drop (258 - 0) ds) ≡ 0 = ap scattered (drop_all (258 - 0) ds (omega (arith, l))) ∙ scattered-nil in
       omega (arith, x, y)
 
-  pub halves-more : (i : ℕ) → i < 128 → 2 * halves ds i + get_or ds (127 - i) 0 + 2 ^ 128 * get_or ds (255 - i) 0 ≡ halves ds (i + 1)
+  pub halves-more : (i : ℕ) → i < 129 → 2 * halves ds i + get_or ds (128 - i) 0 + 2 ^ 129 * get_or ds (257 - i) 0 ≡ halves ds (i + 1)
   halves-more i h =
-      let low = scattered-drop (take 128 ds) (127 - i) (omega (arith, h, half)) in
-      let high = scattered-drop ds (255 - i) (omega (arith, h, l)) in
-      let g : get_or (take 128 ds) (127 - i) 0 ≡ get_or ds (127 - i) 0 = get_or-take 128 ds (127 - i) 0 (omega (arith, h)) in
-      let a : scattered (drop (127 - i + 1) (take 128 ds)) ≡ scattered (drop (128 - i) (take 128 ds)) = ap (λ z. scattered (drop z (take 128 ds))) (omega (arith, h)) in
-      let b : scattered (drop (128 - (i + 1)) (take 128 ds)) ≡ scattered (drop (127 - i) (take 128 ds)) = ap (λ z. scattered (drop z (take 128 ds))) (omega (arith, h)) in
-      let u : scattered (drop (255 - i + 1) ds) ≡ scattered (drop (256 - i) ds) = ap (λ z. scattered (drop z ds)) (omega (arith, h)) in
-      let v : scattered (drop (256 - (i + 1)) ds) ≡ scattered (drop (255 - i) ds) = ap (λ z. scattered (drop z ds)) (omega (arith, h)) in
+      let low = scattered-drop (take 129 ds) (128 - i) (omega (arith, h, half)) in
+      let high = scattered-drop ds (257 - i) (omega (arith, h, l)) in
+      let g : get_or (take 129 ds) (128 - i) 0 ≡ get_or ds (128 - i) 0 = get_or-take 129 ds (128 - i) 0 (omega (arith, h)) in
+      let a : scattered (drop (128 - i + 1) (take 129 ds)) ≡ scattered (drop (129 - i) (take 129 ds)) = ap (λ z. scattered (drop z (take 129 ds))) (omega (arith, h)) in
+      let b : scattered (drop (129 - (i + 1)) (take 129 ds)) ≡ scattered (drop (128 - i) (take 129 ds)) = ap (λ z. scattered (drop z (take 129 ds))) (omega (arith, h)) in
+      let u : scattered (drop (257 - i + 1) ds) ≡ scattered (drop (258 - i) ds) = ap (λ z. scattered (drop z ds)) (omega (arith, h)) in
+      let v : scattered (drop (258 - (i + 1)) ds) ≡ scattered (drop (257 - i) ds) = ap (λ z. scattered (drop z ds)) (omega (arith, h)) in
       omega (arith, low, high, g, a, b, u, v)
 
-  pub halves-all : halves ds 128 ≡ scattered ds
-  halves-all = scattered-halves 128 ds (omega (arith, l))
+  pub halves-all : halves ds 129 ≡ scattered ds
+  halves-all = scattered-halves 129 ds (omega (arith, l))

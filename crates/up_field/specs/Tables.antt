@@ -15,15 +15,11 @@ pair c e m n = add (multiple c m) (multiple e n)
 pub record IsTable (t : List Cached) (m : Point) : Type 0 where
   pub each : (k : ℕ) → k < 8 → (q : Cached) → Stores (slice_index_or t k q) (multiple (2 * k + 1) m)
 
--- the k-th entry keeps 2 k + 1 times the base point
-pub record AreOddMultiples (t : List Affine) : Type 0 where
-  pub keeps : (k : ℕ) → k < 64 → (q : Affine) → Keeps (slice_index_or t k q) (multiple (2 * k + 1) base)
+-- the k-th entry keeps 2 k + 1 times n times the base point
+pub record AreOddMultiples (n : ℕ) (t : List Affine) : Type 0 where
+  pub keeps : (k : ℕ) → k < 64 → (q : Affine) → Keeps (slice_index_or t k q) (multiple (n * (2 * k + 1)) base)
 
--- the k-th entry keeps 2 k + 1 times 2^128 times the base point
-pub record AreFarMultiples (t : List Affine) : Type 0 where
-  pub keeps : (k : ℕ) → k < 64 → (q : Affine) → Keeps (slice_index_or t k q) (multiple (2 ^ 128 * (2 * k + 1)) base)
-
--- they are odd multiples of the point, and of 2^128 times it
+-- they are odd multiples of the point, and of 2^129 times it
 pub record AreMultiples (t : Multiples) (m : Point) : Type 0 where
   pub low : IsTable t.low m
-  pub high : IsTable t.high (multiple (2 ^ 128) m)
+  pub high : IsTable t.high (multiple (2 ^ 129) m)

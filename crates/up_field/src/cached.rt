@@ -5,12 +5,13 @@ ghost use Rattle.up_field.specs.Cached.{Stores};
 ghost use Rattle.up_field.specs.Points.{number, Writes};
 ghost use Rattle.up_curve.specs.Curve.{d};
 ghost use Rattle.up_curve.specs.Curve.{Point, add as add_of};
+ghost use Rattle.up_curve.specs.Laws.{negated};
 
 use crate::linear::{add, sub};
 use crate::points::Extended;
 use crate::products::mul;
 use crate::sides::{cached_sides, whole};
-use crate::words::Words;
+use crate::words::{Words, zero};
 
 /// A point made ready for sums: its coordinates' sum and difference, twice z, and twice d times t.
 #[derive(Clone, Copy)]
@@ -43,6 +44,19 @@ pub(crate) fn ready(a: Extended) -> Cached
         minus: sub(a.y, a.x),
         z: add(a.z, a.z),
         t: mul(a.t, two_d()),
+    }
+}
+
+/// The point with the other sign, made ready for sums.
+#[inline(always)]
+pub(crate) fn opposite(e: Cached) -> Cached
+    ensures { (m : Point) → Stores e m → Stores result (negated m) }
+{
+    Cached {
+        plus: e.minus,
+        minus: e.plus,
+        z: e.z,
+        t: sub(zero(), e.t),
     }
 }
 

@@ -31,4 +31,5 @@ pub mod scalar;
 pub mod sides;
 pub mod sparse;
 pub mod squares;
+pub mod terms;
 pub mod words;

@@ -7,7 +7,7 @@ use crate::words::Words;
 
 /// The first 64 odd multiples of the base point.
 pub(crate) fn odd_table() -> &'static [Affine; 64]
-    ensures { AreOddMultiples result.now }
+    ensures { AreOddMultiples 1 result.now }
 {
     static ODD: [Affine; 64] = [
         Affine {

@@ -1,51 +1,139 @@
-//! Numbers in bits of which few stand, and stand for more than one: odd numbers, with 0 behind each.
-ghost use Rattle.std.specs.Prelude.{◌≡◌, ◌+◌, ◌*◌, ◌%◌, ◌<◌, ◌≤◌, ◌^◌, false};
-ghost use Rattle.up_field.specs.Limbs.{AreBelow};
-ghost use Rattle.up_field.specs.Sparse.{AreDigits, IsDigit, scattered};
+//! Numbers in bits of which few stand, and stand for more than one: odd numbers, some of them taken off, with 0 behind each.
+ghost use Rattle.std.specs.Prelude.{◌≡◌, ◌+◌, ◌*◌, ◌%◌, ◌<◌, ◌^◌, false, true};
+ghost use Rattle.up_field.specs.Points.{number};
+ghost use Rattle.up_field.specs.Sparse.{AreDigits, IsDigit, IsNearHalf, scattered};
 
 use crate::words::Words;
 
-/// A number in 256 digits, each 0 or odd: below 128 where they are wide, and else below 16.
-pub(crate) fn scatter(n: Words, wide: bool) -> [u8; 256]
-    requires { AreBelow (2 ^ 64) n.a n.b n.c n.d 0 }
-    ensures value { scattered result ≡ n.a + 2 ^ 64 * n.b + 2 ^ 128 * n.c + 2 ^ 192 * n.d }
-    ensures digits { AreDigits wide result }
+/// A number's digits: those that are added, and those that are taken off.
+#[derive(Clone, Copy)]
+pub(crate) struct Digits {
+    pub plus: [u8; 258],
+    pub minus: [u8; 258],
+}
+
+/// A digit, and half of the number without it: the words and the carry.
+#[derive(Clone, Copy)]
+struct Step {
+    pub plus: u64,
+    pub minus: u64,
+    pub rest: Words,
+    pub carry: u64,
+}
+
+/// A number in 258 digits, each 0 or odd: below 128 where they are wide, and else below 16.
+pub(crate) fn scatter(n: Words, wide: bool) -> Digits
+    ensures value { scattered result.plus ≡ number n + scattered result.minus }
+    ensures plus { AreDigits wide result.plus }
+    ensures minus { AreDigits wide result.minus }
 {
-    let mut out = [0u8; 256];
+    let mut plus = [0u8; 258];
+    let mut minus = [0u8; 258];
     let mut rest = n;
-    for i in 0..256usize {
-        let d = next_digit(rest.a, wide);
-        out[i] = d as u8;
-        rest = halved(rest, d);
+    let mut carry = 0u64;
+    for i in 0..258usize {
+        let s = next_digit(rest, carry, wide);
+        plus[i] = s.plus as u8;
+        minus[i] = s.minus as u8;
+        rest = s.rest;
+        carry = s.carry;
     }
-    out
+    Digits { plus, minus }
 }
 
-/// The lowest bits of a number, as one odd digit.
+/// The lowest digit of a number and a carry.
 #[inline(always)]
-fn next_digit(a: u64, wide: bool) -> u64
-    ensures digit { IsDigit wide result }
-    ensures low { result ≤ a }
-    ensures even { a % 2 ≡ result % 2 }
+fn next_digit(n: Words, carry: u64, wide: bool) -> Step
+    requires { carry < 2 }
+    ensures value { result.plus + 2 * (number result.rest + result.carry) ≡ number n + carry + result.minus }
+    ensures digits { IsDigit wide result.plus × IsDigit wide result.minus }
+    ensures carry { result.carry < 2 }
+    ensures near { IsNearHalf (number result.rest + result.carry) (number n + carry) }
 {
-    if a % 2 == 0 {
-        return 0;
+    if wide {
+        wide_digit(n, carry)
+    } else {
+        narrow_digit(n, carry)
     }
-    if wide { a % 128 } else { a % 16 }
 }
 
-/// Half of a number without its lowest digit.
+/// The lowest digit by eight bits, 0 where the sum is even. From half of 256 on what is missing is taken off.
 #[inline(always)]
-fn halved(n: Words, d: u64) -> Words
-    requires limit { AreBelow (2 ^ 64) n.a n.b n.c n.d 0 }
-    requires low { d ≤ n.a }
-    requires even { n.a % 2 ≡ d % 2 }
-    ensures value { d + 2 * (result.a + 2 ^ 64 * result.b + 2 ^ 128 * result.c + 2 ^ 192 * result.d)
-        ≡ n.a + 2 ^ 64 * n.b + 2 ^ 128 * n.c + 2 ^ 192 * n.d }
-    ensures limit { AreBelow (2 ^ 64) result.a result.b result.c result.d 0 }
+fn wide_digit(n: Words, carry: u64) -> Step
+    requires { carry < 2 }
+    ensures value { result.plus + 2 * (number result.rest + result.carry) ≡ number n + carry + result.minus }
+    ensures digits { IsDigit true result.plus × IsDigit true result.minus }
+    ensures carry { result.carry < 2 }
+    ensures near { IsNearHalf (number result.rest + result.carry) (number n + carry) }
+{
+    let low = n.a % 256;
+    let t = low + carry;
+    if t % 2 == 0 {
+        return Step {
+            plus: 0,
+            minus: 0,
+            rest: halved(n.a, n),
+            carry,
+        };
+    }
+    if t < 128 {
+        return Step {
+            plus: t,
+            minus: 0,
+            rest: halved(n.a - low, n),
+            carry: 0,
+        };
+    }
+    Step {
+        plus: 0,
+        minus: 256 - t,
+        rest: halved(n.a - low + 255, n),
+        carry: 1,
+    }
+}
+
+/// The lowest digit by five bits, in the same way.
+#[inline(always)]
+fn narrow_digit(n: Words, carry: u64) -> Step
+    requires { carry < 2 }
+    ensures value { result.plus + 2 * (number result.rest + result.carry) ≡ number n + carry + result.minus }
+    ensures digits { IsDigit false result.plus × IsDigit false result.minus }
+    ensures carry { result.carry < 2 }
+    ensures near { IsNearHalf (number result.rest + result.carry) (number n + carry) }
+{
+    let low = n.a % 32;
+    let t = low + carry;
+    if t % 2 == 0 {
+        return Step {
+            plus: 0,
+            minus: 0,
+            rest: halved(n.a, n),
+            carry,
+        };
+    }
+    if t < 16 {
+        return Step {
+            plus: t,
+            minus: 0,
+            rest: halved(n.a - low, n),
+            carry: 0,
+        };
+    }
+    Step {
+        plus: 0,
+        minus: 32 - t,
+        rest: halved(n.a - low + 31, n),
+        carry: 1,
+    }
+}
+
+/// Half of a number with another lowest word, rounded down.
+#[inline(always)]
+fn halved(a: u64, n: Words) -> Words
+    ensures { 2 * number result + a % 2 ≡ a + 2 ^ 64 * n.b + 2 ^ 128 * n.c + 2 ^ 192 * n.d }
 {
     Words {
-        a: (n.a - d) / 2 + n.b % 2 * (1 << 63),
+        a: a / 2 + n.b % 2 * (1 << 63),
         b: n.b / 2 + n.c % 2 * (1 << 63),
         c: n.c / 2 + n.d % 2 * (1 << 63),
         d: n.d / 2,

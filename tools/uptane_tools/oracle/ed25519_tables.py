@@ -7,7 +7,7 @@ them.
 
 The files are, in crates/up_field: src/comb_table.rt, rows of sums and differences of powers of
 two that are 51 bits apart, and proofs/CombSteps.antt; src/odd_table.rt, odd multiples, and
-proofs/OddSteps.antt; src/far_table.rt and proofs/FarSteps.antt, those of 2^128 times it. A step of a proof names a point, the number whose multiple it is, and which
+proofs/OddSteps.antt; src/far_table.rt and proofs/FarSteps.antt, those of 2^129 times it. A step of a proof names a point, the number whose multiple it is, and which
 two points before it add up to it. The prover tests each step and each entry
 (proofs/Chains.antt): this program is trusted in nothing. All numbers are computed here from RFC
 8032, section 5.1.
@@ -156,10 +156,10 @@ use crate::words::Words;
 '''
 ODD_TEXT = '''/// The first 64 odd multiples of the base point.
 pub(crate) fn odd_table() -> &'static [Affine; 64]
-    ensures { AreOddMultiples result.now }'''
-FAR_TEXT = '''/// The first 64 odd multiples of 2^128 times the base point.
+    ensures { AreOddMultiples 1 result.now }'''
+FAR_TEXT = '''/// The first 64 odd multiples of 2^129 times the base point.
 pub(crate) fn far_table() -> &'static [Affine; 64]
-    ensures { AreFarMultiples result.now }'''
+    ensures { AreOddMultiples (2 ^ 129) result.now }'''
 CHAIN = '''-- %s
 -- This file is made by `tools/run ed25519_tables`.
 use Rattle.std.proofs.Common.{List, [], ◌∷◌}
@@ -178,7 +178,7 @@ def proof(chain: Chain, title: str) -> str:
 
 def files() -> dict[Path, str]:
     """The generated files and what stands in them."""
-    rows, multiples, far = comb(), odd(64), odd(64, 128)
+    rows, multiples, far = comb(), odd(64), odd(64, 129)
     return {
         CRATE / 'src/comb_table.rt':
         source(rows, "The base point's comb.", COMB_USES, COMB_TEXT, 'COMB'),
@@ -189,10 +189,10 @@ def files() -> dict[Path, str]:
         CRATE / 'proofs/OddSteps.antt':
         proof(multiples, 'Odd multiples of the base point, by sums.'),
         CRATE / 'src/far_table.rt':
-        source(far, 'Odd multiples of 2^128 times the base point.',
-               ODD_USES.replace('AreOdd', 'AreFar'), FAR_TEXT, 'FAR'),
+        source(far, 'Odd multiples of 2^129 times the base point.',
+               ODD_USES.replace('{◌≡◌}', '{◌≡◌, ◌^◌}'), FAR_TEXT, 'FAR'),
         CRATE / 'proofs/FarSteps.antt':
-        proof(far, 'Odd multiples of 2^128 times the base point, by sums.'),
+        proof(far, 'Odd multiples of 2^129 times the base point, by sums.'),
     }
 
 

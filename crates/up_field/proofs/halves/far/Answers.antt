@@ -25,5 +25,5 @@ loop-i-preserved c =
 
 pub returns : goal.returns
 returns c = λ m h.
-    let e : c.loop-i.i ≡ 128 = omega arith in
+    let e : c.loop-i.i ≡ 129 = omega arith in
     subst (λ z. Writes c.extended.result (multiple (2 ^ z) m)) e (c.extended.ensures _ (c.loop-i.invariant.lies m h))

@@ -1,48 +1,89 @@
-use Rattle.std.proofs.Common.{◌≡◌, ◌-◌, sym, ◌∙◌, ap, ap₂, subst, arith}
-use Rattle.up_curve.specs.Curve.{base}
-use Rattle.up_curve.proofs.Curve.{base_point}
+use Rattle.std.proofs.Common.{◌≡◌, ℕ, ◌+◌, ◌*◌, ◌-◌, ◌^◌, sym, ◌∙◌, ap, subst, arith, List, length}
+use Rattle.up_curve.specs.Curve.{base, multiple, neutral}
+use Rattle.up_curve.specs.LittleEndian.{number}
+use Rattle.up_curve.proofs.Curve.{base_point, multiple_point}
 use Rattle.up_field.specs.Points.{Writes}
-use Rattle.up_field.specs.Sides.{Lies, Yields}
-use Rattle.up_field.specs.Tables.{pair}
-use Rattle.up_field.proofs.Pairs.{pair-none, pair-twice}
-use Rattle.up_field.proofs.Scattered.{halves, halves-none, halves-more, halves-all}
+use Rattle.up_field.proofs.Pairs.{moved, differs-none, differs-twice, differs-far, differs-first, differs-second, differs-all}
+use Rattle.up_field.proofs.Scattered.{scattered, halves, halves-none, halves-more, halves-all}
 use Rattle.up_field.proofs.halves.joint_by.Goals as goal
 
 pub loop-i-init : goal.loop-i-init
 loop-i-init c = record {
-  lies = λ m h k.
-      subst (Lies c.without_t-r.result)
-      (pair-none m base h base_point ∙ ap₂ (λ x y. pair x y m base) (sym (halves-none c.scatter-x.result (omega arith))) (sym (halves-none c.scatter-y.result (omega arith))))
-      (c.without_t-r.ensures _ c.neutral.ensures);
+  lies = λ m h k. record {
+    at = neutral;
+    lies = c.without_t-r.ensures _ c.neutral.ensures;
+    differs = moved m base h base_point
+        (sym (halves-none c.scatter-x.result.plus (omega arith))) (sym (halves-none c.scatter-y.result.plus (omega arith)))
+        (sym (halves-none c.scatter-x.result.minus (omega arith))) (sym (halves-none c.scatter-y.result.minus (omega arith)))
+        (differs-none m base h base_point);
+  };
 }
 
-pub by_point-s-requires-clause-digit : goal.by_point-s-requires-clause-digit
-by_point-s-requires-clause-digit c = c.scatter-x.ensures.digits.each (127 - c.loop-i.i)
+pub by_point-a-requires : goal.by_point-a-requires
+by_point-a-requires c = record {
+  plus = c.scatter-x.ensures.plus.each (128 - c.loop-i.i);
+  minus = c.scatter-x.ensures.minus.each (128 - c.loop-i.i);
+}
 
-pub by_point-s-requires-clause-other : goal.by_point-s-requires-clause-other
-by_point-s-requires-clause-other c = c.scatter-x.ensures.digits.each (255 - c.loop-i.i)
+pub by_point-b-requires : goal.by_point-b-requires
+by_point-b-requires c = record {
+  plus = c.scatter-x.ensures.plus.each (257 - c.loop-i.i);
+  minus = c.scatter-x.ensures.minus.each (257 - c.loop-i.i);
+}
 
-pub by_base-r-requires-clause-digit : goal.by_base-r-requires-clause-digit
-by_base-r-requires-clause-digit c = c.scatter-y.ensures.digits.each (127 - c.loop-i.i)
+pub by_base-c-requires : goal.by_base-c-requires
+by_base-c-requires c = record {
+  plus = c.scatter-y.ensures.plus.each (128 - c.loop-i.i);
+  minus = c.scatter-y.ensures.minus.each (128 - c.loop-i.i);
+}
 
-pub by_base-r-requires-clause-other : goal.by_base-r-requires-clause-other
-by_base-r-requires-clause-other c = c.scatter-y.ensures.digits.each (255 - c.loop-i.i)
+pub by_base-d-requires : goal.by_base-d-requires
+by_base-d-requires c = record {
+  plus = c.scatter-y.ensures.plus.each (257 - c.loop-i.i);
+  minus = c.scatter-y.ensures.minus.each (257 - c.loop-i.i);
+}
+
+once : (s a b t : ℕ) → 2 * s + a + b ≡ t → 2 * s + 1 * a + b ≡ t
+once s a b t h = omega (arith, h)
 
 pub loop-i-preserved : goal.loop-i-preserved
 loop-i-preserved c = record {
   lies = λ m h k.
-      let s = subst (Yields c.doubled.result) (pair-twice m base h base_point _ _) (c.doubled.ensures _ (c.loop-i.invariant.lies m h k)) in
-      let u = c.by_point-s.ensures m _ _ h k s in
-      subst (Lies c.by_base-r.result)
-      (ap₂ (λ x y. pair x y m base) (halves-more c.scatter-x.result (omega arith) c.loop-i.i (omega arith)) (halves-more c.scatter-y.result (omega arith) c.loop-i.i (omega arith)))
-      (c.by_base-r.ensures m _ _ h u);
+      let g = c.loop-i.invariant.lies m h k in
+      let s = c.by_point-a.ensures m _ h k.low (c.doubled.ensures _ g.lies) in
+      let t = c.by_point-b.ensures (multiple (2 ^ 129) m) _ (multiple_point (2 ^ 129) m h) k.high s in
+      let u = c.by_base-c.ensures 1 _ c.odd_table.ensures t in
+      let v = c.by_base-d.ensures (2 ^ 129) _ c.far_table.ensures u in
+      let d = differs-twice m base h base_point g.at _ _ _ _ g.differs in
+      let e = differs-first m base h base_point _ _ _ _ _ _ _ d in
+      let f = differs-far m base h base_point (2 ^ 129) _ _ _ _ _ _ _ e in
+      let x = differs-second m base h base_point _ _ _ _ _ _ _ f in
+      let y = differs-second m base h base_point _ _ _ _ _ _ _ x in
+      record {
+        at = _;
+        lies = c.flat-r.ensures _ v;
+        differs = moved m base h base_point
+            (halves-more c.scatter-x.result.plus (omega arith) c.loop-i.i (omega arith))
+            (once _ _ _ _ (halves-more c.scatter-y.result.plus (omega arith) c.loop-i.i (omega arith)))
+            (halves-more c.scatter-x.result.minus (omega arith) c.loop-i.i (omega arith))
+            (once _ _ _ _ (halves-more c.scatter-y.result.minus (omega arith) c.loop-i.i (omega arith)))
+            y;
+      };
 }
+
+-- all digits
+all_of : (ds : List ℕ) (i : ℕ) → length ds ≡ 258 → i ≡ 129 → halves ds i ≡ scattered ds
+all_of ds i l e = ap (halves ds) e ∙ halves-all ds l
 
 pub returns : goal.returns
 returns c = λ m h k.
-    let e : c.loop-i.i ≡ 128 = omega arith in
+    let e : c.loop-i.i ≡ 129 = omega arith in
+    let g = c.loop-i.invariant.lies m h k in
+    let x = c.scatter-x.ensures.value ∙ ap (λ z. z + scattered c.scatter-x.result.minus) (c.in_words.ensures ∙ c.from_bytes.ensures.value) in
+    let y = c.scatter-y.ensures.value ∙ ap (λ z. z + scattered c.scatter-y.result.minus) (c.in_words-2.ensures ∙ c.from_bytes-2.ensures.value) in
     subst (Writes c.extended.result)
-    (ap₂ (λ x y. pair x y m base)
-    (ap (halves c.scatter-x.result) e ∙ halves-all c.scatter-x.result (omega arith) ∙ c.scatter-x.ensures.value ∙ c.in_words.ensures ∙ c.from_bytes.ensures.value)
-    (ap (halves c.scatter-y.result) e ∙ halves-all c.scatter-y.result (omega arith) ∙ c.scatter-y.ensures.value ∙ c.in_words-2.ensures ∙ c.from_bytes-2.ensures.value))
-    (c.extended.ensures _ (c.loop-i.invariant.lies m h k))
+    (differs-all m base h base_point g.at (number c.args.k.now) (number c.args.s.now) (scattered c.scatter-x.result.minus) (scattered c.scatter-y.result.minus)
+    (moved m base h base_point
+    (all_of c.scatter-x.result.plus c.loop-i.i (omega arith) e ∙ x) (all_of c.scatter-y.result.plus c.loop-i.i (omega arith) e ∙ y)
+    (all_of c.scatter-x.result.minus c.loop-i.i (omega arith) e) (all_of c.scatter-y.result.minus c.loop-i.i (omega arith) e) g.differs))
+    (c.extended.ensures _ g.lies)

@@ -1,53 +1,73 @@
-use Rattle.std.proofs.Common.{◌≡◌, ℕ, ◌+◌, ◌*◌, ◌-◌, ◌<◌, sym, ◌∙◌, ap, ap₂, subst, arith, List, length, drop, get_or}
-use Rattle.std.proofs.lemmas.List.{drop_all}
-use Rattle.up_curve.specs.Curve.{base}
+use Rattle.std.proofs.Common.{◌≡◌, ℕ, ◌+◌, ◌*◌, ◌-◌, sym, ◌∙◌, ap, subst, arith, List, drop}
+use Rattle.up_curve.specs.Curve.{base, neutral}
+use Rattle.up_curve.specs.LittleEndian.{number}
 use Rattle.up_curve.proofs.Curve.{base_point}
 use Rattle.up_field.specs.Points.{Writes}
-use Rattle.up_field.specs.Sides.{Lies}
-use Rattle.up_field.specs.Tables.{pair}
-use Rattle.up_field.proofs.Pairs.{pair-none}
-use Rattle.up_field.proofs.Scattered.{scattered, scattered-drop, scattered-nil}
+use Rattle.up_field.proofs.Pairs.{moved, differs-none, differs-twice, differs-first, differs-second, differs-all}
+use Rattle.up_field.proofs.Scattered.{scattered, last-none, last-more}
 use Rattle.up_field.proofs.joint.joint.Goals as goal
-
--- nothing of a list from its end on
-none : (ds : List ℕ) → length ds ≡ 256 → scattered (drop (256 - 0) ds) ≡ 0
-none ds l = ap scattered (drop_all (256 - 0) ds (omega (arith, l))) ∙ scattered-nil
-
--- a digit more
-more : (ds : List ℕ) (i : ℕ) → i < 256 → length ds ≡ 256 → 2 * scattered (drop (256 - i) ds) + get_or ds (255 - i) 0 ≡ scattered (drop (256 - (i + 1)) ds)
-more ds i h l =
-    let k = scattered-drop ds (255 - i) (omega (arith, h, l)) in
-    let x : scattered (drop (255 - i + 1) ds) ≡ scattered (drop (256 - i) ds) = ap (λ z. scattered (drop z ds)) (omega (arith, h)) in
-    let y : scattered (drop (256 - (i + 1)) ds) ≡ scattered (drop (255 - i) ds) = ap (λ z. scattered (drop z ds)) (omega (arith, h)) in
-    omega (arith, k, x, y)
 
 pub loop-i-init : goal.loop-i-init
 loop-i-init c = record {
-  lies = λ m h.
-      subst (Lies c.without_t-r.result)
-      (pair-none m base h.point base_point ∙ ap₂ (λ x y. pair x y m base) (sym (none c.scatter-x.result (omega arith))) (sym (none c.scatter-y.result (omega arith))))
-      (c.without_t-r.ensures _ c.neutral.ensures);
+  lies = λ m h. record {
+    at = neutral;
+    lies = c.without_t-r.ensures _ c.neutral.ensures;
+    differs = moved m base h.point base_point
+        (sym (last-none c.scatter-x.result.plus (omega arith))) (sym (last-none c.scatter-y.result.plus (omega arith)))
+        (sym (last-none c.scatter-x.result.minus (omega arith))) (sym (last-none c.scatter-y.result.minus (omega arith)))
+        (differs-none m base h.point base_point);
+  };
 }
 
-pub next-r-requires : goal.next-r-requires
-next-r-requires c = record {
-  digit = c.scatter-x.ensures.digits.each (255 - c.loop-i.i);
-  other = c.scatter-y.ensures.digits.each (255 - c.loop-i.i);
+pub by_point-a-requires : goal.by_point-a-requires
+by_point-a-requires c = record {
+  plus = c.scatter-x.ensures.plus.each (257 - c.loop-i.i);
+  minus = c.scatter-x.ensures.minus.each (257 - c.loop-i.i);
 }
+
+pub by_base-requires : goal.by_base-requires
+by_base-requires c = record {
+  plus = c.scatter-y.ensures.plus.each (257 - c.loop-i.i);
+  minus = c.scatter-y.ensures.minus.each (257 - c.loop-i.i);
+}
+
+once : (s a t : ℕ) → 2 * s + a ≡ t → 2 * s + 1 * a ≡ t
+once s a t h = omega (arith, h)
 
 pub loop-i-preserved : goal.loop-i-preserved
 loop-i-preserved c = record {
   lies = λ m h.
-      subst (Lies c.next-r.result)
-      (ap₂ (λ x y. pair x y m base) (more c.scatter-x.result c.loop-i.i (omega arith) (omega arith)) (more c.scatter-y.result c.loop-i.i (omega arith) (omega arith)))
-      (c.next-r.ensures m _ _ h.point (c.odd_multiples-multiples.ensures m h) (c.loop-i.invariant.lies m h));
+      let g = c.loop-i.invariant.lies m h in
+      let a = c.by_point-a.ensures m _ h.point (c.odd_multiples-multiples.ensures m h) (c.doubled.ensures _ g.lies) in
+      let b = c.by_base.ensures 1 _ c.odd_table.ensures a in
+      let d = differs-twice m base h.point base_point g.at _ _ _ _ g.differs in
+      let e = differs-first m base h.point base_point _ _ _ _ _ _ _ d in
+      let f = differs-second m base h.point base_point _ _ _ _ _ _ _ e in
+      record {
+        at = _;
+        lies = c.flat-r.ensures _ b;
+        differs = moved m base h.point base_point
+            (last-more c.scatter-x.result.plus (omega arith) c.loop-i.i (omega arith))
+            (once _ _ _ (last-more c.scatter-y.result.plus (omega arith) c.loop-i.i (omega arith)))
+            (last-more c.scatter-x.result.minus (omega arith) c.loop-i.i (omega arith))
+            (once _ _ _ (last-more c.scatter-y.result.minus (omega arith) c.loop-i.i (omega arith)))
+            f;
+      };
 }
+
+-- all digits
+all_of : (ds : List ℕ) (i : ℕ) → i ≡ 258 → scattered (drop (258 - i) ds) ≡ scattered ds
+all_of ds i e = ap (λ z. scattered (drop z ds)) (let z : 258 - i ≡ 0 = omega (arith, e) in z)
 
 pub returns : goal.returns
 returns c = λ m h.
-    let e : 256 - c.loop-i.i ≡ 0 = omega arith in
+    let e : c.loop-i.i ≡ 258 = omega arith in
+    let g = c.loop-i.invariant.lies m h in
+    let x = c.scatter-x.ensures.value ∙ ap (λ z. z + scattered c.scatter-x.result.minus) (c.in_words.ensures ∙ c.from_bytes.ensures.value) in
+    let y = c.scatter-y.ensures.value ∙ ap (λ z. z + scattered c.scatter-y.result.minus) (c.in_words-2.ensures ∙ c.from_bytes-2.ensures.value) in
     subst (Writes c.extended.result)
-    (ap₂ (λ x y. pair x y m base)
-    (ap (λ z. scattered (drop z c.scatter-x.result)) e ∙ c.scatter-x.ensures.value ∙ c.in_words.ensures ∙ c.from_bytes.ensures.value)
-    (ap (λ z. scattered (drop z c.scatter-y.result)) e ∙ c.scatter-y.ensures.value ∙ c.in_words-2.ensures ∙ c.from_bytes-2.ensures.value))
-    (c.extended.ensures _ (c.loop-i.invariant.lies m h))
+    (differs-all m base h.point base_point g.at (number c.args.k.now) (number c.args.s.now) (scattered c.scatter-x.result.minus) (scattered c.scatter-y.result.minus)
+    (moved m base h.point base_point
+    (all_of c.scatter-x.result.plus c.loop-i.i e ∙ x) (all_of c.scatter-y.result.plus c.loop-i.i e ∙ y)
+    (all_of c.scatter-x.result.minus c.loop-i.i e) (all_of c.scatter-y.result.minus c.loop-i.i e) g.differs))
+    (c.extended.ensures _ g.lies)

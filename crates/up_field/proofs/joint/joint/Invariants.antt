@@ -1,12 +1,14 @@
 use Rattle.std.proofs.Common.{◌-◌, drop}
 use Rattle.up_field.specs.Points.{Writes}
-use Rattle.up_field.specs.Sides.{Lies}
 use Rattle.up_field.specs.Sparse.{scattered}
 use Rattle.up_curve.specs.Curve.{Point, base}
-use Rattle.up_field.specs.Tables.{pair}
+use Rattle.up_curve.proofs.Curve.{base_point}
+use Rattle.up_field.proofs.Pairs.{LiesBy}
 use Rattle.up_field.proofs.joint.joint.Given as goal
 
 abbrev pub invariant-loop-i : goal.invariant-loop-i
 invariant-loop-i l = record {
-  lies : (m : Point) → Writes l.fn.a m → Lies l.r (pair (scattered (drop (256 - l.i) l.x)) (scattered (drop (256 - l.i) l.y)) m base);
+  lies : (m : Point) → (h : Writes l.fn.a m) → LiesBy m base h.point base_point l.r
+      (scattered (drop (258 - l.i) l.x.plus)) (scattered (drop (258 - l.i) l.y.plus))
+      (scattered (drop (258 - l.i) l.x.minus)) (scattered (drop (258 - l.i) l.y.minus));
 }
