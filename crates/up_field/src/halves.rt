@@ -53,11 +53,12 @@ pub fn joint_by(k: &[u8; 32], t: &Multiples, s: &[u8; 32]) -> Extended
     let y = scatter(in_words(from_bytes(s)), true);
     let mut r = without_t(neutral());
     for i in 0..129usize {
-        let a = by_point(doubled(r), &t.low, x.plus[128 - i], x.minus[128 - i]);
-        let b = by_point(a, &t.high, x.plus[257 - i], x.minus[257 - i]);
-        let c = by_base(b, odd_table(), y.plus[128 - i], y.minus[128 - i]);
-        let d = by_base(c, far_table(), y.plus[257 - i], y.minus[257 - i]);
-        r = flat(d);
+        let mut s = doubled(r);
+        by_point(&mut s, &t.low, x.plus[128 - i], x.minus[128 - i]);
+        by_point(&mut s, &t.high, x.plus[257 - i], x.minus[257 - i]);
+        by_base(&mut s, odd_table(), y.plus[128 - i], y.minus[128 - i]);
+        by_base(&mut s, far_table(), y.plus[257 - i], y.minus[257 - i]);
+        r = flat(s);
     }
     extended(r)
 }

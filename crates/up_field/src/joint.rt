@@ -23,8 +23,10 @@ pub fn joint(k: &[u8; 32], a: Extended, s: &[u8; 32]) -> Extended
     let y = scatter(in_words(from_bytes(s)), true);
     let mut r = without_t(neutral());
     for i in 0..258usize {
-        let a = by_point(doubled(r), &multiples, x.plus[257 - i], x.minus[257 - i]);
-        r = flat(by_base(a, odd_table(), y.plus[257 - i], y.minus[257 - i]));
+        let mut s = doubled(r);
+        by_point(&mut s, &multiples, x.plus[257 - i], x.minus[257 - i]);
+        by_base(&mut s, odd_table(), y.plus[257 - i], y.minus[257 - i]);
+        r = flat(s);
     }
     extended(r)
 }

@@ -13,79 +13,79 @@ use crate::sides::{Sides, affine_sides, cached_sides, whole};
 
 /// A point's multiple by one digit more, and by another less.
 #[inline(always)]
-pub(crate) fn by_point(s: Sides, t: &[Cached; 8], plus: u8, minus: u8) -> Sides
+pub(crate) fn by_point(s: &mut Sides, t: &[Cached; 8], plus: u8, minus: u8)
     requires plus { IsDigit false plus }
     requires minus { IsDigit false minus }
-    ensures { (m q : Point) → IsPoint m → IsTable t.now m → Yields s q
-        → Yields result (add_of (add_of q (multiple plus m)) (negated (multiple minus m))) }
+    ensures { (m q : Point) → IsPoint m → IsTable t.now m → Yields s.old q
+        → Yields s.new (add_of (add_of q (multiple plus m)) (negated (multiple minus m))) }
 {
-    let u = point_more(s, t, plus);
-    point_less(u, t, minus)
+    point_more(s, t, plus);
+    point_less(s, t, minus);
 }
 
 /// A point's multiple more.
 #[inline(always)]
-fn point_more(s: Sides, t: &[Cached; 8], d: u8) -> Sides
+fn point_more(s: &mut Sides, t: &[Cached; 8], d: u8)
     requires { IsDigit false d }
-    ensures { (m q : Point) → IsPoint m → IsTable t.now m → Yields s q → Yields result (add_of q (multiple d m)) }
+    ensures { (m q : Point) → IsPoint m → IsTable t.now m → Yields s.old q → Yields s.new (add_of q (multiple d m)) }
 {
     if d == 0 {
-        return s;
+        return;
     }
     let e = t[d as usize / 2];
-    cached_sides(whole(s), e)
+    *s = cached_sides(whole(*s), e);
 }
 
 /// A point's multiple less.
 #[inline(always)]
-fn point_less(s: Sides, t: &[Cached; 8], d: u8) -> Sides
+fn point_less(s: &mut Sides, t: &[Cached; 8], d: u8)
     requires { IsDigit false d }
-    ensures { (m q : Point) → IsPoint m → IsTable t.now m → Yields s q
-        → Yields result (add_of q (negated (multiple d m))) }
+    ensures { (m q : Point) → IsPoint m → IsTable t.now m → Yields s.old q
+        → Yields s.new (add_of q (negated (multiple d m))) }
 {
     if d == 0 {
-        return s;
+        return;
     }
     let e = opposite(t[d as usize / 2]);
-    cached_sides(whole(s), e)
+    *s = cached_sides(whole(*s), e);
 }
 
 /// The multiple of a table of the base point's by one digit more, and by another less.
 #[inline(always)]
-pub(crate) fn by_base(s: Sides, t: &[Affine; 64], plus: u8, minus: u8) -> Sides
+pub(crate) fn by_base(s: &mut Sides, t: &[Affine; 64], plus: u8, minus: u8)
     requires plus { IsDigit true plus }
     requires minus { IsDigit true minus }
-    ensures { (n : ℕ) (q : Point) → AreOddMultiples n t.now → Yields s q
-        → Yields result (add_of (add_of q (multiple (n * plus) base_point)) (negated (multiple (n * minus) base_point))) }
+    ensures { (n : ℕ) (q : Point) → AreOddMultiples n t.now → Yields s.old q
+        → Yields s.new (add_of (add_of q (multiple (n * plus) base_point)) (negated (multiple (n * minus) base_point))) }
 {
-    let u = base_more(s, t, plus);
-    base_less(u, t, minus)
+    base_more(s, t, plus);
+    base_less(s, t, minus);
 }
 
 /// The base point's multiple more.
 #[inline(always)]
-fn base_more(s: Sides, t: &[Affine; 64], d: u8) -> Sides
+fn base_more(s: &mut Sides, t: &[Affine; 64], d: u8)
     requires { IsDigit true d }
-    ensures { (n : ℕ) (q : Point) → AreOddMultiples n t.now → Yields s q
-        → Yields result (add_of q (multiple (n * d) base_point)) }
+    ensures { (n : ℕ) (q : Point) → AreOddMultiples n t.now → Yields s.old q
+        → Yields s.new (add_of q (multiple (n * d) base_point)) }
 {
     if d == 0 {
-        return s;
+        return;
     }
     let e = t[d as usize / 2];
-    affine_sides(whole(s), e)
+    *s = affine_sides(whole(*s), e);
 }
 
 /// The base point's multiple less.
 #[inline(always)]
-fn base_less(s: Sides, t: &[Affine; 64], d: u8) -> Sides
+fn base_less(s: &mut Sides, t: &[Affine; 64], d: u8)
     requires { IsDigit true d }
-    ensures { (n : ℕ) (q : Point) → AreOddMultiples n t.now → Yields s q
-        → Yields result (add_of q (negated (multiple (n * d) base_point))) }
+    ensures { (n : ℕ) (q : Point) → AreOddMultiples n t.now → Yields s.old q
+        → Yields s.new (add_of q (negated (multiple (n * d) base_point))) }
 {
     if d == 0 {
-        return s;
+        return;
     }
     let e = turned(0, t[d as usize / 2]);
-    affine_sides(whole(s), e)
+    *s = affine_sides(whole(*s), e);
 }

@@ -19,26 +19,26 @@ loop-i-init c = record {
   };
 }
 
-pub by_point-a-requires : goal.by_point-a-requires
-by_point-a-requires c = record {
+pub by_point-requires : goal.by_point-requires
+by_point-requires c = record {
   plus = c.scatter-x.ensures.plus.each (128 - c.loop-i.i);
   minus = c.scatter-x.ensures.minus.each (128 - c.loop-i.i);
 }
 
-pub by_point-b-requires : goal.by_point-b-requires
-by_point-b-requires c = record {
+pub by_point-requires-in-loop-i : goal.by_point-requires-in-loop-i
+by_point-requires-in-loop-i c = record {
   plus = c.scatter-x.ensures.plus.each (257 - c.loop-i.i);
   minus = c.scatter-x.ensures.minus.each (257 - c.loop-i.i);
 }
 
-pub by_base-c-requires : goal.by_base-c-requires
-by_base-c-requires c = record {
+pub by_base-requires : goal.by_base-requires
+by_base-requires c = record {
   plus = c.scatter-y.ensures.plus.each (128 - c.loop-i.i);
   minus = c.scatter-y.ensures.minus.each (128 - c.loop-i.i);
 }
 
-pub by_base-d-requires : goal.by_base-d-requires
-by_base-d-requires c = record {
+pub by_base-requires-in-loop-i : goal.by_base-requires-in-loop-i
+by_base-requires-in-loop-i c = record {
   plus = c.scatter-y.ensures.plus.each (257 - c.loop-i.i);
   minus = c.scatter-y.ensures.minus.each (257 - c.loop-i.i);
 }
@@ -50,10 +50,10 @@ pub loop-i-preserved : goal.loop-i-preserved
 loop-i-preserved c = record {
   lies = λ m h k.
       let g = c.loop-i.invariant.lies m h k in
-      let s = c.by_point-a.ensures m _ h k.low (c.doubled.ensures _ g.lies) in
-      let t = c.by_point-b.ensures (multiple (2 ^ 129) m) _ (multiple_point (2 ^ 129) m h) k.high s in
-      let u = c.by_base-c.ensures 1 _ c.odd_table.ensures t in
-      let v = c.by_base-d.ensures (2 ^ 129) _ c.far_table.ensures u in
+      let s = c.by_point.ensures m _ h k.low (c.doubled-s.ensures _ g.lies) in
+      let t = c.by_point-in-loop-i.ensures (multiple (2 ^ 129) m) _ (multiple_point (2 ^ 129) m h) k.high s in
+      let u = c.by_base.ensures 1 _ c.odd_table.ensures t in
+      let v = c.by_base-in-loop-i.ensures (2 ^ 129) _ c.far_table.ensures u in
       let d = differs-twice m base h base_point g.at _ _ _ _ g.differs in
       let e = differs-first m base h base_point _ _ _ _ _ _ _ d in
       let f = differs-far m base h base_point (2 ^ 129) _ _ _ _ _ _ _ e in

@@ -19,8 +19,8 @@ loop-i-init c = record {
   };
 }
 
-pub by_point-a-requires : goal.by_point-a-requires
-by_point-a-requires c = record {
+pub by_point-requires : goal.by_point-requires
+by_point-requires c = record {
   plus = c.scatter-x.ensures.plus.each (257 - c.loop-i.i);
   minus = c.scatter-x.ensures.minus.each (257 - c.loop-i.i);
 }
@@ -38,7 +38,7 @@ pub loop-i-preserved : goal.loop-i-preserved
 loop-i-preserved c = record {
   lies = λ m h.
       let g = c.loop-i.invariant.lies m h in
-      let a = c.by_point-a.ensures m _ h.point (c.odd_multiples-multiples.ensures m h) (c.doubled.ensures _ g.lies) in
+      let a = c.by_point.ensures m _ h.point (c.odd_multiples-multiples.ensures m h) (c.doubled-s.ensures _ g.lies) in
       let b = c.by_base.ensures 1 _ c.odd_table.ensures a in
       let d = differs-twice m base h.point base_point g.at _ _ _ _ g.differs in
       let e = differs-first m base h.point base_point _ _ _ _ _ _ _ d in

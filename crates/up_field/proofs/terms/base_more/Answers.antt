@@ -15,7 +15,7 @@ none : (n d : ℕ) → d ≡ 0 → n * d ≡ 0
 none n d e = ap (λ z. n * z) e ∙ (let z : n * 0 ≡ 0 = omega arith in z)
 
 pub returns-then-d-eq0 : goal.returns-then-d-eq0
-returns-then-d-eq0 c = λ n q h l. subst (Yields c.args.s) (nothing_more (n * c.args.d) base q (point_of c.args.s q l) (none n c.args.d (omega arith))) l
+returns-then-d-eq0 c = λ n q h l. subst (Yields c.args.s.now) (nothing_more (n * c.args.d) base q (point_of c.args.s.now q l) (none n c.args.d (omega arith))) l
 
 pub returns : goal.returns
 returns c = λ n q h l.

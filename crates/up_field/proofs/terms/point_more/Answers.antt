@@ -12,7 +12,7 @@ entry_of : (t : List Cached) (m : Point) (d : ℕ) → IsTable t m → IsDigit f
 entry_of t m d h k l q = subst (λ z. Stores (get_or t (d / 2) q) (multiple z m)) (half d k.odd l) (h.each (d / 2) (omega (arith, k.narrow refl)) q)
 
 pub returns-then-d-eq0 : goal.returns-then-d-eq0
-returns-then-d-eq0 c = λ m q h k l. subst (Yields c.args.s) (nothing_more c.args.d m q (point_of c.args.s q l) (omega arith)) l
+returns-then-d-eq0 c = λ m q h k l. subst (Yields c.args.s.now) (nothing_more c.args.d m q (point_of c.args.s.now q l) (omega arith)) l
 
 pub returns : goal.returns
 returns c = λ m q h k l.
