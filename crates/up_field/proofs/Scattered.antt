@@ -41,16 +41,23 @@ all_set P ds i d k l h j = from (k == i) refl
     from true e = subst P (sym (get_or-set_at ds i k d 0 (eqb-true k i e) l)) h
     from false e = subst P (sym (get_or-set_other ds i k d 0 (λ z. eqb_ne k i e z))) j
 
--- a digit more of 258
-pub last-none : (ds : List ℕ) → length ds ≡ 258 → scattered (drop (258 - 0) ds) ≡ 0
-last-none ds l = ap scattered (drop_all (258 - 0) ds (omega (arith, l))) ∙ scattered-nil
-
-pub last-more : (ds : List ℕ) → length ds ≡ 258 → (i : ℕ) → i < 258 → 2 * scattered (drop (258 - i) ds) + get_or ds (257 - i) 0 ≡ scattered (drop (258 - (i + 1)) ds)
-last-more ds l i h =
-    let k = scattered-drop ds (257 - i) (omega (arith, h, l)) in
-    let x : scattered (drop (257 - i + 1) ds) ≡ scattered (drop (258 - i) ds) = ap (λ z. scattered (drop z ds)) (omega (arith, h)) in
-    let y : scattered (drop (258 - (i + 1)) ds) ≡ scattered (drop (257 - i) ds) = ap (λ z. scattered (drop z ds)) (omega (arith, h)) in
+-- a digit more of n
+pub last-more : (ds : List ℕ) (n i : ℕ) → n < length ds + 1 → i < n → 2 * scattered (drop (n - i) ds) + get_or ds (n - 1 - i) 0 ≡ scattered (drop (n - (i + 1)) ds)
+last-more ds n i l h =
+    let k = scattered-drop ds (n - 1 - i) (omega (arith, h, l)) in
+    let x : scattered (drop (n - 1 - i + 1) ds) ≡ scattered (drop (n - i) ds) = ap (λ z. scattered (drop z ds)) (omega (arith, h)) in
+    let y : scattered (drop (n - (i + 1)) ds) ≡ scattered (drop (n - 1 - i) ds) = ap (λ z. scattered (drop z ds)) (omega (arith, h)) in
     omega (arith, k, x, y)
+
+pub scattered-end : (ds : List ℕ) → length ds ≡ 258 → scattered (drop 258 ds) ≡ 0
+scattered-end ds l = ap scattered (drop_all 258 ds (omega (arith, l))) ∙ scattered-nil
+
+-- a digit that is 0 before others that are
+pub none-before : (ds : List ℕ) → length ds ≡ 258 → (i : ℕ) → i < 258 → scattered (drop (258 - i) ds) ≡ 0 → get_or ds (257 - i) 0 ≡ 0 → scattered (drop (258 - (i + 1)) ds) ≡ 0
+none-before ds l i h e k =
+    let m = last-more ds 258 i (omega (arith, l)) h in
+    let z : get_or ds (258 - 1 - i) 0 ≡ get_or ds (257 - i) 0 = ap (λ y. get_or ds y 0) (omega arith) in
+    omega (arith, m, e, k, z)
 
 -- the last digits of each half of 258, so many
 abbrev pub halves : List ℕ → ℕ → ℕ

@@ -1,5 +1,5 @@
 -- Numbers in digits of one bit that may be larger.
-use Rattle.std.specs.Prelude.{◌≡◌, ℕ, ◌+◌, ◌*◌, ◌%◌, ◌<◌, ◌≤◌, ◌^◌, Bool, false, List, [], ◌∷◌, slice_index_or}
+use Rattle.std.specs.Prelude.{◌≡◌, ℕ, ◌+◌, ◌*◌, ◌%◌, ◌<◌, ◌≤◌, ◌^◌, Bool, false, List, [], ◌∷◌, drop, slice_index_or}
 
 -- the number that digits write, the least first
 unfoldable pub scattered : List ℕ → ℕ
@@ -14,6 +14,11 @@ pub record IsDigit (wide : Bool) (d : ℕ) : Type 0 where
 
 pub record AreDigits (wide : Bool) (ds : List ℕ) : Type 0 where
   pub each : (k : ℕ) → IsDigit wide (slice_index_or ds k 0)
+
+-- from a place on, two lists have nothing but 0
+pub record EndsAt (n : ℕ) (xs ys : List ℕ) : Type 0 where
+  pub first : scattered (drop n xs) ≡ 0
+  pub second : scattered (drop n ys) ≡ 0
 
 -- a half is rounded, but not over a power of two
 pub record IsNearHalf (half n : ℕ) : Type 0 where

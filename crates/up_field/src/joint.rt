@@ -10,7 +10,7 @@ use crate::cached::{Cached, ready, sum_cached};
 use crate::odd_table::odd_table;
 use crate::points::{Extended, neutral};
 use crate::sides::{doubled, extended, flat, twice, without_t};
-use crate::sparse::scatter;
+use crate::sparse::{scatter, top};
 use crate::terms::{by_base, by_point};
 use crate::words::in_words;
 
@@ -21,11 +21,13 @@ pub fn joint(k: &[u8; 32], a: Extended, s: &[u8; 32]) -> Extended
     let multiples = odd_multiples(a);
     let x = scatter(in_words(from_bytes(k)), false);
     let y = scatter(in_words(from_bytes(s)), true);
+    let n = top(&x, &y);
     let mut r = without_t(neutral());
-    for i in 0..258usize {
+    for i in 0..n {
+        let j = n - 1 - i;
         let mut s = doubled(r);
-        by_point(&mut s, &multiples, x.plus[257 - i], x.minus[257 - i]);
-        by_base(&mut s, odd_table(), y.plus[257 - i], y.minus[257 - i]);
+        by_point(&mut s, &multiples, x.plus[j], x.minus[j]);
+        by_base(&mut s, odd_table(), y.plus[j], y.minus[j]);
         r = flat(s);
     }
     extended(r)

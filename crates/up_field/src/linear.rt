@@ -50,6 +50,24 @@ pub(crate) fn add(a: Words, b: Words) -> Words
     folded(w, (n3 >> 64) as u64)
 }
 
+/// The sum of twice a number and another.
+#[inline(always)]
+pub(crate) fn twice_and(a: Words, b: Words) -> Words
+    ensures { number result % p ≡ (number a + number a + number b) % p }
+{
+    let n0 = a.a as u128 * 2 + b.a as u128;
+    let n1 = a.b as u128 * 2 + b.b as u128 + (n0 >> 64);
+    let n2 = a.c as u128 * 2 + b.c as u128 + (n1 >> 64);
+    let n3 = a.d as u128 * 2 + b.d as u128 + (n2 >> 64);
+    let w = Words {
+        a: low(n0),
+        b: low(n1),
+        c: low(n2),
+        d: low(n3),
+    };
+    folded(w, (n3 >> 64) as u64)
+}
+
 /// The difference of two numbers.
 #[inline(always)]
 pub(crate) fn sub(a: Words, b: Words) -> Words

@@ -10,7 +10,7 @@ ghost use Rattle.up_field.specs.Sides.{Lies, Yields};
 
 use crate::affine::Affine;
 use crate::cached::Cached;
-use crate::linear::{add, sub};
+use crate::linear::{add, sub, twice_and};
 use crate::points::{Extended, completed};
 use crate::products::mul;
 use crate::squares::square;
@@ -85,13 +85,12 @@ pub(crate) fn doubled(a: Projective) -> Sides
     let s = square(a.x);
     let u = square(a.y);
     let z = square(a.z);
-    let c = add(z, z);
     let h = add(s, u);
     let n = add(a.x, a.y);
     let q = square(n);
     let e = sub(h, q);
     let g = sub(s, u);
-    let f = add(c, g);
+    let f = twice_and(z, g);
     Sides { e, f, g, h }
 }
 

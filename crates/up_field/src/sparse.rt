@@ -1,7 +1,7 @@
 //! Numbers in bits of which few stand, and stand for more than one: odd numbers, some of them taken off, with 0 behind each.
 ghost use Rattle.std.specs.Prelude.{◌≡◌, ◌+◌, ◌*◌, ◌%◌, ◌<◌, ◌^◌, false, true};
 ghost use Rattle.up_field.specs.Points.{number};
-ghost use Rattle.up_field.specs.Sparse.{AreDigits, IsDigit, IsNearHalf, scattered};
+ghost use Rattle.up_field.specs.Sparse.{AreDigits, EndsAt, IsDigit, IsNearHalf, scattered};
 
 use crate::words::Words;
 
@@ -39,6 +39,20 @@ pub(crate) fn scatter(n: Words, wide: bool) -> Digits
         carry = s.carry;
     }
     Digits { plus, minus }
+}
+
+/// Behind how many digits of two numbers the others are 0.
+pub(crate) fn top(x: &Digits, y: &Digits) -> usize
+    ensures limit { result < 259 }
+    ensures ends { EndsAt result x.now.plus y.now.plus × EndsAt result x.now.minus y.now.minus }
+{
+    for i in 0..258usize {
+        let j = 257 - i;
+        if x.plus[j] != 0 || x.minus[j] != 0 || y.plus[j] != 0 || y.minus[j] != 0 {
+            return j + 1;
+        }
+    }
+    0
 }
 
 /// The lowest digit of a number and a carry.

@@ -9,6 +9,6 @@ use Rattle.up_field.proofs.joint.joint.Given as goal
 abbrev pub invariant-loop-i : goal.invariant-loop-i
 invariant-loop-i l = record {
   lies : (m : Point) → (h : Writes l.fn.a m) → LiesBy m base h.point base_point l.r
-      (scattered (drop (258 - l.i) l.x.plus)) (scattered (drop (258 - l.i) l.y.plus))
-      (scattered (drop (258 - l.i) l.x.minus)) (scattered (drop (258 - l.i) l.y.minus));
+      (scattered (drop (l.n - l.i) l.x.plus)) (scattered (drop (l.n - l.i) l.y.plus))
+      (scattered (drop (l.n - l.i) l.x.minus)) (scattered (drop (l.n - l.i) l.y.minus));
 }
