@@ -1,7 +1,7 @@
-"""Computes the answers that the rows of decisions want where they have digests, under each
+"""Computes the answers that the cases of decisions want where they have digests, under each
 scheme, by Python's own libraries from the formats in docs/integrate/FORMATS.md, and tells which
-of them no row wants, and which wanted ones aren't among them. The rows are the standard input of
-the crate `up_test_decisions`.
+of them no case wants, and which wanted ones aren't among them. They are in the standard input of
+the crate `up_test_calls`.
 
     tools/run expected_decisions
 """
@@ -12,9 +12,8 @@ import hmac
 import json
 import re
 
-from uptane_tools import TOP, arguments
-
-ROWS = TOP / "crates" / "up_test_decisions" / "stdin"
+from uptane_tools import arguments
+from uptane_tools.rows import cases
 
 
 def H(b):
@@ -277,10 +276,10 @@ def both(name):
 def main(words: arguments.Words = None) -> int:
     """Compares what is computed with what the rows want."""
     arguments.given(__doc__, words)
-    rows = ROWS.read_text(encoding="utf-8").split("\n")
+    rows = cases.kinds("up_test_calls")["decisions"].split("\n")
     wanted = {row.split(" => ", 1)[1] for row in rows if re.search(r" => .*[0-9a-f]{64}", row)}
     computed = {both(name) for name in EXPECTED}
     for answer in sorted(wanted ^ computed):
-        print("%s %.300s" % ("not computed:" if answer in wanted else "no row wants:", answer))
+        print("%s %.300s" % ("not computed:" if answer in wanted else "no case wants:", answer))
     print("%d wanted answers with digests are computed" % len(wanted & computed))
     return 1 if wanted ^ computed else 0

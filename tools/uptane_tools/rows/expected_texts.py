@@ -1,7 +1,7 @@
-"""Computes what the rows of texts want, by Python's own libraries from the formats in
-docs/integrate/FORMATS.md, and tells where it is something else. The rows are the standard input
-of the crate `up_test_texts`. Refusals and the rows that are wrong on purpose are left out: their
-answers are by hand.
+"""Computes what the cases of texts want, by Python's own libraries from the formats in
+docs/integrate/FORMATS.md, and tells where it is something else. They are in the
+standard input of the crate `up_test_calls`. Refusals and those that are wrong on purpose are left
+out: their answers are by hand.
 
     tools/run expected_texts
 """
@@ -11,9 +11,9 @@ import hmac
 import json
 import re
 
-from uptane_tools import TOP, arguments
+from uptane_tools import arguments
+from uptane_tools.rows import cases
 
-ROWS = TOP / "crates" / "up_test_texts" / "stdin"
 UTC = datetime.timezone.utc
 FORM = "%Y-%m-%dT%H:%M:%SZ"
 
@@ -270,7 +270,7 @@ def main(words: arguments.Words = None) -> int:
     """Compares what is computed with what the rows want."""
     arguments.given(__doc__, words)
     same = by_hand = 0
-    text = ROWS.read_text(encoding="utf-8")
+    text = cases.kinds("up_test_calls")["texts"]
     for section in text.split("\n# dance")[0].rsplit("\n# canonical", 1)[0].split("\n# ")[1:]:
         call = section.split("\n", 1)[0]
         for given, wanted in rows(section):

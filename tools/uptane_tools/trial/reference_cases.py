@@ -133,7 +133,7 @@ def written(asked):
 def requests():
     """How bytes are cut into requests, whatever the pieces in which they come."""
     for section in ("requests cut at every byte", "requests in pieces"):
-        found = rows("up_test_http", section)
+        found = rows("up_test_calls", section)
         yield "rows of %s" % section, len(found) > 10
         for asked, wanted in found:
             given, wanted = unfolded(asked), re.sub(r"^\d+ bytes, ", "", wanted)
