@@ -171,8 +171,8 @@ def of_counters():
     answers = [replayed("left"), replayed("right"), stale(70)]
     sent = [*raised, new(above=70)]
     yield "seven refused manifests, and the eighth accepted", {}, [
-        gone(2 * answers + [stale(99), found],
-             [new(), *sent, *sent, new(above=99)], "accepted", DAILY)]
+        gone([NONE, *2 * answers, stale(99), found],
+             [new(), SAME, *sent, *sent, new(above=99)], "accepted", DAILY, [1])]
     yield "eight refused manifests: the round ends, and the next has a new one", {}, [
         gone(2 * answers + [stale(99), stale(999)],
              [new(), *sent, *sent, new(above=99)], None, SOON),
