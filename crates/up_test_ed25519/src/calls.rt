@@ -4,7 +4,7 @@ use std::alloc::{AllocError, Global};
 use up_ed25519::scheme::Ed25519;
 use up_ed25519::signing::{public_of, sign_with};
 use up_sign::scheme::Scheme;
-use up_test_rows::calls::Calls;
+use up_test_common::calls::Calls;
 
 /// The calls of Ed25519, of which none keeps anything.
 #[derive(Clone, Copy, Debug)]

@@ -1,21 +1,40 @@
-//! Ed25519, by rows: each row is what a call is given, and what it has to answer. `tools/rows/ed25519_rows.py` makes the rows.
+//! Ed25519 and files signed under it elsewhere, by cases: each is what a call is given, and what it has to answer. `ed25519_cases`
+//! and `brought_cases` make them.
 #![tactic(auto)]
 
+mod brought;
 mod calls;
 mod keys;
 
 use crate::calls::Calls25519;
+use std::alloc::{AllocError, Global};
 use std::io;
-use up_test_rows::sections::told;
+use up_test_common::sections;
 
-/// Tells of each section on standard input. Each begins with a line `# CALL` behind another line.
+/// Tells of each section on standard input. `# CALL` heads each, and `## brought` those on files, both behind another
+/// line.
 fn main(rt: HostRuntime) -> io::Result<()> {
     let text = io::read_to_string(rt.alloc(), rt.stdin())?;
-    for section in text.as_str().split("\n# ") {
+    for part in text.as_str().split("\n## ") {
+        let (kind, sections) = part.split_once("\n# ").unwrap_or((part, ""));
+        tell_all(&rt, kind, sections)?;
+    }
+    Ok(())
+}
+
+fn tell_all(rt: &HostRuntime, kind: &str, sections: &str) -> io::Result<()> {
+    for section in sections.split("\n# ") {
         if !section.is_empty() {
-            let line = told(rt.alloc(), &mut Calls25519, section)?;
+            let line = told(rt.alloc(), kind, section)?;
             println!(rt; "{line}")?;
         }
     }
     Ok(())
+}
+
+fn told(alloc: Global, kind: &str, section: &str) -> Result<String, AllocError> {
+    match kind {
+        "brought" => brought::told_in(alloc, section),
+        _ => sections::told(alloc, &mut Calls25519, section),
+    }
 }

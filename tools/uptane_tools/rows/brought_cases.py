@@ -1,5 +1,5 @@
 """The cases of files signed elsewhere: Root and Targets files, signed here under Ed25519, and what
-is to be answered of each. `computed` gives them to the program of the crate `up_test_brought`,
+is to be answered of each. `computed` gives them to the program of the crate `up_test_ed25519`,
 whose input has the first of each section.
 
 Each answer is written here by hand, beside what is wrong with the file.

@@ -66,8 +66,8 @@ def texts() -> Iterator[tuple[str, bool]]:
     """The texts of the rows are those of the formats, and what crates of tests have of cases that
     are computed is a part of them.
     """
-    for crate, well in computed.kept():
-        yield "the input of %s is a part of what is computed" % crate, well
+    for crate, kind, well in computed.kept():
+        yield "the input of %s begins as what is computed%s" % (crate, kind and ": " + kind), well
     for name in row_texts.REPLIES:
         yield "replies of %s, from the formats" % name, read(
             ROWS / name / "replies") == row_texts.replies(name)

@@ -1,5 +1,5 @@
 //! The calls by their words, under Ed25519.
-use crate::words::{
+use crate::brought::words::{
     moment, number, repository, secrets, secrets_or_none, text, text_or_none, word,
 };
 use std::alloc::{AllocError, Global};
@@ -13,7 +13,7 @@ use up_ed25519::scheme::Ed25519;
 use up_metadata::keys::{RepoKeys, RoleSecrets};
 use up_roles::targets::{Target, read_targets};
 use up_shown::shows::Shows;
-use up_test_rows::calls::Calls;
+use up_test_common::calls::Calls;
 
 /// The calls, of which none keeps anything.
 #[derive(Clone, Copy, Debug)]
