@@ -19,12 +19,18 @@ Nothing but Python's standard library is used. The input of `build` is one JSON 
 A report may have `"sha512": HEX` too. With `"method": "ed25519"` the keys are secrets of Ed25519; without, they are HMAC's. So it
 is with VEHICLE and SECRETS; under Ed25519 `check` takes the text of the Director's Root in place of SECRETS.
 
-VEHICLE is a file that holds what the vehicle knows, `vehicle.json` for one; it is written anew in each round. It holds secrets: the
-ECUs', and under HMAC those of the repositories' roles. In a vehicle each ECU signs its own report with its own key and hands the envelope to
-the Primary, and checks the metadata once more; here one program holds all keys. Images aren't served by the repositories: a round
-takes them from a folder, by their filenames, and installs none before all are there. What `trust` fetches is believed as it
-comes: so that is done once, in the factory, and over a connection that nobody else can change. Where an ECU was
-replaced, its old identifier is put into the list `replaced`.
+VEHICLE is a file that holds what the vehicle knows, `vehicle.json` for one; it is written anew in each round. Before `trust` it is
+
+    {"vehicle": .., "primary": .., "counter": 0, "method": "ed25519", "director": {"versions": {}}, "image": {"versions": {}},
+     "ecus": [{"ecu": .., "hardware": .., "secret": HEX, "counter": 0,
+               "installed": {"file": .., "length": N, "sha256": HEX, "release": N}}, ..]}
+
+with the inventory's ECUs in its order, and what is in them. It holds secrets: the ECUs', and under HMAC, in `role_secrets`, those
+of the repositories' roles. OpenSSL's file of one ends with it: `openssl pkey -in P1.pem -outform DER | tail -c 32 | od -An -vtx1`. In a
+vehicle each ECU signs its own report with its own key and hands the envelope to the Primary, and checks the metadata once more; here
+one program holds all keys. Images aren't served by the repositories: a round takes them from a folder, by their filenames, and
+installs none before all are there. What `trust` fetches is believed as it comes: so that is done once, in the factory, and over a
+connection that nobody else can change. Where an ECU was replaced, its old identifier is put into the list `replaced`.
 
 The status is 0 where all went well, 1 with a message where it didn't, and 2 where the words are wrong.
 """

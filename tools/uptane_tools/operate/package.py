@@ -15,7 +15,8 @@ file; `sha256sum --check` reads it, from `/`. `NAME.spdx.json` lists the crates 
 is made of. The maintainer is the line of `examples/service/maintainer`. Made twice of one
 commit, it is the same file.
 
-Installing makes a user, a group of operators and folders, and enables the units, which start
+Links of the packed pages lead to what is packed; the text of another is followed by `(in the
+sources)`. Installing makes a user, a group of operators and folders, and enables the units, which start
 nothing before the founding. An upgrade leaves the service as it runs, and says so. Removing
 stops the units, and leaves data, copies, the spool and the journal. A program that was built
 without a proof is refused; with --unproved it is packed, and its version, its description and
@@ -24,6 +25,7 @@ MANIFEST say so.
 import gzip
 import hashlib
 import os
+import re
 import shutil
 import subprocess
 import sys
@@ -132,12 +134,10 @@ def parts(program: Path) -> Parts:
         if path.suffix in ("", ".py", ".js", ".css") and path.name not in ("package.py",
                                                                            "__pycache__"):
             yield LIBRARY / path.relative_to(TOP), path, 0o755 if path == RUN else 0o644
-    # (the pages link to the examples and to these; what else they link to is for whoever has the
-    # sources)
     examples = [it for it in (TOP / "examples").rglob("*") if it.is_file() and it.suffix != ".pyc"]
     for path in sorted([
             *(TOP / "docs").rglob("*.md"), *examples,
-            *(TOP / it for it in ("README.md", "SECURITY.md", "CHANGELOG.md"))]):
+            *(TOP / it for it in ("README.md", "SECURITY.md", "CHANGELOG.md", "LICENSE"))]):
         yield LIBRARY / path.relative_to(TOP), path, 0o755 if os.access(path, os.X_OK) else 0o644
     for name in ("README.md", "nginx.conf", "haproxy.cfg", "several/nginx.conf",
                  "several/haproxy.cfg", "alerts/uptane.yml"):
@@ -153,6 +153,20 @@ def of_bench(program: Path) -> Parts:
     yield Path("usr/bin/uptane_desk_bench"), program, 0o755
     for name in ("LICENSE", "CHANGELOG.md"):
         yield Path("usr/share/doc/uptane-desk-bench") / name, TOP / name, 0o644
+
+
+def linked(page: str, given: Path, place: Path, there: set[Path]) -> str:
+    """A page whose links lead to what is packed. One to anything else is its text alone."""
+
+    def link(found: re.Match[str]) -> str:
+        text, target, anchor = found.groups()
+        at = Path(os.path.normpath(given.parent / target))
+        to = LIBRARY / at.relative_to(TOP) if at.is_relative_to(TOP) else None
+        if to in there:
+            return "[%s](%s%s)" % (text, os.path.relpath(to, place.parent), anchor)
+        return "%s (in the sources)" % text
+
+    return re.sub(r"!?\[([^][]*)\]\(([\w./-]+)((?:#[\w-]*)?)\)", link, page)
 
 
 def copied(given: Path, to: Path, mode: int) -> None:
@@ -192,15 +206,23 @@ def laid(program: Path, folder: Path, bench: bool = False) -> None:
     """Puts all files below a folder. What settings there are stay."""
     listed: list[tuple[Path, Path]] = []
     name = "uptane-desk-bench" if bench else "uptane-desk"
-    for place, given, mode in of_bench(program) if bench else parts(program):
+    every = list(of_bench(program) if bench else parts(program))
+    there = {place for place, _, _ in every}
+    there |= {folder for it in there for folder in it.parents}
+    for place, given, mode in every:
         if place.parts[0] != "etc" or not (folder / place).exists():
             copied(given, folder / place, mode)
+        if place.suffix == ".md":
+            (folder / place).write_text(
+                linked(given.read_text(encoding="utf-8"), given, place, there), encoding="utf-8")
         if place.parts[0] != "etc":
-            listed.append((place, given))
+            listed.append((place, folder / place))
     if not bench:
-        link = folder / DOCUMENTS / "docs"
-        link.unlink(missing_ok=True)
-        link.symlink_to("../../../lib/uptane_desk/docs")
+        # (the pages name the program for fleets so, beside the one for benches)
+        for link, to in ((DOCUMENTS / "docs", "../../../lib/uptane_desk/docs"),
+                         (Path("usr/bin/uptane_desk_ed25519"), "uptane_desk")):
+            (folder / link).unlink(missing_ok=True)
+            (folder / link).symlink_to(to)
     documents, library = Path("usr/share/doc") / name, Path("usr/lib") / name.replace("-", "_")
     crate = "uptane_desk" if bench else "uptane_desk_ed25519"
     kit = said(program).partition(", kit ")[2].partition(",")[0] or "NOASSERTION"

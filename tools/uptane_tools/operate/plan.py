@@ -24,10 +24,11 @@ anew behind 1,000,000 connections; a vehicle makes --requests of them (6) for ea
 many whole copies of each file are kept (48), on the same disk; with --clones (XFS, Btrfs) they
 take what grew meanwhile.
 
-Desks are enough where a start takes at most S seconds (60), where all desks of one machine with
-one of them starting fit into its memory (8 GB), all files and copies on its disk (200 GB), and
-where the busiest hour, which has SHARE of a day's manifests (0.2), leaves a desk half of its
-time. The last line says how many are enough, and the status is 1 where 64 aren't.
+Desks are enough where a start takes at most S seconds (60), where all desks of one machine and a
+start, of one of them or of a copy that is tried, fit into its memory (8 GB), all files and copies
+on its disk (200 GB), and where the busiest hour, which has SHARE of a day's manifests (0.2),
+leaves a desk half of its time. The last line says how many are enough, and the status is 1 where
+64 aren't.
 
 The figures are those of `docs/use/SPEED.md`, measured on a machine that had other work: FACTOR
 (1) is how many times as fast yours is. Each manifest waits once until the disk has synchronised,
@@ -107,7 +108,7 @@ class Desk:
         self.manifest = (MANIFEST + MANIFEST_ECU * given.ecus + signed +
                          MANIFEST_KEPT * self.kept / 1000) / given.speed + 1000 * given.sync
         self.busy = self.a_day * given.busiest / 3600 * self.manifest / 1e6
-        self.memory = self.stays * (desks - 1) + self.peak
+        self.memory = self.stays * desks + self.peak
         grown = min(self.file, 2 * self.a_day * reply_bytes(given))
         self.disk = desks * (self.file + (2 * grown if given.clones else given.copies * self.file))
         self.upgrade = desks * (self.start + 1) / 60

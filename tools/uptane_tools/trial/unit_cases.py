@@ -223,7 +223,9 @@ def set_up(program, own):
     built.parent.mkdir(parents=True)
     shutil.copy(program, built)
     (own / "founding.script").write_text("\n".join(http_cases.FIRST_PATH) + "\n", "ascii")
-    yield "the package is made and installed", carried_out(installing(program), own)[1]
+    said, is_well = carried_out(installing(program), own)
+    yield "the package is made and installed, and says what comes next", is_well and (
+        "nothing is founded yet: read Founding in /usr/share/doc/") in said
     states = [ran("systemctl", "start", unit).returncode for unit in (UNIT, REFRESH, BACKUP)] + [
         shown("ActiveState", unit) for unit in (UNIT, REFRESH, BACKUP)]
     yield "before the founding nothing starts, and nothing fails", states == [0, 0, 0

@@ -619,6 +619,9 @@ def backed_up(program, own):
         yield "with metrics, a page, and what comes after", [
             (own / name).exists() for name in ("metrics.prom", "page.html")] == [
                 True, True] and str(copies[0]) in (own / "listed").read_text("ascii")
+        page = (own / "page.html").stat()
+        yield "the page is for the group of its folder", (stat.S_IMODE(
+            page.st_mode), page.st_gid) == (0o640, own.stat().st_gid)
         modes = {stat.S_IMODE(path.stat().st_mode) for path in (own / "copies").iterdir()}
         yield "it is its owner's alone", modes == {0o600}
         never = [
@@ -970,13 +973,15 @@ def packaged(program, own):
     yield "what its units name is there", len(places) >= 5 and all(
         (root / name[1:]).exists() for name in places)
     library = root / "usr/lib/uptane_desk"
-    links = [(page, link) for page in (library / "docs").rglob("*.md")
+    links = [(page, link) for page in root.rglob("*.md")
              for link in re.findall(r"\]\(([^)#:]+)[^):]*\)", page.read_text("utf-8"))]
-    lost = [
-        (page.name, link) for page, link in links if re.search(r"\.md$|/examples/", link) and
-        not re.search(r"\b(?:crates|rows|vectors)/", link) and not (page.parent / link).exists()]
+    lost = [(page.name, link) for page, link in links if not (page.parent / link).exists()]
     print("".join("%s links to %s, which isn't packaged\n" % it for it in lost), end="")
-    yield "pages find each other, and the examples", len(links) > 100 and not lost
+    yield "no link of a page leads nowhere", len(links) > 150 and not lost
+    yield "what isn't packed is called so", "vectors (in the sources)" in (
+        library / "docs/integrate/PRIMARY.md").read_text("utf-8")
+    yield "it has the name of the pages too", (root / "usr/bin/uptane_desk_ed25519").resolve() == (
+        root / "usr/bin/uptane_desk").resolve()
     packed = library / "tools"
     helped = {
         path.stem: ran(sys.executable, packed / "run", path.stem, "--help").returncode
@@ -1045,12 +1050,39 @@ def paced():
         Path("images"), "a/b.bin") == Path("images/a/b.bin")
 
 
+def first_round(program, own):
+    """A vehicle's file as the small Primary's page says it begins: it trusts, and goes a round."""
+    with service(program, own) as it:
+        trials.printed(program, it.file(), FOUNDING)
+        it.systemctl("start")
+        is_public = b'"method":"ed25519"' in it.get("/director/root.json")
+        told = {
+            "vehicle": "V1", "primary": "V1-p", "counter": 0, "director": {"versions": {}},
+            "image": {"versions": {}}, "ecus": [{
+                "ecu": "V1-p", "hardware": "HP", "secret": fleet.key(9), "counter": 0,
+                "installed": {
+                    "file": "hp-1.bin", "length": 3, "sha256": fleet.digest("1"), "release": 1}}]}
+        keys = fleet.key_set(1)
+        told |= {"method": "ed25519"} if is_public else {
+            "role_secrets": [
+                key for of in ("director", "image") for role in keys[of].values()
+                for key in role["keys"]]}
+        path = own / "vehicle.json"
+        path.write_text(json.dumps(told), encoding="ascii")
+        words = [
+            ran(sys.executable, trials.TOP / "examples" / "primary" / "primary.py", word,
+                "http://127.0.0.1:%d" % it.ports[""], path) for word in ("trust", "round")]
+        print(words[1].stdout + words[0].stderr + words[1].stderr, end="")
+        yield "a new vehicle's file", words[1].stdout == "verified: version 1, targets 0\n"
+
+
 def cases(program):
     yield from paced()
     yield from between()
     parts = [planned, measured]
     if shutil.which("curl"):
-        parts += [applied, applied_to_several, backed_up, logged, damaged, lost, watched]
+        parts += [
+            applied, applied_to_several, backed_up, logged, damaged, lost, watched, first_round]
     else:
         print("there is no curl, so no scripts are applied")
     for part in [*parts, packaged]:
