@@ -7,9 +7,10 @@
 # Scripts are taken from SPOOL, whole files named NAME.script, and checked. One that the checker refuses stops no service; where none is
 # left, and no refresh is asked for, nothing more is done. Scripts that only show and fetch are given to a copy, and stop nothing. Else
 # each desk, one after the other, is copied where scripts are given, stopped, given its lines, and started again, whatever happens; where
-# keys were rotated it is copied once more. The program opens each copy before that goes on. What was answered is in SPOOL/answers, and in the journal with who gave it; what wasn't is in
-# SPOOL/held. The status is 0 where all was accepted, and answered without a refusal. `--mend` puts right what a run left that was killed: it starts the desk
-# that was stopped, and puts scripts into SPOOL/held. Each run begins so. Settings are read from /etc/uptane/settings.
+# keys were rotated it is copied once more. The program opens each copy, as backup.sh has it do. A desk whose file is gone isn't stopped.
+# What was answered is in SPOOL/answers, and in the journal with who gave it; what wasn't is in SPOOL/held. The status is 0 where all was
+# accepted, and answered without a refusal. `--mend` puts right what a run left that was killed: it starts the desk that was stopped, and
+# puts scripts into SPOOL/held. Each run begins so. Settings are read from /etc/uptane/settings.
 set -eu
 umask 077
 : "${SETTINGS:=/etc/uptane/settings}"
@@ -19,7 +20,7 @@ if [ -r "$SETTINGS" ]; then . "$SETTINGS"; fi
 : "${FOLDER:=/var/lib/uptane}" "${SPOOL:=/var/spool/uptane}" "${JOURNAL:=/var/log/uptane/journal}" "${COPIES:=/var/backups/uptane}"
 # several desks: their number, and the folder of their division; how long a start may take, in seconds
 : "${DESKS:=}" "${DIVISION:=/var/lib/uptane-division}" "${PATIENCE:=600}" "${RUN:=/run}" "${AFTER_APPLY:=/etc/uptane/after-apply}"
-: "${AFTER:=/etc/uptane/after-backup}"
+: "${AFTER:=/etc/uptane/after-backup}" "${TRY_EACH:=0}"
 
 refresh='' mend=''
 case ${1:-} in
@@ -118,7 +119,9 @@ copied() {
         sleep 1
         copy=$COPIES/desk$1-$(date -u +%Y%m%dT%H%M%SZ)-$2.db
     done
-    tool copy_served "$(pid_of "$1")" "$(file_of "$1")" "$copy" && tool try_copy "$PROGRAM" "$copy"
+    tool copy_served "$(pid_of "$1")" "$(file_of "$1")" "$copy" || return 1
+    if [ "$(find "$COPIES" -maxdepth 1 -name "tried$1" -mmin "-$TRY_EACH")" ]; then return 0; fi
+    tool try_copy "$PROGRAM" "$copy"
 }
 
 # as the owner of the file: what another user makes can't be opened by the service
@@ -159,7 +162,7 @@ if [ "$DESKS" ]; then
 fi
 kept
 # the new keys are in no other copy
-rotated() { if copied "$1" rotated; then made="$made $copy"; else failed=yes; fi; }
+rotated() { if copied "$1" rotated; then made="$made $(find "$COPIES" -path "$copy*" -printf '%p ')"; else failed=yes; fi; }
 made=''
 if grep -Eqs '"do" *: *"(found|rotate)"' "$work"/*.script; then each rotated; fi
 # shellcheck disable=SC2086

@@ -4,8 +4,8 @@
 #     before.sh FILE
 #
 # Where another program has the file open nothing is done, since the program won't open it either. FOUNDED/NAME is made, which tells from
-# then on that there was a file: where it is gone the start fails, since the program would make an empty one. Settings are those of
-# apply.sh.
+# then on that there was a file: where it is gone the start fails, since the program would make an empty one. Remove FOUNDED/NAME to
+# begin anew. Settings are those of apply.sh.
 set -eu
 : "${SETTINGS:=/etc/uptane/settings}"
 # shellcheck source=/dev/null

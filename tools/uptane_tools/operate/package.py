@@ -104,6 +104,7 @@ REMOVED = """#!/bin/sh
 set -e
 if [ -z "$DPKG_ROOT" ] && [ -d /run/systemd/system ]; then systemctl daemon-reload; fi
 if [ "$1" = purge ]; then
+    if [ -z "$DPKG_ROOT" ]; then rm -rf /etc/uptane/founded; fi
     echo "what vehicles and operators made is left: /var/lib/uptane /var/backups/uptane /var/spool/uptane /var/log/uptane"
 fi
 """

@@ -238,6 +238,7 @@ def set_up(program, own):
         shown("ActiveState", unit) for unit in timers] == 4 * ["active"]
     yield "the founding, and the service starts", said == (
         "done\ndone\nreply V1 version 1 targets 0\n", True)
+    yield "that there is a file is kept elsewhere", Path("/etc/uptane/founded/desk.db").exists()
     yield "the service serves", delivered(
         http_cases.MANIFEST) == http_cases.REPLY and shown("ActiveState") == "active"
     yield "it starts with the machine", [

@@ -500,8 +500,13 @@ def turned(it):
 def rotated(it):
     """Behind a rotation a copy is made, which has the new keys."""
     it.drop("keys.script", fleet.line("rotate", NOW, **fleet.key_set(2)))
+    after = it.own / "after"
+    after.write_text('#!/bin/sh\necho "$@" > %s/brought\n' % it.own, encoding="ascii")
+    after.chmod(0o755)
     done = it.script("apply.sh")
     copies = sorted((it.own / "copies").glob("desk-*-rotated.db"))
+    brought = (it.own / "brought").read_text("ascii").split()
+    yield "it is brought elsewhere", brought == [str(it) for it in copies]
     with trials.read(copies[0]) as db:
         yield "a copy behind a rotation", done.returncode == 0 and len(copies) == 1 and db.execute(
             "SELECT root FROM meta").fetchone() == (2, )
@@ -782,6 +787,14 @@ def damaged(program, own):
         served = trials.printed(program, alone[0], [fleet.line("show", NOW, vehicle="V1")])
         yield "what is brought elsewhere is whole", len(alone) == 1 and served[0].startswith(
             "vehicle V1 version 1")
+        time.sleep(1.1)
+        it.env["TRY_EACH"] = "60"
+        it.script("backup.sh")
+        ends = [
+            path.name.partition(".db")[2] for path in (own / "elsewhere").iterdir()
+            if not path.name.startswith(alone[0].name)]
+        yield "one that isn't tried, with its log", sorted(ends) == ["", "-wal"]
+        it.env["TRY_EACH"] = "0"
         for _ in range(3):
             time.sleep(1.1)
             it.script("backup.sh")
