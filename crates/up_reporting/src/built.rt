@@ -1,6 +1,12 @@
 //! The body that is sent: the manifest of a file that lists the reports.
 ghost use Rattle.std.specs.Prelude.{◌≡◌, ◌≤◌, IfOk, IsTrue, length};
 ghost use Rattle.std.specs.List.{list_all};
+ghost use Rattle.std.specs.Prelude.{string_bytes, MatchResult, Ok, codes};
+ghost use Rattle.serde_json.specs.Find.{get};
+ghost use Rattle.serde_json.specs.View.{view};
+ghost use Rattle.up_canon.specs.Members.{IsFault, object_of_map};
+ghost use Rattle.up_canon.specs.Refusals.{Gives, GivesAs};
+ghost use Rattle.up_reporting.specs.Listed.{manifest_in, manifest_of as manifest_of_value, manifest_by, method_as, counter_in, reports_in};
 ghost use Rattle.up_sign.specs.Formats.{envelope_fits};
 ghost use Rattle.up_canon.specs.Canon.{max_count};
 
@@ -30,7 +36,10 @@ const MOST_REPORTS: usize = 64;
 /// the Primary's secret `key` in hex, `counter`, and `reports`, each an `ecu` with its `key`, `counter`, `time` in seconds,
 /// `attack`, and its image: `file`, `length`, `sha256`, and `sha512` where it has one. `NotJson`, `BadShape` with the name of the
 /// first member at fault, `Memory`.
-pub fn manifest_of(alloc: Global, text: &str) -> Result<String, Refusal> {
+#[tactic(auto, unfolding(crate::specs::Listed::manifest_in, up_canon::specs::Steps::and_then))]
+pub fn manifest_of(alloc: Global, text: &str) -> Result<String, Refusal>
+    ensures { GivesAs string_bytes result (manifest_in text.now) }
+{
     let value = value_of_text(alloc, text)?;
     let built = built_of(alloc, &value);
     // Dropped by name: at the end of a scope it would be proved part by part.
@@ -38,32 +47,45 @@ pub fn manifest_of(alloc: Global, text: &str) -> Result<String, Refusal> {
     built
 }
 
-fn built_of(alloc: Global, value: &Value) -> Result<String, Refusal> {
+#[tactic(auto, unfolding(crate::specs::Listed::manifest_of, up_canon::specs::Steps::and_then))]
+fn built_of(alloc: Global, value: &Value) -> Result<String, Refusal>
+    ensures { GivesAs string_bytes result (manifest_of_value (view value.now)) }
+{
     let map = object_of(value, "manifest")?;
-    match method_at(map)? {
-        "hmac-sha256" => built_by(alloc, &HmacSha256, map),
-        "ed25519" => built_by(alloc, &Ed25519, map),
-        _ => Err(Refusal::from("method")),
+    let method = method_at(map)?;
+    if method == "hmac-sha256" {
+        built_by(alloc, &HmacSha256, map)
+    } else if method == "ed25519" {
+        built_by(alloc, &Ed25519, map)
+    } else {
+        Err(Refusal::from("method"))
     }
 }
 
-fn method_at<'a>(map: &'a Map<String, Value>) -> Result<&'a str, &'static str> {
+fn method_at<'a>(map: &'a Map<String, Value>) -> Result<&'a str, &'static str>
+    ensures { MatchResult result
+        (λ text. method_as (get (codes "method") (object_of_map map.now.entries)) ≡ Ok text.now)
+        (λ fault. IsFault (method_as (get (codes "method") (object_of_map map.now.entries))) (codes "method") fault.now) }
+{
     match find(map, "method") {
         Some(value) => text_of(value, "method"),
         None => Ok("hmac-sha256"),
     }
 }
 
+#[tactic(auto, unfolding(crate::specs::Listed::manifest_by, up_canon::specs::Steps::and_then))]
 fn built_by<K: Scheme>(
     alloc: Global,
     scheme: &K,
     map: &Map<String, Value>,
-) -> Result<String, Refusal> {
+) -> Result<String, Refusal>
+    ensures { GivesAs string_bytes result (manifest_by (K.rules scheme.now) (object_of_map map.now.entries)) }
+{
     let counter = counter_at(map)?;
     let secret = secret_at(alloc, scheme, map)?;
-    let names = names_at(alloc, map)?;
+    let vehicle = ident_at(alloc, map, "vehicle")?;
+    let primary = ident_at(alloc, map, "primary")?;
     let reports = reports_at(alloc, scheme, map)?;
-    let Names { vehicle, primary } = names;
     let built = build_manifest(
         alloc,
         scheme,
@@ -80,23 +102,11 @@ fn built_by<K: Scheme>(
     Ok(built?)
 }
 
-/// The vehicle and its Primary.
-#[derive(Drop)]
-struct Names {
-    vehicle: Ident,
-    primary: Ident,
-}
-
-fn names_at(alloc: Global, map: &Map<String, Value>) -> Result<Names, Refusal> {
-    Ok(Names {
-        vehicle: ident_at(alloc, map, "vehicle")?,
-        primary: ident_at(alloc, map, "primary")?,
-    })
-}
-
 /// The counter, from 1 on.
+#[tactic(auto, unfolding(crate::specs::Listed::counter_in, up_canon::specs::Steps::and_then))]
 fn counter_at(map: &Map<String, Value>) -> Result<Count, Refusal>
-    ensures { IfOk result (λ n. (1 ≤ n) × (n ≤ max_count)) }
+    ensures value { Gives result (counter_in (object_of_map map.now.entries)) }
+    ensures limits { IfOk result (λ n. (1 ≤ n) × (n ≤ max_count)) }
 {
     let counter = count_at(map, "counter")?;
     if counter.get() == 0 {
@@ -106,12 +116,14 @@ fn counter_at(map: &Map<String, Value>) -> Result<Count, Refusal>
 }
 
 /// The envelopes of at most 64 reports.
+#[tactic(auto, unfolding(crate::specs::Listed::reports_in, up_canon::specs::Steps::and_then))]
 fn reports_at<K: Scheme>(
     alloc: Global,
     scheme: &K,
     map: &Map<String, Value>,
 ) -> Result<Listed<Envelope>, Refusal>
-    ensures { IfOk result (λ envelopes. (length envelopes ≤ 64) × IsTrue (list_all envelope_fits envelopes)) }
+    ensures value { Gives result (reports_in (K.rules scheme.now) (object_of_map map.now.entries)) }
+    ensures limits { IfOk result (λ envelopes. (length envelopes ≤ 64) × IsTrue (list_all envelope_fits envelopes)) }
 {
     let values = list_at(map, "reports")?.as_slice();
     if values.len() > MOST_REPORTS {

@@ -1,6 +1,11 @@
 //! A report of the list, and the envelope in which its ECU signs it.
 ghost use Rattle.std.specs.Prelude.{◌≡◌, ◌≤◌, IfOk, IsTrue, length};
 ghost use Rattle.std.specs.List.{list_all};
+ghost use Rattle.serde_json.specs.View.{view};
+ghost use Rattle.up_canon.specs.Members.{object_of_map, values_of};
+ghost use Rattle.up_canon.specs.Refusals.{Gives};
+ghost use Rattle.up_canon.specs.Steps.{each};
+ghost use Rattle.up_reporting.specs.Listed.{envelope_of as envelope_of_value, report_of as report_of_value, image_of as image_of_value, time_in, second_hash_in};
 ghost use Rattle.up_sign.specs.Formats.{envelope_fits};
 
 use crate::signing::secret_at;
@@ -19,12 +24,14 @@ use up_sign::envelope::Envelope;
 use up_sign::scheme::Scheme;
 
 /// The report that each value means, in the envelope that its `key` signs, in order.
+#[tactic(auto, unfolding(up_canon::specs::Steps::each, up_canon::specs::Steps::and_then))]
 pub(crate) fn envelopes_of<K: Scheme>(
     alloc: Global,
     scheme: &K,
     values: &[Value],
 ) -> Result<Listed<Envelope>, Refusal>
-    ensures { IfOk result (λ envelopes. (length envelopes ≡ length values.now) × IsTrue (list_all envelope_fits envelopes)) }
+    ensures value { Gives result (each (envelope_of_value (K.rules scheme.now)) (values_of values.now)) }
+    ensures limits { IfOk result (λ envelopes. (length envelopes ≡ length values.now) × IsTrue (list_all envelope_fits envelopes)) }
 {
     let mut envelopes = Vec::new(alloc);
     for value in values.iter() {
@@ -33,8 +40,10 @@ pub(crate) fn envelopes_of<K: Scheme>(
     Ok(Listed::new(envelopes))
 }
 
+#[tactic(auto, unfolding(crate::specs::Listed::envelope_of, up_canon::specs::Steps::and_then))]
 fn envelope_of<K: Scheme>(alloc: Global, scheme: &K, value: &Value) -> Result<Envelope, Refusal>
-    ensures { IfOk result (λ envelope. IsTrue (envelope_fits envelope)) }
+    ensures value { Gives result (envelope_of_value (K.rules scheme.now) (view value.now)) }
+    ensures limits { IfOk result (λ envelope. IsTrue (envelope_fits envelope)) }
 {
     let map = object_of(value, "reports")?;
     let secret = secret_at(alloc, scheme, map)?;
@@ -46,7 +55,10 @@ fn envelope_of<K: Scheme>(alloc: Global, scheme: &K, value: &Value) -> Result<En
     Ok(built?)
 }
 
-fn report_of(alloc: Global, map: &Map<String, Value>) -> Result<Report, Refusal> {
+#[tactic(auto, unfolding(crate::specs::Listed::report_of, up_canon::specs::Steps::and_then))]
+fn report_of(alloc: Global, map: &Map<String, Value>) -> Result<Report, Refusal>
+    ensures { Gives result (report_of_value (object_of_map map.now.entries)) }
+{
     Ok(Report {
         ecu: ident_at(alloc, map, "ecu")?,
         counter: count_at(map, "counter")?,
@@ -57,14 +69,20 @@ fn report_of(alloc: Global, map: &Map<String, Value>) -> Result<Report, Refusal>
 }
 
 /// The moment of the member `time`, in seconds.
-fn time_at(map: &Map<String, Value>) -> Result<Moment, Refusal> {
+#[tactic(auto, unfolding(crate::specs::Listed::time_in, up_canon::specs::Steps::and_then))]
+fn time_at(map: &Map<String, Value>) -> Result<Moment, Refusal>
+    ensures { Gives result (time_in (object_of_map map.now.entries)) }
+{
     match Moment::new(count_at(map, "time")?.get()) {
         Some(time) => Ok(time),
         None => Err(Refusal::from("time")),
     }
 }
 
-fn image_of(alloc: Global, map: &Map<String, Value>) -> Result<Installed, Refusal> {
+#[tactic(auto, unfolding(crate::specs::Listed::image_of, up_canon::specs::Steps::and_then))]
+fn image_of(alloc: Global, map: &Map<String, Value>) -> Result<Installed, Refusal>
+    ensures { Gives result (image_of_value (object_of_map map.now.entries)) }
+{
     Ok(Installed {
         length: count_at(map, "length")?,
         sha256: sha256_at(map, "sha256")?,
@@ -74,7 +92,10 @@ fn image_of(alloc: Global, map: &Map<String, Value>) -> Result<Installed, Refusa
 }
 
 /// The SHA-512, where there is one.
-fn second_hash_at(map: &Map<String, Value>) -> Result<Option<[u8; 64]>, Refusal> {
+#[tactic(auto, unfolding(crate::specs::Listed::second_hash_in, up_canon::specs::Steps::and_then))]
+fn second_hash_at(map: &Map<String, Value>) -> Result<Option<[u8; 64]>, Refusal>
+    ensures { Gives result (second_hash_in (object_of_map map.now.entries)) }
+{
     match find(map, "sha512") {
         Some(value) => Ok(Some(sha512_of(value, "sha512")?)),
         None => Ok(None),

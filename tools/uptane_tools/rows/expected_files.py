@@ -81,10 +81,11 @@ def gaps() -> Iterator[str]:
     examples, rows = TOP / "examples", TOP / "rows"
     yield from apart("examples", listed(examples / "README.md"), folders(examples))
     for name in sorted(folders(examples)):
-        yield from apart("examples/" + name, {
-            "primary": PRIMARY, "primary_node": {"primary.mjs"}, "service": SERVICE}.get(
-                name, EXAMPLE),
-                         names(examples / name) - {"under"})
+        yield from apart(
+            "examples/" + name, {
+                "primary": PRIMARY, "primary_node": {"primary.mjs"}, "proved_primary": {"round.py"},
+                "service": SERVICE}.get(name, EXAMPLE),
+            names(examples / name) - {"under"})
     yield from apart("examples/primary/ed25519", ED25519, names(examples / "primary" / "ed25519"))
     yield from apart("examples/service/several", SEVERAL, names(examples / "service" / "several"))
     yield from apart("examples/service/alerts", ALERTS, names(examples / "service" / "alerts"))

@@ -1,13 +1,21 @@
 """Tries the proved Primary by `vectors/`, of both schemes: the verdict on each chain, what is to be
-installed, and the state that is written; and the manifests that it builds.
+installed, and the state that is written; the manifests that it builds, and rounds over HTTP by
+`examples/proved_primary`.
 
     tools/run proved_primary PROGRAM
 
 promise: primary-told, primary-verifies, primary-roots
 """
+import contextlib
 import json
+import os
+import socket
 import subprocess
+import sys
+import time
+from collections.abc import Iterator
 from pathlib import Path
+from typing import Any
 
 from uptane_tools import arguments
 from uptane_tools.oracle import reference
@@ -113,7 +121,99 @@ def printed(program: str, listed: Path) -> tuple[int, str]:
     return ran.returncode, ran.stdout.decode("ascii")
 
 
+# ---- rounds over HTTP
+
+
+def rounds(program: str):
+    """Whole rounds over HTTP, by `examples/proved_primary`, with the rules as the service."""
+    with trials.folder() as own:
+        folder = Path(own)
+        bin_of(program, folder)
+        started(folder)
+        yield "rounds: the first Roots", went(folder, "first") == (0, "")
+        yield "rounds: nothing is assigned", went(folder, "round") == (0, "accepted\n")
+        given(folder, "rotate", keys_of(folder) | {"at": int(time.time())})
+        given(folder, "add_image", {"at": int(time.time())} | IMAGE)
+        items = [{"hardware": "HP", "file": IMAGE["file"]}]
+        given(folder, "open_campaign",
+              {"at": int(time.time()), "campaign": "c", "vehicles": "all", "items": items})
+        told = "accepted\ninstall P1 %(file)s %(length)d %(sha256)s %(release)d\n" % IMAGE
+        yield "rounds: an image, behind a rotation", went(folder, "round") == (0, told)
+        yield "rounds: it is installed", went(folder, "round") == (0, "accepted\n")
+        state = json.loads((folder / "state.json").read_text(encoding="ascii"))
+        roots = [
+            json.loads(state[it]["root"])["signed"]["version"] for it in reference.REPOSITORIES]
+        yield "rounds: the state", (roots, state["director"]["targets"],
+                                    state["ecus"][0]["release"]) == ([2, 2], 4, 7)
+
+
+IMAGE: dict[str, Any] = {
+    "file": "new.bin", "hardware": ["HP"], "length": 3, "release": 7, "sha256": 32 * "5a"}
+
+
+def bin_of(program: str, folder: Path) -> None:
+    """A folder for the PATH, in which the program has its own name."""
+    (folder / "bin").mkdir()
+    (folder / "bin" / "uptane_primary").symlink_to(Path(program).resolve())
+
+
+def started(folder: Path) -> None:
+    """Two repositories that are founded now, and what the vehicle reports."""
+    script = (trials.FIRST_PATH / "script").read_text(encoding="ascii")
+    lines = script.replace("1767225600", str(int(time.time()))).encode("ascii")
+    assert trials.tool("reference", "run", folder / "desk", given=lines)[0] == 0
+    told = json.loads((trials.MESSAGES / "manifest-input.json").read_text(encoding="ascii"))
+    vehicle = json.loads((trials.MESSAGES / "vehicle.json").read_text(encoding="ascii"))
+    for it in told["reports"]:
+        it |= {"hardware": "HP", "release": 0}
+    told |= {"held": vehicle.get("role_secrets", [])}
+    (folder / "own.json").write_text(json.dumps(told), encoding="ascii")
+
+
+def given(folder: Path, command: str, members: dict[str, Any]) -> None:
+    """A command of the operator's."""
+    line = reference.canonical({"do": command} | members).encode("ascii")
+    assert trials.tool("reference", "run", folder / "desk", given=line + b"\n")[1] == ["done"]
+
+
+def keys_of(folder: Path) -> dict[str, Any]:
+    """The roles' keys that the repositories were founded with, for a Root with the same."""
+    found = json.loads((trials.FIRST_PATH / "script").read_text(encoding="ascii").split("\n")[0])
+    return {it: found[it] for it in reference.REPOSITORIES}
+
+
+def went(folder: Path, word: str) -> tuple[int, str]:
+    """The status of the script, and what it printed."""
+    with served(folder) as port:
+        words = [
+            sys.executable,
+            str(trials.TOP / "examples" / "proved_primary" / "round.py"), word,
+            "http://127.0.0.1:%d" % port,
+            str(folder)]
+        path = "%s:%s" % (folder / "bin", os.environ["PATH"])
+        ran = subprocess.run(words, capture_output=True, check=False, timeout=120,
+                             env=os.environ | {"PATH": path})
+    return ran.returncode, ran.stdout.decode("ascii")
+
+
+@contextlib.contextmanager
+def served(folder: Path) -> Iterator[int]:
+    """A service by the rules, at a port of its own."""
+    with socket.socket() as free:
+        free.bind(("127.0.0.1", 0))
+        port = free.getsockname()[1]
+    words = [sys.executable, str(trials.RUN), "reference", "serve", str(folder / "desk"), str(port)]
+    with subprocess.Popen(words, stdout=subprocess.PIPE, stderr=subprocess.DEVNULL) as running:
+        assert running.stdout is not None
+        running.stdout.readline()
+        try:
+            yield port
+        finally:
+            running.terminate()
+
+
 def main(words: arguments.Words = None) -> int:
     """Tries the program."""
     asked = arguments.given(__doc__, words, "program")
-    return trials.judged("primary", [*cases(asked.program), *builds(asked.program)])
+    return trials.judged("primary",
+                         [*cases(asked.program), *builds(asked.program), *rounds(asked.program)])

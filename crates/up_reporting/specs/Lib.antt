@@ -1,0 +1,2 @@
+-- The manifest that a list of reports means.
+pub mod Listed
