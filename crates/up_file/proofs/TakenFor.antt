@@ -1,4 +1,5 @@
 -- A database that is taken for a scheme, or refused, behind a read that changed nothing.
+use Rattle.std.specs.Prelude.{◌⊎◌}
 use Rattle.std.proofs.Common.{◌≡◌, ℕ, List, true, false, inl, inr, Ok, Err, Result, IfOk, IfErr, length, refl, sym, ap, ◌∙◌, arith}
 use Rattle.sqlite.specs.State.{State, HasCleanDisk, Survives}
 use Rattle.sqlite.specs.Effect.{Database}
@@ -6,12 +7,13 @@ use Rattle.sqlite.specs.Schema.{Schema}
 use Rattle.sqlite.specs.Tree.{Trees}
 use Rattle.up_tables.specs.Tables.{no_schema, up_schema}
 use Rattle.up_tables.specs.declared.open.OpenFault.{OpenFault}
-use Rattle.up_tables.specs.declared.open.OpenFault.TheVariants.{NotOurs}
+use Rattle.up_tables.specs.declared.open.OpenFault.TheVariants.{NotOurs, Store}
+use Rattle.up_tables.specs.Making.{FailsToMake}
 use Rattle.up_tables.specs.Stands.{IfClean, IsAsCommitted, HasNoTables}
 use Rattle.up_rows.specs.StateRows.{StateRows}
 use Rattle.up_store.specs.Connections.{KeepsRows, MadeIn}
 use Rattle.up_store.specs.Opening.{Creates, FailsToCreate}
-use Rattle.up_file.specs.Adopting.{AdoptedIn, RefusesDatabase, TakesDatabase}
+use Rattle.up_file.specs.Adopting.{AdoptedIn, FailsToTake, RefusesDatabase, TakesDatabase}
 use Rattle.up_file.specs.Schemes.{IsRead, IsRefused, IsTakenFor, TellKeys}
 use Rattle.up_file.proofs.AsBefore.{as_before}
 
@@ -62,22 +64,24 @@ module _ {A C : Type 0} (of_conn : C → State) (shown : A → State) (method : 
   }
   made_ok (Err e) made = tt
 
-  refused : (new : State) → IfClean (IsAsCommitted (of_conn mid)) new → new.in_transaction ≡ false → Survives (of_conn mid) new (AdoptedIn (of_conn mid)) → IsRefused of_conn old new
-  refused new kept mode crash = record {
+  refused : (new : State) (fault : OpenFault) → (fault ≡ Store → HasCleanDisk new → FailsToTake (of_conn mid) new ⊎ FailsToMake (of_conn mid) new) → IfClean (IsAsCommitted (of_conn mid)) new
+      → new.in_transaction ≡ false → Survives (of_conn mid) new (AdoptedIn (of_conn mid)) → IsRefused of_conn old new fault
+  refused new fault cause kept mode crash = record {
     between = mid;
+    cause = cause;
     read = read;
     crash = crash;
     kept = λ clean. as_before old (of_conn mid) new (read.kept (omega (arith, clean, crash.clean))) (kept clean);
     mode = mode;
   }
 
-  pub taken_err : (r : Result A (C × OpenFault)) → IfErr r (λ e. RefusesDatabase (of_conn mid) (of_conn e.0) e.1) → IfErr r (λ e. IsRefused of_conn old (of_conn e.0))
+  pub taken_err : (r : Result A (C × OpenFault)) → IfErr r (λ e. RefusesDatabase (of_conn mid) (of_conn e.0) e.1) → IfErr r (λ e. IsRefused of_conn old (of_conn e.0) e.1)
   taken_err (Ok x) told = tt
-  taken_err (Err e) told = refused (of_conn e.0) told.kept told.mode told.crash
+  taken_err (Err e) told = refused (of_conn e.0) e.1 (λ is clean. inl (told.cause is clean)) told.kept told.mode told.crash
 
-  pub made_err : (r : Result A (C × OpenFault)) → IfErr r (λ e. FailsToCreate (of_conn mid) (of_conn e.0) e.1) → IfErr r (λ e. IsRefused of_conn old (of_conn e.0))
+  pub made_err : (r : Result A (C × OpenFault)) → IfErr r (λ e. FailsToCreate (of_conn mid) (of_conn e.0) e.1) → IfErr r (λ e. IsRefused of_conn old (of_conn e.0) e.1)
   made_err (Ok x) told = tt
-  made_err (Err e) told = refused (of_conn e.0) told.kept told.mode (made_taken (of_conn mid) (of_conn e.0) told.crash)
+  made_err (Err e) told = refused (of_conn e.0) e.1 (λ is clean. inr (told.cause is clean)) told.kept told.mode (made_taken (of_conn mid) (of_conn e.0) told.crash)
 
 -- ---- what comes back without a further step
 
@@ -91,9 +95,10 @@ same s Q = record {
   crash = λ clean db may. inl may;
 }
 
-pub refused_at : {C : Type 0} (of_conn : C → State) (old : State) (mid : C) → IsRead old (of_conn mid) → IsRefused of_conn old (of_conn mid)
-refused_at of_conn old mid read = record {
+pub refused_at : {C : Type 0} (of_conn : C → State) (old : State) (mid : C) (fault : OpenFault) → (fault ≡ Store → ⊥) → IsRead old (of_conn mid) → IsRefused of_conn old (of_conn mid) fault
+refused_at of_conn old mid fault other read = record {
   between = mid;
+  cause = λ is clean. absurd (other is);
   read = read;
   crash = same (of_conn mid) (AdoptedIn (of_conn mid));
   kept = read.kept;

@@ -11,8 +11,11 @@ use Rattle.up_rows.specs.Lookups.{text_held}
 use Rattle.up_sign.specs.declared.envelope.Envelope.{Envelope}
 use Rattle.up_rows.specs.StateRows.{StateRows, no_rows}
 use Rattle.up_store.specs.Connections.{Answers, HoldsRows, KeepsRows}
+use Rattle.up_tables.specs.declared.open.OpenFault.{OpenFault}
+use Rattle.up_tables.specs.declared.open.OpenFault.TheVariants.{Store}
+use Rattle.up_tables.specs.Making.{FailsToMake}
 use Rattle.up_tables.specs.Stands.{IfClean, IsAsCommitted, HasNoTables, LeavesOnly}
-use Rattle.up_file.specs.Adopting.{AdoptedIn, IsAdopted}
+use Rattle.up_file.specs.Adopting.{AdoptedIn, FailsToTake, IsAdopted}
 
 -- each key of the role is of the method
 abbrev pub is_role_by : List ℕ → RoleKeys → Bool
@@ -61,9 +64,11 @@ pub record IsTakenFor {C : Type 0} (of_conn : C → State) (method : List ℕ) (
   pub crash : Survives (of_conn between) new (AdoptedIn (of_conn between))
   pub keys : HasCleanDisk new → TellKeys method true old
 
--- it was read, and is as it was committed, with no transaction under way
-pub record IsRefused {C : Type 0} (of_conn : C → State) (old new : State) : Type 0 where
+-- It was read, and is as it was committed, with no transaction under way. `Store` is told only for what keeps it from being taken, or, where
+-- its Root couldn't be read, from being made.
+pub record IsRefused {C : Type 0} (of_conn : C → State) (old new : State) (fault : OpenFault) : Type 0 where
   pub between : C
+  pub cause : fault ≡ Store → HasCleanDisk new → FailsToTake (of_conn between) new ⊎ FailsToMake (of_conn between) new
   pub read : IsRead old (of_conn between)
   pub crash : Survives (of_conn between) new (AdoptedIn (of_conn between))
   pub kept : IfClean (IsAsCommitted old) new

@@ -26,7 +26,8 @@ pub fn adopt_or_create<D: Alter>(
 }
 
 /// What `adopt_or_create` does, of a database whose keys are of this method, or that has none. `OpenFault::NotOurs` where one is of
-/// another: it comes back as it was. So does one whose Root can't be read, unless it has no tables: those are made then.
+/// another: it comes back as it was. So does one whose Root can't be read, unless it has no tables: those are made then. `Store` only for a
+/// cause that the database gave.
 pub fn take_for<D: Alter>(
     alloc: Global,
     method: &str,
@@ -34,7 +35,7 @@ pub fn take_for<D: Alter>(
 ) -> Result<Store<D>, (Connection<D>, OpenFault)>
     requires { (state D.Store conn).in_transaction ≡ false }
     ensures taken { IfOk result (λ s. IsTakenFor (state D.Store) method.now (state D.Store conn) (state D.Store s)) }
-    ensures refused { IfErr result (λ e. IsRefused (state D.Store) (state D.Store conn) (state D.Store e.0)) }
+    ensures refused { IfErr result (λ e. IsRefused (state D.Store) (state D.Store conn) (state D.Store e.0) e.1) }
     ensures other { IfErr result (λ e. e.1 ≡ NotOurs → IsOther method.now (state D.Store conn) (state D.Store e.0)) }
 {
     match has_keys_of(alloc, method, &mut conn) {

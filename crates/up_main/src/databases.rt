@@ -1,5 +1,6 @@
 //! Databases: in memory, or in a file.
 ghost use Rattle.std.specs.Prelude.{◌≡◌, false, Err, IfOk};
+ghost use Rattle.up_file.specs.Schemes.{IsTakenFor};
 ghost use Rattle.sqlite.specs.Files.{file_state};
 ghost use Rattle.sqlite.specs.Held.{state};
 
@@ -114,6 +115,8 @@ fn desk_over<K: Scheme, D: Alter + Drop>(
     conn: Connection<D>,
 ) -> Result<Desk<K, D>, Unopened>
     requires mode { (state D.Store conn).in_transaction ≡ false }
+    ensures scheme { IfOk result (λ desk. desk.scheme ≡ scheme) }
+    ensures taken { IfOk result (λ desk. IsTakenFor (state D.Store) (K.rules scheme).method (state D.Store conn) (state D.Store desk.store.held)) }
 {
     match take_for(alloc, scheme.method(), conn) {
         Ok(store) => Ok(Desk::new(scheme, store)),

@@ -1,11 +1,51 @@
--- What a list of commands is answered from nothing.
-use Rattle.std.specs.Prelude.{ℕ, List}
+-- What a list of commands, and a script, are answered from nothing.
+use Rattle.std.specs.Prelude.{◌≡◌, ℕ, Bool, true, List, ◌++◌, Option, Result}
+use Rattle.std.specs.Io.KnownBytes.{Appends}
 use Rattle.up_sign.specs.Schemes.{Rules}
 use Rattle.up_machine.specs.declared.answer.Answer.{Answer}
 use Rattle.up_machine.specs.declared.command.Command.{Command}
 use Rattle.up_machine.specs.State.{State, empty_state}
 use Rattle.up_desk.specs.Runs.{IsRun}
+use Rattle.up_lines.specs.LineRuns.{AreFirst, print}
+use Rattle.up_lines.specs.Lines.{lines_of, fits, asked}
+use Rattle.up_lines.specs.Lines as lines
+use Rattle.up_lines.specs.Runs.{Ran, written}
+use Rattle.up_lines.specs.declared.fault.ScriptCause.{ScriptCause}
+use Rattle.up_lines.specs.declared.fault.ScriptFault.{ScriptFault}
+use Rattle.up_shipped.specs.Items.{IsRunOf}
+use Rattle.up_shipped.specs.Shipped.{lines_ask, IsPart}
+
+-- ---- lists
 
 -- The commands with these answers are a run of the plain machine, from the state in which nothing is founded.
 abbrev pub IsRunFromNothing : Rules → List (ℕ × Command) → List Answer → Type 0
 IsRunFromNothing k cs answers = (next : State) × IsRun k empty_state cs answers next
+
+-- ---- scripts
+
+-- Of the bytes that came each line that has any byte has its answer, and nothing else is written. The commands that they ask, with these
+-- answers, are a run from nothing.
+pub record AnswersScript (k : Rules) (came : List ℕ) (old new : Option (List ℕ)) : Type 0 where
+  pub fit : fits (lines_of true came) ≡ true
+  pub texts : List (List ℕ)
+  pub behind : State
+  pub run : IsRunOf k (lines_ask k) empty_state (asked (lines_of true came)) texts behind
+  pub wrote : Appends old new (written print texts)
+
+-- so are the first lines of a script that ended early, and of the next one's answer less than all was written
+pub record BeginsScript (k : Rules) (came : List ℕ) (ended : Bool) (cause : ScriptCause) (old new : Option (List ℕ)) : Type 0 where
+  pub done : List (List ℕ)
+  pub next : Option (List ℕ)
+  pub are_first : AreFirst (asked (lines_of ended came)) done next
+  pub texts : List (List ℕ)
+  pub behind : State
+  pub run : IsRunOf k (lines_ask k) empty_state done texts behind
+  pub part : List ℕ
+  pub is_part : IsPart print cause next part
+  pub wrote : Appends old new (written print texts ++ part)
+
+-- what a reader had and has then, what a writer held and holds then, and how the script ended
+abbrev pub IsScriptFromNothing : Rules → Option (List ℕ) → Option (List ℕ) → Option (List ℕ) → Option (List ℕ) → Result ℕ ScriptFault → Type 0
+IsScriptFromNothing k had has old new result =
+    Ran lines.most_bytes (λ came ended answered. (ended ≡ true) × AnswersScript k came old new)
+    (λ came ended fault. BeginsScript k came ended fault.cause old new) had has result

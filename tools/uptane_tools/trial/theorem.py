@@ -26,8 +26,8 @@ from uptane_tools.trial.trials import TOP
 
 PAGE = TOP / "docs" / "trust" / "THEOREM.md"
 HEADLINE = ("crates/up_desk/src/desk.rt", "run")
-# the same over fresh tables, whose statement has nothing of the inside
-FRESH = ("crates/up_shipped/src/fresh.rt", "run_fresh")
+# the same over fresh tables, whose statements have nothing of the inside
+FRESH = "crates/up_shipped/src/fresh.rt", ["run_fresh", "script_fresh"]
 # the law of the scheme that a desk is over, by the bound of its type
 BOUND = TOP / "crates" / "up_sign" / "src" / "scheme.rt"
 QUOTE = re.compile(r"^<!-- (quote|example) (\S+) (\w+) -->\n\n((?:    .*\n|\n(?=    ))*)",
@@ -222,7 +222,8 @@ def table():
                                                                         for it in row))
         for crate, row in rows.items()]
     lines.append("| all | | %s |" % total_of(rows))
-    lines.append("| of `%s` | | %s |" % (FRESH[1], total_of(counted(FRESH))))
+    file, names = FRESH
+    lines += ["| of `%s` | | %s |" % (name, total_of(counted((file, name)))) for name in names]
     return "\n".join(lines) + "\n"
 
 

@@ -18,7 +18,7 @@ returns-in-Ok-true-clause-other g c =
     taken_ours (state g.D.Store) (state g.D.Store c.has_keys_of.new.conn) _ c.adopt_or_create.result c.adopt_or_create.ensures.refused
 
 pub returns-in-Ok-false-clause-refused : goal.returns-in-Ok-false-clause-refused
-returns-in-Ok-false-clause-refused g c = refused_at (state g.D.Store) (state g.D.Store c.args.conn) c.has_keys_of.new.conn c.has_keys_of.ensures.read
+returns-in-Ok-false-clause-refused g c = refused_at (state g.D.Store) (state g.D.Store c.args.conn) c.has_keys_of.new.conn _ (λ is. cc) c.has_keys_of.ensures.read
 
 pub returns-in-Ok-false-clause-other : goal.returns-in-Ok-false-clause-other
 returns-in-Ok-false-clause-other g c = λ told. record {
@@ -40,4 +40,4 @@ pub returns-in-Err-Store-clause-other : goal.returns-in-Err-Store-clause-other
 returns-in-Err-Store-clause-other g c = made_ours (state g.D.Store) (state g.D.Store c.has_keys_of.new.conn) _ c.create.result c.create.ensures.fault
 
 pub returns-in-Err-Memory-clause-refused : goal.returns-in-Err-Memory-clause-refused
-returns-in-Err-Memory-clause-refused g c = refused_at (state g.D.Store) (state g.D.Store c.args.conn) c.has_keys_of.new.conn c.has_keys_of.ensures.read
+returns-in-Err-Memory-clause-refused g c = refused_at (state g.D.Store) (state g.D.Store c.args.conn) c.has_keys_of.new.conn _ (λ is. cc) c.has_keys_of.ensures.read
