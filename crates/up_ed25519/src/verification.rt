@@ -12,8 +12,8 @@ use up_field::cached::sum;
 use up_field::decode::decode;
 use up_field::joint::joint;
 use up_field::order::{is_below_order, negated, reduced};
-use up_field::points::{Extended, neutral};
-use up_field::same::are_same_points;
+use up_field::points::Extended;
+use up_field::same::is_neutral;
 
 /// Whether the signature of a message is valid under a public key (RFC 8032, section 5.1.7).
 pub fn verify(public: &[u8], message: &[u8], signature: &[u8]) -> bool
@@ -87,7 +87,7 @@ fn equation(s: &[u8], k: &[u8; 32], a: Extended, r: Extended) -> bool
     let n = negated(s);
     let t = joint(k, a, &n);
     let left = sum(r, t);
-    are_same_points(left, neutral())
+    is_neutral(left)
 }
 
 /// The number k that the hash of a signature's first half, a public key and a message writes, modulo the order.
