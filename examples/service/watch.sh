@@ -25,20 +25,17 @@ metric() { lines="$lines$(printf 'uptane_desk_%s{desk="desk%s"} %s' "$2" "$1" "$
 "; }
 
 watch() {
-    file=$FOLDER/desk$1.db mark=$FOUNDED/desk$1.db
-    if [ ! -e "$mark" ]; then
-        if [ ! -s "$file" ]; then return 0; fi
-        mkdir -p "$FOUNDED" && : > "$mark"
-    fi
+    file=$FOLDER/desk$1.db mark=$FOUNDED/desk$1.db there=0
     process=$(systemctl show -p MainPID --value "uptane-desk${1:+@$1}.service")
     if [ "$(find "/proc/$process/fd" -lname "*/desk$1.db* (deleted)" 2> /dev/null)" ]; then
-        there=0
         say "$1" "its file is gone, and the program still has it: don't stop it (OPERATING, To restore)"
-    elif [ ! -s "$file" ]; then
-        there=0
+    elif [ -s "$file" ]; then
+        there=1
+        [ -e "$mark" ] || { mkdir -p "$FOUNDED" && : > "$mark"; }
+    elif [ -e "$mark" ]; then
         say "$1" "its file is gone (OPERATING, To restore)"
     else
-        there=1
+        return 0
     fi
     metric "$1" file_there "$there"
     expires=$(curl -fsS -m 30 "http://127.0.0.1:$((PORT + ${1:-0}))/image/timestamp.json" 2> /dev/null |

@@ -1,12 +1,12 @@
-"""Has the program open a copy as it would at a start, which tests each page's sum, each row and
-the log, before the copy counts and takes an older one's place.
+"""Has the program open a copy as it would at a start, which tests each page's sum and each row,
+before the copy counts and takes an older one's place.
 
     tools/run try_copy PROGRAM COPY
 
 It takes the time and the memory of a start over that file. Then the log is in COPY, which stands
-alone. Where a start would raise COPY's schema, a copy of it is opened in its place, and COPY and
-its log stay as they are. Until the program has taken it the copy is `NAME-untaken.db`, and one that
-it refuses keeps that name.
+alone; a changed bit in the log isn't told, as at a start. Where a start would raise COPY's
+schema, a copy of it is opened in its place, and COPY and its log stay as they are. Until the
+program has taken it the copy is `NAME-untaken.db`, and one that it refuses keeps that name.
 
 The status is 0, or 1 with a message where the program didn't take it.
 """

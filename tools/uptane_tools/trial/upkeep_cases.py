@@ -588,6 +588,19 @@ def applied_to_several(program, own):
             (own / "metrics.prom").read_text("ascii"), "vehicles", desk="desk2") == 2
         yield "and one page of all", '"V4"' in (own / "page.html").read_text(
             "ascii") and "2 desks" in (own / "page.html").read_text("ascii")
+        it.file("2").unlink()
+        it.calls()
+        told = it.script("watch.sh")
+        yield "one whose file is gone is told of", told.returncode == 1 and [
+            line.split(", ")[0] for line in told.stderr.splitlines()] == [
+                "desk2: its file is gone"]
+        copies = sorted((own / "copies").glob("desk2-*Z.db"))
+        done = [tool("restore", copies[-1], *words, env=it.env) for words in ([], ["--desk", "2"])]
+        print(done[0].stderr + done[1].stdout + done[1].stderr, end="")
+        yield "and restored, the other goes on", [it.returncode for it in done] == [
+            1, 0] and it.calls() == [
+                "stop uptane-desk@2.service", "reset-failed uptane-desk@2.service",
+                "start uptane-desk@2.service"] and it.version("2") > 0
 
 
 # ---- copies, and what a restore forgets
