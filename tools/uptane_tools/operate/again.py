@@ -114,7 +114,10 @@ GIVEN = ("add_image", "add_vehicle", "replace_ecu", "open_campaign", "close_camp
 
 def given(journal: Path) -> Iterator[Members]:
     """What was done, the oldest first, those files included that were rotated away."""
-    for path in [*sorted(journal.parent.glob(journal.name + "-*")), journal]:
+    every = [*sorted(journal.parent.glob(journal.name + "-*")), journal]
+    if not any(path.exists() for path in every):
+        raise OSError("no lines can be made by %s, which isn't there; nothing is changed" % journal)
+    for path in filter(Path.exists, every):
         with gzip.open(path, "rt") if path.suffix == ".gz" else path.open(encoding="utf-8") as file:
             for line in file:
                 with suppress(ValueError):

@@ -10,6 +10,7 @@ In the place of systemd a small program starts and stops the services. What isn'
 promise: lines-a-minute, refusal-line
 """
 import contextlib
+import gzip
 import hashlib
 import json
 import os
@@ -725,6 +726,14 @@ def by_journal(it, backup):
     it.file().rename(lost)
     trials.log_of(it.file()).unlink()
     made = it.own / "journal.script"
+    journal = it.own / "journal"
+    kept = journal.read_bytes()
+    journal.unlink()
+    done = tool("restore", backup, "--lines", made, env=it.env)
+    yield "not without a journal", done.returncode == 1 and "nothing is changed" in (
+        done.stderr) and not it.file().exists() and not made.exists()
+    with gzip.open(it.own / "journal-20261101.gz", "wb") as packed:
+        packed.write(kept)
     done = tool("restore", backup, "--lines", made, env=it.env)
     print(done.stdout + done.stderr, end="")
     asked = [json.loads(line) for line in made.read_text("ascii").splitlines()]
