@@ -50,6 +50,9 @@ above() {
     if [ "$version" -gt "$highest" ]; then highest=$version; fi
 }
 
+# (a start behind a stop is none of the tries behind which the unit gives up)
+start() { systemctl reset-failed "$1" 2> /dev/null || true; systemctl start "$1"; }
+
 # ---- what a run left that was killed
 
 exec 9> "$RUN/uptane-apply.lock"
@@ -57,7 +60,7 @@ exec 9> "$RUN/uptane-apply.lock"
 if [ "$mend" ]; then flock -w 10 9 || exit 0; else flock 9; fi
 if [ -s "$RUN/uptane-stopped" ]; then
     say "a run was killed: $(cat "$RUN/uptane-stopped") is started again"
-    systemctl start "$(cat "$RUN/uptane-stopped")"
+    start "$(cat "$RUN/uptane-stopped")"
     rm -f "$RUN/uptane-stopped"
 fi
 find "$SPOOL" -maxdepth 1 -type d -name 'taken.*' -uid "$(id -u)" | while read -r left; do
@@ -76,7 +79,7 @@ if asked "${DESKS:+1}" 0 /director/root.json 2> /dev/null | grep -q '"method":"e
 
 work=$(mktemp -d "$SPOOL/taken.XXXXXX") stopped='' failed='' given='' number=0 reading='' own=''
 kept() { given=''; tool spool keep "$SPOOL" "$work" "$JOURNAL" $public || failed=yes; }
-started() { systemctl start "$stopped" && { stopped=''; rm -f "$RUN/uptane-stopped"; }; }
+started() { start "$stopped" && { stopped=''; rm -f "$RUN/uptane-stopped"; }; }
 ended() {
     if [ "$stopped" ]; then started; fi
     if [ "$given" ]; then kept; fi

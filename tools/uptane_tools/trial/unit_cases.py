@@ -416,6 +416,10 @@ def refreshed():
     begun = well("systemctl", "stop", UNIT) and well("systemctl", "start", "--no-block", UNIT,
                                                      REFRESH)
     yield "a refresh right after a start", begun and until(lambda: version() == before + 2)
+    fewer, before = changed("[Unit]\nStartLimitBurst=2\n"), version()
+    yield "as many as operators need, one behind another", fewer and all(
+        well("systemctl", "start", REFRESH)
+        for _ in range(4)) and version() == before + 4 and changed("")
     before = version()
     yield "after one that fails the service runs", not well(
         "env", "OWNER=nobody", "/usr/lib/uptane_desk/apply.sh", "--refresh") and version() == before

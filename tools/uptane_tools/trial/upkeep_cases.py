@@ -206,7 +206,7 @@ alive() {
     [ "$pid" != 0 ] && [ "$(tr '\\0' ' ' < "/proc/$pid/cmdline")" = "$(cat "$unit.words") " ]
 }
 gone() { [ ! -e "/proc/$pid" ] || grep -q '^State:.Z' "/proc/$pid/status"; }
-if [ "$1" != show ]; then echo "$1 $unit" >> calls; fi
+case $1 in show|reset-failed) ;; *) echo "$1 $unit" >> calls;; esac
 case $1 in
 show) if alive; then echo "$pid"; else echo 0; fi;;
 is-failed) false;;
