@@ -23,7 +23,7 @@ from contextlib import closing
 
 from uptane_tools import arguments
 from uptane_tools.measure import http_fleet
-from uptane_tools.operate import copy_served
+from uptane_tools.operate import copy_served, fleet_tables
 from uptane_tools.trial import http_cases, trials
 
 
@@ -178,11 +178,27 @@ def cloned(program, own):
             told = re.fullmatch(
                 r"(\d+) bytes (%s); the program stood still for (\d\.\d{3}) seconds" % how,
                 "".join(out))
-            well = told and int(told[1]) == path.stat().st_size and float(
+            well = told and int(told[1]) == fleet_tables.size_of(path) and float(
                 told[3]) < 5 and trials.rows(to / "copy") == trials.rows(path)
             yield "a copy" if to == own else "a copy that is a clone", status == 0 and bool(well)
         if not folder:
             print("no filesystem that clones can be mounted here, so no clone is tried")
+
+
+def removed(program, own):
+    """A file that was removed is copied from the process that still has it; so is its log."""
+    for number, ends in enumerate((["", "-wal"], [""])):
+        path, to = own / ("removed%d" % number), own / ("saved%d" % number)
+        trials.printed(program, path, http_cases.FIRST_PATH)
+        rows = trials.rows(path)
+        with http_cases.served(program, path, 1) as running:
+            for end in ends:
+                os.unlink(str(path) + end)
+            status, out, err = trials.tool("copy_served", running.pid, path, to)
+            running.kill()
+        yield "a file that was removed", (status, err) == (
+            0, "") and out[0] == "%s was removed: copied is what process %d still has open" % (
+                path, running.pid) and trials.rows(to) == rows
 
 
 def refused(program, own):
@@ -218,6 +234,7 @@ def cases(program, copies=6, number=2000):
         yield from waiting(program, own)
         yield from taking(program, own)
         yield from cloned(program, own)
+        yield from removed(program, own)
         yield from refused(program, own)
 
 

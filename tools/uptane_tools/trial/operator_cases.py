@@ -844,7 +844,7 @@ def operating(program, own):
         ran = subprocess.run(["bash", "-c", asked], cwd=own, capture_output=True, check=False)
         told = (own / "today.answers").read_text("ascii").splitlines()
         yield "the idiom: " + idiom, not ran.stderr and told == [
-            "already", "refused 5 NotJson", "refused 10 UnknownVehicle"]
+            "done", "refused 5 NotJson", "refused 10 UnknownVehicle"]
 
 
 def idioms():
