@@ -194,8 +194,8 @@ class Tried:
         self.held = [] if SCHEME.method == "ed25519" else pool
         self.verifier = verification.Verifier(SCHEME.method, self.held)
 
-    def answers(self, vehicle: Vehicle, trust: dict[str, Any], served: dict[str, Any]) -> tuple:
-        """The program's verdict, with what it says behind it, what is due, and what is trusted."""
+    def write(self, vehicle: Vehicle, trust: dict[str, Any], served: dict[str, Any]) -> None:
+        """Writes the files that the program reads."""
         ecus = [{"ecu": it, "hardware": ecu["hardware"], "release": ecu["installed"]["release"]}
                 for it, ecu in vehicle.ecus.items()]
         state = {
@@ -203,6 +203,10 @@ class Tried:
             "replaced": vehicle.replaced, "held": [it.hex() for it in self.held]} | trust
         self.state.write_text(json.dumps(state), encoding="ascii")
         self.served.write_text(json.dumps(served), encoding="ascii")
+
+    def answers(self, vehicle: Vehicle, trust: dict[str, Any], served: dict[str, Any]) -> tuple:
+        """The program's verdict, with what it says behind it, what is due, and what is trusted."""
+        self.write(vehicle, trust, served)
         words = [self.program, str(self.state), str(vehicle.world.now), str(self.served)]
         ran = subprocess.run(words, capture_output=True, check=False, timeout=60)
         first, *lines = ran.stdout.decode("ascii").splitlines()
