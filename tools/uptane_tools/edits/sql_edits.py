@@ -4,11 +4,11 @@ shows the wrong answers.
     tools/run sql_edits [whole]
 
 The proofs of `up_tables` have each text of its statements once more, so the prover refuses such
-an edit by its spelling, whatever it means. So each names a section of the rows of
-`up_test_tables` (`rows: SECTION`). Here the statements are taken out of `src/`, those sections
-are carried out with them and with the edit made, and a row has to be answered otherwise than it
+an edit by its spelling, whatever it means. So each names a section of the cases of tables in
+`up_test_store` (`rows: SECTION`). Here the statements are taken out of `src/`, those sections are
+carried out with them and with the edit made, and a case has to be answered otherwise than it
 wants. `whole` carries out every section, and tells in which of them each edit is seen. As the
-texts stand, every row has to be answered as it wants.
+texts stand, every case has to be answered as it wants.
 
 Where a query asks for no order, SQLite is told to answer its rows backwards
 (`reverse_unordered_selects`), since it may.
@@ -21,10 +21,11 @@ from typing import Any
 from uptane_tools import arguments
 from uptane_tools.edits.edit import edits_in, functions_below
 from uptane_tools.edits.sql import IN_A_BODY, rows_named, texts_in
+from uptane_tools.rows import cases as cases_of
 from uptane_tools.trial import trials
 
 CRATE = "up_tables"
-FOLDER, ROWS = trials.TOP / "crates" / CRATE, trials.TOP / "crates" / "up_test_tables"
+FOLDER = trials.TOP / "crates" / CRATE
 # the tables in the order in which they are made, and those that an older schema lacks
 TABLES = [
     "meta", "role_key", "repo_file", "image", "campaign", "vehicle", "ecu", "kept", "retired",
@@ -237,11 +238,8 @@ def told(rows):
 
 def sections() -> Any:
     """The sections of rows, each a list of what is given and what is wanted."""
-    found: dict = {}
-    for part in re.split(r"(?m)^# ", (ROWS / "stdin").read_text(encoding="ascii"))[1:]:
-        name, _, rows = part.partition("\n")
-        found[name] = [tuple(row.split(" => ", 1)) for row in rows.split("\n") if row]
-    return found
+    found = cases_of.sections(cases_of.kinds("up_test_store")["tables"])
+    return {name: cases_of.pairs(lines) for name, lines in found.items()}
 
 
 def statements() -> dict[str, str]:

@@ -1,5 +1,5 @@
-"""The rows of `up_test_store` on the nine writes, every read after every write, and on databases
-of older schemas.
+"""The cases of the store in `up_test_store`: the nine writes, every read after every write, and
+databases of older schemas.
 
     tools/run expected_store         tells whether its rows are these
     tools/run expected_store write   writes them
@@ -14,7 +14,8 @@ as a created database answers it.
 """
 import json
 
-from uptane_tools import TOP, arguments
+from uptane_tools import arguments
+from uptane_tools.rows import cases
 
 KEYS = {
     1: "01,02/2;0b/1;15,16,17,18/3;1f20/1 33,34/2;3d/1;47/1;51,52/1",
@@ -504,14 +505,13 @@ def computed():
 
 
 def main(words: arguments.Words = None) -> int:
-    """Compares the crate's rows, or writes them."""
-    path = TOP / "crates" / "up_test_store" / "stdin"
-    sections = path.read_text().split("\n# ")
+    """Compares the crate's cases, or writes them."""
+    sections = cases.kinds("up_test_store")["store"].split("\n# ")
     names = {text.split("\n")[0] for text in computed()}
     if arguments.given(__doc__, words, order=["tell", "write"]).order == "write":
         others = [text for text in sections if text.split("\n")[0] not in names]
-        path.write_text("\n# ".join([others[0], *computed(), *others[1:]]))
+        cases.put("up_test_store", "store", "\n# ".join([others[0], *computed(), *others[1:]]))
         return 0
     missing = [text.split("\n")[0] for text in computed() if text not in sections]
-    print("".join(f"{path}: another section on {name}\n" for name in missing), end="")
+    print("".join(f"another section on {name}\n" for name in missing), end="")
     return len(missing)

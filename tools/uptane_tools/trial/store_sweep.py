@@ -1,5 +1,5 @@
-"""Refuses one request for memory of `up_test_store`, the first, the second, and so on until a
-run ends without: needs a C compiler.
+"""Refuses one request for memory of the store in `up_test_store`, the first, the second, and so on
+until a run ends without: needs a C compiler.
 
     tools/run store_sweep PROGRAM PLACE [EVERY [FIRST [LAST]]]
 
@@ -20,18 +20,19 @@ import shutil
 import subprocess
 from pathlib import Path
 
-from uptane_tools import TOP, arguments
+from uptane_tools import arguments
+from uptane_tools.rows import cases
 from uptane_tools.trial import sweeps, trials
 
 
 def sections():
-    texts = (TOP / "crates" / "up_test_store" / "stdin").read_text().split("\n# ")
+    texts = cases.kinds("up_test_store")["store"].split("\n# ")
     return [text for text in texts if text.startswith("each disk call refused")]
 
 
 def carried_out(program, place, section, variables):
     """The status and what is told."""
-    rows = f"\n# {section}".encode()
+    rows = cases.headed({"store": f"\n# {section}"}).encode()
     ran = subprocess.run([program, place], input=rows, capture_output=True, env=variables,
                          timeout=120, check=False)
     return ran.returncode, ran.stdout, ran.stderr

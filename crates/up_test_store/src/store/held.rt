@@ -1,8 +1,8 @@
 //! A connection, and the store over it.
-use crate::fault::{Fault, opening};
-use crate::reads::read;
-use crate::words::first_of;
-use crate::writes::write;
+use crate::store::fault::{Fault, opening};
+use crate::store::reads::read;
+use crate::store::words::first_of;
+use crate::store::writes::write;
 use sqlite::{Alter, Connection, Error, ErrorCode, Row};
 use sqlite_value::value::ValueRef;
 use std::alloc::{AllocError, Global};

@@ -1,11 +1,11 @@
 //! The nine writes by their words.
-use crate::campaigns::campaign;
-use crate::fault::Fault;
-use crate::images::image;
-use crate::manifests::accepted_rows;
-use crate::roots::{register_rows, root_rows};
-use crate::vehicles::{replacement, vehicle_rows};
-use crate::words::{first_of, parts_of};
+use crate::store::campaigns::campaign;
+use crate::store::fault::Fault;
+use crate::store::images::image;
+use crate::store::manifests::accepted_rows;
+use crate::store::roots::{register_rows, root_rows};
+use crate::store::vehicles::{replacement, vehicle_rows};
+use crate::store::words::{first_of, parts_of};
 use sqlite::Alter;
 use std::alloc::Global;
 use up_store::store::{Store, StoreFault};

@@ -1,5 +1,5 @@
 use Rattle.std.proofs.Common.{◌<◌, ◌^◌}
-use Rattle.up_test_tables.proofs.writes.set_ecus.Given as goal
+use Rattle.up_test_store.proofs.tables.writes.set_ecus.Given as goal
 
 abbrev pub invariant-loop-part : goal.invariant-loop-part
 invariant-loop-part g l = l.place < 2 ^ 63

@@ -2,8 +2,10 @@
 //!
 //! A founding is `ROOT IMAGE_VERSION STAMP DIRECTOR_KEYS IMAGE_KEYS`. The keys of a repository are those of its four roles, with
 //! semicolons between, each `SECRET,../THRESHOLD`.
-use crate::fault::Fault;
-use crate::words::{bytes, first_of, moment, number, parts_of, push_item, push_number, text, word};
+use crate::store::fault::Fault;
+use crate::store::words::{
+    bytes, first_of, moment, number, parts_of, push_item, push_number, text, word,
+};
 use std::alloc::{AllocError, Global};
 use up_canon::bytes::Bytes;
 use up_canon::listed::Listed;

@@ -2,13 +2,13 @@
 //!
 //! The statements at the beginning of a section, before it first asks anything, make the database. They are carried out on disks that
 //! never fail.
-use crate::disks::{failing_files, new_files};
-use crate::in_files::InFiles;
-use crate::ways::words_of;
+use crate::store::disks::{failing_files, new_files};
+use crate::store::in_files::InFiles;
+use crate::store::ways::words_of;
 use sqlite::Files;
 use sqlite_disk::{Disk, Fuse, Memory};
 use std::alloc::{AllocError, Global};
-use up_test_rows::sections::told;
+use up_test_common::sections::told;
 
 /// No disk fails within so many calls.
 const NEVER: u64 = 1 << 40;

@@ -1,8 +1,8 @@
 //! Statements that read.
 
-use crate::shown::{Columns, row_text};
-use crate::texts::{all, one};
-use crate::words::{first_of, number, word};
+use crate::tables::shown::{Columns, row_text};
+use crate::tables::texts::{all, one};
+use crate::tables::words::{first_of, number, word};
 use sqlite::{Alter, Error, Row, Transaction};
 use std::alloc::Global;
 use up_tables::campaign::{campaign, running_campaigns};

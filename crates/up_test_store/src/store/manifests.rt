@@ -1,9 +1,9 @@
 //! Accepted manifests, as rows spell them: `VEHICLE COUNTER VERSION MOMENT ROOT SIGNED PLAN REPLY`.
 //!
 //! A plan is `ECU=FILE,..` or `-`, and a cause behind `!`: `ECU=needs=HARDWARE`, `ECU=conflicts=FILE` or `-`.
-use crate::fault::Fault;
-use crate::vehicles::vehicle_rows;
-use crate::words::{
+use crate::store::fault::Fault;
+use crate::store::vehicles::vehicle_rows;
+use crate::store::words::{
     count, file_name, ident, moment, number, parts_of, push_item, push_list, push_number,
     push_word, text, word,
 };

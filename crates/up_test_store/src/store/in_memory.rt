@@ -1,10 +1,10 @@
 //! Databases in memory.
-use crate::fault::Fault;
-use crate::held::{Held, adopted, called};
-use crate::seen::{Reads, after_memory};
+use crate::store::fault::Fault;
+use crate::store::held::{Held, adopted, called};
+use crate::store::seen::{Reads, after_memory};
 use sqlite::{Connection, MemStore};
 use std::alloc::{AllocError, Global};
-use up_test_rows::calls::Calls;
+use up_test_common::calls::Calls;
 
 /// A database in memory, whose tables are let go of and taken again before each call if they are used in turns.
 #[derive(Drop)]

@@ -1,9 +1,9 @@
 //! Sections over databases in memory and in files.
-use crate::disks::new_files;
-use crate::in_files::InFiles;
-use crate::in_memory::InMemory;
+use crate::store::disks::new_files;
+use crate::store::in_files::InFiles;
+use crate::store::in_memory::InMemory;
 use std::alloc::{AllocError, Global};
-use up_test_rows::sections::told;
+use up_test_common::sections::told;
 
 /// What is told of a section over each, also in turns, a line each. One whose words end with `in files` looks at bytes, and is
 /// carried out over files alone.

@@ -1,11 +1,11 @@
 //! The thirteen reads by their words, each told as a line of text.
-use crate::campaigns::{campaign_text, campaigns_text};
-use crate::fault::Fault;
-use crate::images::{image_text, images_text};
-use crate::manifests::kept_text;
-use crate::roots::founding_text;
-use crate::vehicles::{ecus_text, vehicle_text};
-use crate::words::{count, file_name, first_of, ident};
+use crate::store::campaigns::{campaign_text, campaigns_text};
+use crate::store::fault::Fault;
+use crate::store::images::{image_text, images_text};
+use crate::store::manifests::kept_text;
+use crate::store::roots::founding_text;
+use crate::store::vehicles::{ecus_text, vehicle_text};
+use crate::store::words::{count, file_name, first_of, ident};
 use sqlite::Alter;
 use std::alloc::{AllocError, Global};
 use up_canon::file_name::FileName;

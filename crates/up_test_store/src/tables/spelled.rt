@@ -4,7 +4,7 @@ ghost use Rattle.std.specs.Prelude.{◌<◌, ◌^◌, IfSome};
 ghost use Rattle.up_tables.specs.Ecus.{FitEcu};
 ghost use Rattle.up_tables.specs.Forms.{FitImage, FitKept, FitMeta, FitRoleKey, FitVehicle};
 
-use crate::words::{number, word};
+use crate::tables::words::{number, word};
 use up_tables::campaign::CampaignRow;
 use up_tables::ecu::{EcuRow, Installed};
 use up_tables::image::ImageRow;

@@ -1,5 +1,5 @@
 //! Words, of which rows are made.
-use crate::fault::Fault;
+use crate::store::fault::Fault;
 use hex::FromHexError;
 use std::alloc::{AllocError, Global};
 use up_canon::bytes::Bytes;

@@ -1,6 +1,6 @@
 //! What was read since the last write, and calls that are made again where they are refused.
-use crate::fault::{Fault, fault_word};
-use crate::held::{Held, called};
+use crate::store::fault::{Fault, fault_word};
+use crate::store::held::{Held, called};
 use sqlite::Alter;
 use std::alloc::{AllocError, Global};
 

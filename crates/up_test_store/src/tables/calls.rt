@@ -6,16 +6,16 @@
 ghost use Rattle.std.specs.Prelude.{◌≡◌, false};
 ghost use Rattle.sqlite.specs.Held.{state};
 
-use crate::reads::read;
-use crate::texts::fault_text;
-use crate::words::first_of;
-use crate::writes::write;
+use crate::tables::reads::read;
+use crate::tables::texts::fault_text;
+use crate::tables::words::first_of;
+use crate::tables::writes::write;
 use sqlite::{Alter, Connection, Error};
 use std::alloc::{AllocError, Global};
 use up_tables::open::{OpenFault, create_tables, take_tables};
 use up_tables::values::{StoreFault, fault_of};
-use up_test_rows::calls::Calls;
-use up_test_rows::sections::told;
+use up_test_common::calls::Calls;
+use up_test_common::sections::told;
 
 /// A database, on which the rows of a section are carried out.
 #[derive(Drop)]

@@ -1,12 +1,12 @@
 //! Databases in files, on disks that can be started again after a crash.
-use crate::disks::{bytes_of, closed_and_opened, opened};
-use crate::fault::Fault;
-use crate::held::{Held, adopted, called};
-use crate::seen::{Reads, after_memory, after_store, opens};
+use crate::store::disks::{bytes_of, closed_and_opened, opened};
+use crate::store::fault::Fault;
+use crate::store::held::{Held, adopted, called};
+use crate::store::seen::{Reads, after_memory, after_store, opens};
 use sqlite::{Connection, FileStore, Files};
 use sqlite_disk::Crash;
 use std::alloc::{AllocError, Global};
-use up_test_rows::calls::Calls;
+use up_test_common::calls::Calls;
 
 /// A database in files, which are closed and opened again before each call if they are used in turns; and the bytes that both files
 /// had when they were last compared.

@@ -1,8 +1,8 @@
 //! Vehicles, as rows spell them: `VEHICLE PRIMARY VERSION LAST`; and ECUs: `ECU HARDWARE PUBLIC_KEY INSTALLED COUNTER REPORT`, in which
 //! what is installed is `FILE:LENGTH:SHA256` or `FILE:LENGTH:SHA256+SHA512`, and a `-` stands for nothing. And replacements:
 //! `VEHICLE OLD ECU HARDWARE PUBLIC_KEY`.
-use crate::fault::Fault;
-use crate::words::{
+use crate::store::fault::Fault;
+use crate::store::words::{
     bytes, count, file_name, hashes, hashes_digits, ident, number, parts_of, push_bytes,
     push_number, push_part, push_word, text, word,
 };

@@ -1,5 +1,5 @@
 //! What is told of rows that were read, and of faults.
-use crate::shown::push_word;
+use crate::tables::shown::push_word;
 use std::alloc::{AllocError, Global};
 use up_tables::values::StoreFault;
 

@@ -1,7 +1,7 @@
 //! Images, as rows spell them: `FILE LENGTH SHA256 HARDWARE RELEASE NEEDS CONFLICTS`, each of NEEDS a `HARDWARE:RELEASE`, and
 //! the SHA-256 with a `+` and a SHA-512 behind it where the image has one.
-use crate::fault::Fault;
-use crate::words::{
+use crate::store::fault::Fault;
+use crate::store::words::{
     count, file_name, file_names, hashes, hashes_digits, ident, idents, push_file_names,
     push_idents, push_item, push_list, push_number, push_part, push_word, word,
 };

@@ -5,10 +5,10 @@
 //! VEHICLE ; KEPT ; ECU ; ..`, which puts in the kept row and sets the others.
 ghost use Rattle.std.specs.Prelude.{◌<◌, ◌^◌, IfOk};
 
-use crate::spelled::{
+use crate::tables::spelled::{
     campaign, ecu, file, image, installed_hash, kept, numbers, role_key, vehicle,
 };
-use crate::words::{bytes, first_of, parts_of, word};
+use crate::tables::words::{bytes, first_of, parts_of, word};
 use sqlite::{Alter, Transaction};
 use std::alloc::Global;
 use up_tables::campaign::{close_campaign, insert_campaign};

@@ -1,7 +1,7 @@
 //! Campaigns, as rows spell them: `NAME REACH ITEMS STATE`. A reach is `*` or vehicles, an item `HARDWARE:FILE`, and the state `runs`
 //! or `closed`.
-use crate::fault::Fault;
-use crate::words::{
+use crate::store::fault::Fault;
+use crate::store::words::{
     file_name, ident, idents, push_idents, push_item, push_list, push_part, push_word, word,
 };
 use std::alloc::{AllocError, Global};
