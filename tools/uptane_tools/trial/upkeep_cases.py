@@ -598,10 +598,10 @@ def applied_to_several(program, own):
         copies = sorted((own / "copies").glob("desk2-*Z.db"))
         done = [tool("restore", copies[-1], *words, env=it.env) for words in ([], ["--desk", "2"])]
         print(done[0].stderr + done[1].stdout + done[1].stderr, end="")
-        yield "and restored, the other goes on", [it.returncode for it in done] == [
-            1, 0] and it.calls() == [
-                "stop uptane-desk@2.service", "reset-failed uptane-desk@2.service",
-                "start uptane-desk@2.service"] and it.version("2") > 0
+        calls = [line for line in it.calls() if not line.startswith("is-failed ")]
+        yield "and restored, the other goes on", [
+            it.returncode for it in done] == [1, 0] and calls == [
+                "stop uptane-desk@2.service", "start uptane-desk@2.service"] and it.version("2") > 0
 
 
 # ---- copies, and what a restore forgets
