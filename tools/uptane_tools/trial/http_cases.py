@@ -27,6 +27,7 @@ import sqlite3
 import struct
 import subprocess
 import sys
+import tempfile
 import threading
 import time
 import urllib.parse
@@ -59,6 +60,7 @@ GET_ROOT = b"GET /image/root.json HTTP/1.1\r\nHost: d\r\n\r\n"
 NO_FILE = b"GET /image/nofile HTTP/1.1\r\nHost: d\r\n\r\n"
 POST = b"POST /director/manifest HTTP/1.1\r\nHost: d\r\nContent-Length: %d\r\n\r\n"
 UNKNOWN_FILE = b'{"error":29,"text":"UnknownFile"}'
+REFUSED = re.compile(rb"(?m)^uptane_desk: (?:vehicle \S+: )?refused \d+ [^\n]*\n")
 
 
 def answer(status, body, ends=False):
@@ -108,7 +110,10 @@ def served(program, path, count, variables=None):
         str(port),
         str(count)]
     told = os.environ | (variables or {})
-    running = subprocess.Popen(words, stdout=subprocess.PIPE, stderr=subprocess.PIPE, env=told)
+    # (a pipe that nobody reads would stop it behind some thousand refusals)
+    said = tempfile.TemporaryFile()
+    running = subprocess.Popen(words, stdout=subprocess.PIPE, stderr=said, env=told)
+    running.said = said
     try:
         ready = select.select([running.stdout], [], [], PATIENCE)[0]
         if not ready or running.stdout.readline() != b"listening %d\n" % port:
@@ -118,15 +123,21 @@ def served(program, path, count, variables=None):
     finally:
         running.kill()
         running.communicate()
+        said.close()
 
 
-def ended(running, err=b""):
-    """Whether the program ends by itself, with status 0 and these lines on standard error."""
+def ended(running, err=b"", refused=None):
+    """Whether the program ends by itself, with status 0 and these lines on standard error, beside
+    those of refusals: of so many, where that is said.
+    """
     try:
-        out, told = running.communicate(timeout=PATIENCE)
+        out = running.communicate(timeout=PATIENCE)[0]
     except subprocess.TimeoutExpired:
         return False
-    return (running.returncode, out, told) == (0, b"", err)
+    running.said.seek(0)
+    told = running.said.read()
+    return (running.returncode, out, REFUSED.sub(b"", told)) == (0, b"", err) and (
+        refused is None or len(REFUSED.findall(told)) == refused)
 
 
 def connected(running, patience=PATIENCE):
@@ -275,7 +286,7 @@ def hundredth(program, path):
     """A connection ends with its hundredth request."""
     with served(program, path, 1) as running, connected(running) as client:
         client.sendall(101 * NO_FILE)
-        return to_the_end(client) == 99 * OPEN + CLOSED and ended(running)
+        return to_the_end(client) == 99 * OPEN + CLOSED and ended(running, refused=60)
 
 
 def byte_by_byte(program, path):

@@ -371,7 +371,8 @@ def posted(program, path, failing):
     if len(lost) > 1 or any(got[at - 1] not in (b"", memory) for at in lost):
         return "other answers: %r" % got
     told = [b"uptane_desk: connection %d: memory\n" % at for at in lost if got[at - 1] == b""]
-    return None if err == b"".join(told) else "another message: %r" % err
+    return None if http_cases.REFUSED.sub(b"", err) == b"".join(told) else (
+        "another message: %r" % err)
 
 
 def over_http(program, own, sweep):
