@@ -8,7 +8,7 @@ use std::alloc::{AllocError, Global};
 use up_desk::desk::Desk;
 use up_sign::hmac_sha256::HmacSha256;
 use up_sign::scheme::Scheme;
-use up_test_scheme::hashed::Hashed;
+use up_test_common::hashed::Hashed;
 
 /// How many lines each way of carrying out the row answered as the row says, or where they differ: a line for each medium.
 pub(crate) fn told(alloc: Global, row: &str) -> Result<String, AllocError> {
