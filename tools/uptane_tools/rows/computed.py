@@ -26,8 +26,8 @@ KINDS: dict[tuple[str, str], tuple[Texts, Texts]] = {
     ("up_test_worked_rows", ""): (collect_rows.texts, collect_rows.first),
     ("up_test_ed25519", ""): (ed25519_cases.texts, ed25519_cases.first),
     ("up_test_ed25519", "brought"): (brought_cases.texts, brought_cases.first),
-    ("up_test_stream", ""): (expected_streams.texts, lambda: expected_streams.texts(SHORT)),
-    ("up_test_stops", ""): (expected_stops.texts, expected_stops.first), }
+    ("up_test_service", "streams"): (expected_streams.texts, lambda: expected_streams.texts(SHORT)),
+    ("up_test_service", "stops"): (expected_stops.texts, expected_stops.first), }
 # what a crate has been built to, by the name of its compiler
 BUILT = {"LLVM": "", "Rattle's own compiler": ".by-rattle"}
 

@@ -1,6 +1,6 @@
 """Computes the cases of runs over files that stop, and what they want, by the rules
 (`reference.py`) and the formats alone. `computed` gives them all to the program of the crate
-`up_test_stops`, whose input has the first section.
+`up_test_service`, whose input has the first section.
 
 A run's lines are answered once, and again after each of its beginnings, which has to be the same
 each time. Each line writes, so a log that stops does so in each of them; a database file is read

@@ -1,6 +1,6 @@
 """Computes the cases of streams and what they want, from the formats in docs/integrate/FORMATS.md
 and docs/integrate/HTTP.md and from rows/ alone. `computed` gives them all to the program of the
-crate `up_test_stream`, whose input has the short ones. In a case `|` stands for the end of a line
+crate `up_test_service`, whose input has the short ones. In a case `|` stands for the end of a line
 of HTTP, `\\n` for that of a script.
 """
 import json

@@ -57,7 +57,7 @@ def sections(folder):
     """
     text = (folder / "stdin").read_text(encoding="utf-8")
     words = re.findall(r"^(?:#|row) (.+)$", text, re.MULTILINE)
-    if folder.name == "up_test_stream":
+    if folder.name == "up_test_service":
         words += [it[0] for it in expected_streams.parts()]
     if words and "\nrow " in text:
         words += [it.parent.name for it in (TOP / "rows").glob("*/script")]

@@ -2,8 +2,8 @@
 ghost use Rattle.std.specs.Prelude.{◌≡◌, false};
 ghost use Rattle.sqlite.specs.Held.{state};
 
-use crate::machine::Machine;
-use crate::rows::{Before, Ended, all_of, carried_out, so_many};
+use crate::stops::cases::{Before, Ended, all_of, carried_out, so_many};
+use crate::stops::machine::Machine;
 use sqlite::{Alter, Connection, FileStore, Files, Options};
 use sqlite_disk::Crash;
 use std::alloc::{AllocError, Global};

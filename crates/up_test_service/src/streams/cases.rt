@@ -6,16 +6,16 @@
 //! and that write fail and that write takes nothing. `lines STEP READ WRITE NONE SCRIPT` sends the lines of a script so. `sweep
 //! STEP INPUT` and `lines_sweep STEP SCRIPT` fail each read and each write in turn, each time at a desk of its own that carried out
 //! the section's lines `do`.
-use crate::desks::{Medium, in_files, in_memory};
-use crate::runs::{scripted, streamed};
-use crate::sweeps::{lines_swept, swept};
+use crate::streams::desks::{Medium, in_files, in_memory};
+use crate::streams::runs::{scripted, streamed};
+use crate::streams::sweeps::{lines_swept, swept};
 use sqlite::Alter;
 use std::alloc::{AllocError, Global};
 use up_desk::desk::Desk;
 use up_sign::hmac_sha256::HmacSha256;
-use up_test_rows::calls::Calls;
-use up_test_rows::devices::{Reads, Writes, bytes_of, numbers};
-use up_test_rows::sections::told;
+use up_test_common::calls::Calls;
+use up_test_common::devices::{Reads, Writes, bytes_of, numbers};
+use up_test_common::sections::told;
 
 /// A section's desk, where its tables are kept, and the lines that it carried out.
 #[derive(Drop)]

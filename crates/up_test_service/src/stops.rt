@@ -5,28 +5,11 @@
 //! closed and opened. What was answered before the stop has to be answered as something that stands, and what wasn't asked before it
 //! as the first time. Each run that isn't stopped ends with what the desk's views show.
 //!
-//! A section has rows `do LINE => ANSWER => AGAIN`: the line of a script, what it is answered the first time, and again. Behind the
+//! A section has cases `do LINE => ANSWER => AGAIN`: the line of a script, what it is answered the first time, and again. Behind the
 //! line of a reply stands the reply's text. `version VEHICLE => NUMBER` and `installed ECU => IMAGE` are views, answered the same
 //! each time.
-#![tactic(auto)]
-
 mod answers;
+mod cases;
+pub(crate) mod in_turn;
 mod machine;
-mod rows;
 mod runs;
-mod stops;
-
-use crate::stops::told;
-use std::io;
-
-/// Tells of each section on standard input. Each begins with a line `# WORDS` behind another line.
-fn main(rt: HostRuntime) -> io::Result<()> {
-    let text = io::read_to_string(rt.alloc(), rt.stdin())?;
-    for section in text.as_str().split("\n# ") {
-        if !section.is_empty() {
-            let line = told(rt.alloc(), section)?;
-            println!(rt; "{line}")?;
-        }
-    }
-    Ok(())
-}

@@ -1,7 +1,7 @@
 //! A section over files of which one stops at each of its calls in turn.
-use crate::machine::{Machine, NEVER, Stopping, stopping_after};
-use crate::rows::{Before, Ended, all_of, so_many};
-use crate::runs::run;
+use crate::stops::cases::{Before, Ended, all_of, so_many};
+use crate::stops::machine::{Machine, NEVER, Stopping, stopping_after};
+use crate::stops::runs::run;
 use sqlite_disk::Crash;
 use std::alloc::{AllocError, Global};
 

@@ -5,13 +5,13 @@
 //! rows spell it, which has to be the first of what is written where nothing fails. Then the same is sent once more to the same
 //! desk. Requests have to be answered as where nothing failed. Of a script, `OTHER again` tells how many lines are answered
 //! otherwise, since they stood.
-use crate::desks::{Medium, carry_out, in_files, in_memory};
-use crate::runs::{scripted, streamed};
+use crate::streams::desks::{Medium, carry_out, in_files, in_memory};
+use crate::streams::runs::{scripted, streamed};
 use sqlite::Alter;
 use std::alloc::{AllocError, Global};
 use up_desk::desk::Desk;
 use up_sign::hmac_sha256::HmacSha256;
-use up_test_rows::devices::{Reads, Writes, bytes_of, numbers};
+use up_test_common::devices::{Reads, Writes, bytes_of, numbers};
 
 /// More calls than any run makes.
 const MOST_CALLS: u32 = 1_000;

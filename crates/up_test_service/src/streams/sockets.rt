@@ -2,7 +2,7 @@
 //!
 //! `do LINE` is carried out by the desk of each later client. `ends INPUT` is a client that writes its bytes and ends its half,
 //! `stays INPUT` one that keeps its half open.
-use crate::desks::{AT, carry_out, in_memory};
+use crate::streams::desks::{AT, carry_out, in_memory};
 use sqlite::Alter;
 use std::alloc::{AllocError, Global};
 use std::io;
@@ -12,9 +12,9 @@ use up_desk::desk::Desk;
 use up_service::refusals::Deaf;
 use up_service::stream::serve_stream;
 use up_sign::hmac_sha256::HmacSha256;
-use up_test_rows::calls::Calls;
-use up_test_rows::devices::{bytes_of, text_of};
-use up_test_rows::sections::told;
+use up_test_common::calls::Calls;
+use up_test_common::devices::{bytes_of, text_of};
+use up_test_common::sections::told;
 
 /// Clients, and what each one's desk carries out before.
 #[derive(Drop)]

@@ -2,7 +2,7 @@
 //!
 //! `NUMBER: BYTES` tells how many requests or lines were answered and what was written, and `CAUSE CALLED ANSWERED: BYTES`, or
 //! `CAUSE LINES: BYTES`, a fault.
-use crate::desks::AT;
+use crate::streams::desks::AT;
 use sqlite::Alter;
 use std::alloc::{AllocError, Global};
 use up_desk::desk::Desk;
@@ -11,7 +11,7 @@ use up_service::script::run_script;
 use up_service::stream::serve_stream;
 use up_service::{Fault, ScriptCause, ScriptFault, ServeFault};
 use up_sign::hmac_sha256::HmacSha256;
-use up_test_rows::devices::{Reads, Shaky, Slow, Writes, text_of};
+use up_test_common::devices::{Reads, Shaky, Slow, Writes, text_of};
 
 /// What a stream of requests is answered.
 pub(crate) fn streamed<D: Alter>(

@@ -1,5 +1,5 @@
 //! The rows of a section, carried out one after another.
-use crate::answers::{Answers, STOPPED};
+use crate::stops::answers::{Answers, STOPPED};
 use std::alloc::{AllocError, Global};
 
 /// How many of the first rows were answered before, and how many were asked.
