@@ -626,7 +626,7 @@ async function ofRounds(told, compare) {
           throw wrong;
         }
       };
-      try { [failed, wait] = await behind(go, failed); } catch { verdict = 'stopped'; }
+      try { [failed, wait] = await behind(go, failed); } catch { [failed, verdict] = [0, 'stopped']; }
       const sent = line.sent.map((body, at) => {
         const [is, next] = sentAs(body, due.sent[at] ?? {}, last, { before, own: vehicle.primary, now });
         last = next;

@@ -12,6 +12,7 @@ def told(error: int, text: str) -> str:
 # status, body, what follows, and the value that it needs
 ANSWERS = [
     ("a reply, whatever its verdict", 200, '{"root":1}', "read", None),
+    ("a reply with an error and a text", 200, told(13, "Stale 7"), "read", None),
     ("a proxy's page with status 200", 200, "<html>200 OK</html>", "again", None),
     ("a reply that was cut", 200, '{"root":1', "again", None),
     ("a list with status 200", 200, "[5]", "again", None),
@@ -65,6 +66,8 @@ FILES = [
     ("a file", 200, '{"signatures":[],"signed":{}}', "read"),
     ("a file that isn't there", 404, told(29, "UnknownFile"), "none"),
     ("the same with another status", 400, told(29, "UnknownFile"), "end"),
+    ("the same with status 503", 503, told(29, "UnknownFile"), "again"),
+    ("a file with an error and a text", 200, told(29, "UnknownFile"), "read"),
     ("a path that was changed on its way", 404, told(0, "not found"), "again"),
     ("a proxy's page of that status", 404, "<html>404</html>", "again"),
     ("a proxy's page with status 200", 200, "<html>200 OK</html>", "again"),

@@ -133,6 +133,11 @@ def of_answers():
     yield "a stop before the answer: the same body", {}, [
         gone([STOP], [new()], "stopped", None),
         again(now=NOW + 60)]
+    yield "a stop behind failures: neither they nor the cut round count then", {}, [
+        without(1), without(2, same),
+        gone([STOP], [SAME], "stopped", None),
+        without(1, same)]
+    yield "what is installed ends a row of failures", {"failed": 3}, [updated(), without(1)]
     yield "a body of more bytes than are read", {}, [
         gone([body(200, "", bytes=LARGEST + 1)], [new()], "refused", SOON, trusts=state(0, 0)),
         well(attack=True)]
@@ -160,6 +165,8 @@ def of_counters():
             gone([stale(number)], [new()], None, SOON)]
     yield "a manifest's counter is the one before the greatest", {"counter": MOST - 1}, [
         gone([], [], None, SOON)]
+    yield "a report's counter is the one before the greatest", {"counters": {"left": MOST - 1}}, [
+        gone([], [], None, SOON)]
     yield "a report's counter that was lost", {}, [
         gone([replayed("left"), found], [new(), new(raised="left")], "accepted", DAILY)]
     yield "one that was above the clock", {}, [
@@ -177,6 +184,11 @@ def of_counters():
         gone(2 * answers + [stale(99), stale(999)],
              [new(), *sent, *sent, new(above=99)], None, SOON),
         well()]
+    yield "a kept body is the first of eight that are refused", {}, [
+        without(1),
+        gone(2 * answers + [stale(99), stale(999)],
+             [SAME, *sent, *sent, new(above=99)], None, behind(2)),
+        well()]
     yield "no answer behind a counter: the same body in the next round", {}, [
         gone([stale(70), *FOUR], [new(), new(above=70), *3 * [SAME]], None, SOON, ALL),
         again()]
@@ -191,6 +203,10 @@ def of_mending():
         without(1),
         gone([refusal(409, 14, "UnknownEcu left")], [SAME], None, behind(2), **put),
         well()]
+    yield "18 names an ECU that the vehicle hasn't any more", {}, [
+        without(1),
+        gone([refusal(409, 18, "ReportReplayed left"), comes("nothing")], [SAME, new()], "accepted",
+             DAILY, **put)]
     yield "the inventory has another ECU than the vehicle", {}, [
         gone([refusal(409, 16, "MissingEcu left-2")], [new()], None, SOON),
         well(**put)]

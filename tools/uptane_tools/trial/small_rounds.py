@@ -122,6 +122,7 @@ class Rounds:
                 self.failed, wait = primary.behind(go, self.failed)
             except Stopped:
                 verdicts.append("stopped")
+                self.failed = 0
         self.known = kept
         return (verdicts or [None]) == [
             given["verdict"]] and is_within(wait, given["next"]) and (self.are_sent(
