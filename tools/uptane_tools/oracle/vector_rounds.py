@@ -134,7 +134,8 @@ def of_answers():
         gone([STOP], [new()], "stopped", None),
         again(now=NOW + 60)]
     yield "a stop behind failures: neither they nor the cut round count then", {}, [
-        without(1), without(2, same),
+        without(1),
+        without(2, same),
         gone([STOP], [SAME], "stopped", None),
         without(1, same)]
     yield "what is installed ends a row of failures", {"failed": 3}, [updated(), without(1)]
@@ -205,8 +206,8 @@ def of_mending():
         well()]
     yield "18 names an ECU that the vehicle hasn't any more", {}, [
         without(1),
-        gone([refusal(409, 18, "ReportReplayed left"), comes("nothing")], [SAME, new()], "accepted",
-             DAILY, **put)]
+        gone([refusal(409, 18, "ReportReplayed left"),
+              comes("nothing")], [SAME, new()], "accepted", DAILY, **put)]
     yield "the inventory has another ECU than the vehicle", {}, [
         gone([refusal(409, 16, "MissingEcu left-2")], [new()], None, SOON),
         well(**put)]
