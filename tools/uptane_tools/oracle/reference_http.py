@@ -179,23 +179,47 @@ def carried_out(desk: Any, at: int, what: Any) -> str | None:
     return desk.reply_to(what, at)
 
 
-def answer(desk: Any, at: int, asked: Next) -> Any:
+class Log:
+    """Lines of what is refused, on standard error: in a minute at most 60 of each number."""
+
+    def __init__(self) -> None:
+        self.lines: dict[tuple[int, int], int] = {}
+
+    def hear(self, at: int, number: int, words: str, what: Any = None) -> None:
+        key = number, at // 60
+        self.lines[key] = self.lines.get(key, 0) + 1
+        if self.lines[key] > 60:
+            return
+        vehicle = ""
+        if isinstance(what, bytes):
+            with contextlib.suppress(reference.Refused):
+                sent = reference.read_manifest(what) or {}
+                vehicle = "vehicle %s: " % sent["vehicle"]
+        print("uptane_desk: %srefused %d %s" % (vehicle, number, words), file=sys.stderr,
+              flush=True)
+
+
+def answer(desk: Any, at: int, asked: Next, log: Log | None = None) -> Any:
     """The bytes that answer a request at a moment."""
     if isinstance(asked.what, str):
         status, number = CHECKS[asked.what]
+        if log:
+            log.hear(at, number, asked.what)
         return response(status, error(number, asked.what), asked)
     try:
         with desk.db:
             return response(200, carried_out(desk, at, asked.what), asked)
     except reference.Refused as refused:
         number, words = refused.args[0], refused.text.split(" ", 2)[2]
+        if log:
+            log.hear(at, number, words, asked.what)
         return response(STATUS.get(number, 503), error(number, words), asked)
 
 
 # ---- connections
 
 
-def connection(desk, peer):
+def connection(desk, peer, log):
     """Answers a client until it ends its half, or a request ends the stream; then what it still
     sends is read and dropped.
     """
@@ -206,7 +230,7 @@ def connection(desk, peer):
             piece = peer.recv(8192)
             for asked in stream.feed(piece, not piece):
                 cause = "write"
-                peer.sendall(answer(desk, at, asked))
+                peer.sendall(answer(desk, at, asked, log))
             cause = "read"
             if not piece:
                 return None
@@ -233,11 +257,12 @@ def serve(desk, port, count=None):
             print("uptane_desk: cannot listen", file=sys.stderr)
             return 4
         print("listening %d" % port, flush=True)
+        log = Log()
         with contextlib.suppress(KeyboardInterrupt):
             for number in range(1, count + 1) if count else itertools.count(1):
                 peer, _ = listener.accept()
                 with peer:
-                    cause = connection(desk, peer)
+                    cause = connection(desk, peer, log)
                 if cause:
                     print("uptane_desk: connection %d: %s" % (number, cause), file=sys.stderr,
                           flush=True)
