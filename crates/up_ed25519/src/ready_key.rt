@@ -9,12 +9,11 @@ ghost use Rattle.up_field.specs.Tables.{AreMultiples};
 
 use crate::verification::challenge;
 use std::marker::Model;
-use up_field::cached::sum;
 use up_field::decode::decode;
 use up_field::halves::{Multiples, joint_by, multiples_of};
 use up_field::order::{is_below_order, negated};
 use up_field::points::Extended;
-use up_field::same::is_neutral;
+use up_field::same::are_opposite;
 
 /// A public key that is a point, with multiples of the point: 2,080 bytes. Contracts see it as the key's 32 bytes.
 #[derive(Drop)]
@@ -92,6 +91,5 @@ fn equation(s: &[u8], k: &[u8; 32], a: &Multiples, r: Extended) -> bool
 {
     let n = negated(s);
     let t = joint_by(k, a, &n);
-    let left = sum(r, t);
-    is_neutral(left)
+    are_opposite(r, t)
 }

@@ -8,12 +8,11 @@ ghost use Rattle.up_field.specs.Decoded.{IsMaybe};
 ghost use Rattle.up_curve.specs.Signatures.{challenge_of, is_same_point, equation_holds, is_valid_of, is_valid};
 
 use sha2::{Digest, Sha512};
-use up_field::cached::sum;
 use up_field::decode::decode;
 use up_field::joint::joint;
 use up_field::order::{is_below_order, negated, reduced};
 use up_field::points::Extended;
-use up_field::same::is_neutral;
+use up_field::same::are_opposite;
 
 /// Whether the signature of a message is valid under a public key (RFC 8032, section 5.1.7).
 pub fn verify(public: &[u8], message: &[u8], signature: &[u8]) -> bool
@@ -86,8 +85,7 @@ fn equation(s: &[u8], k: &[u8; 32], a: Extended, r: Extended) -> bool
 {
     let n = negated(s);
     let t = joint(k, a, &n);
-    let left = sum(r, t);
-    is_neutral(left)
+    are_opposite(r, t)
 }
 
 /// The number k that the hash of a signature's first half, a public key and a message writes, modulo the order.

@@ -66,10 +66,3 @@ pub(crate) fn sum_cached(a: Extended, b: Cached) -> Extended
 {
     whole(cached_sides(a, b))
 }
-
-/// The sum of two points.
-pub fn sum(a: Extended, b: Extended) -> Extended
-    ensures { (m n : Point) → Writes a m → Writes b n → Writes result (add_of m n) }
-{
-    sum_cached(a, ready(b))
-}
