@@ -9,10 +9,12 @@ mod keys;
 use crate::calls::Calls25519;
 use std::alloc::{AllocError, Global};
 use std::io;
+use up_ed25519::cached_scheme::CachedEd25519;
+use up_ed25519::scheme::Ed25519;
 use up_test_common::sections;
 
-/// Tells of each section on standard input. `# CALL` heads each, and `## brought` those on files, both behind another
-/// line.
+/// Tells of each section on standard input. `# CALL` heads each, `## cached` those that are answered by one scheme that keeps keys, and
+/// `## brought` those on files, all behind another line.
 fn main(rt: HostRuntime) -> io::Result<()> {
     let text = io::read_to_string(rt.alloc(), rt.stdin())?;
     for part in text.as_str().split("\n## ") {
@@ -23,18 +25,27 @@ fn main(rt: HostRuntime) -> io::Result<()> {
 }
 
 fn tell_all(rt: &HostRuntime, kind: &str, sections: &str) -> io::Result<()> {
+    let mut cached = Calls25519 {
+        scheme: CachedEd25519::new(rt.alloc()),
+    };
     for section in sections.split("\n# ") {
         if !section.is_empty() {
-            let line = told(rt.alloc(), kind, section)?;
+            let line = told(rt.alloc(), &mut cached, kind, section)?;
             println!(rt; "{line}")?;
         }
     }
     Ok(())
 }
 
-fn told(alloc: Global, kind: &str, section: &str) -> Result<String, AllocError> {
+fn told(
+    alloc: Global,
+    cached: &mut Calls25519<CachedEd25519>,
+    kind: &str,
+    section: &str,
+) -> Result<String, AllocError> {
     match kind {
         "brought" => brought::told_in(alloc, section),
-        _ => sections::told(alloc, &mut Calls25519, section),
+        "cached" => sections::told(alloc, cached, section),
+        _ => sections::told(alloc, &mut Calls25519 { scheme: Ed25519 }, section),
     }
 }

@@ -25,6 +25,7 @@ Texts = Callable[[], tuple[str, str]]
 KINDS: dict[tuple[str, str], tuple[Texts, Texts]] = {
     ("up_test_worked_rows", ""): (collect_rows.texts, collect_rows.first),
     ("up_test_ed25519", ""): (ed25519_cases.texts, ed25519_cases.first),
+    ("up_test_ed25519", "cached"): (ed25519_cases.cached_texts, ed25519_cases.cached_first),
     ("up_test_ed25519", "brought"): (brought_cases.texts, brought_cases.first),
     ("up_test_service", "streams"): (expected_streams.texts, lambda: expected_streams.texts(SHORT)),
     ("up_test_service", "stops"): (expected_stops.texts, expected_stops.first), }

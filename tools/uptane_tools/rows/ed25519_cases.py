@@ -9,6 +9,10 @@ that write no point. What is drawn are keys, messages and signatures both ways: 
 program is the reference's, byte by byte, and the program verifies those of the reference, each as
 it is and once more with a bit changed.
 
+The kind `cached` is for the scheme that keeps keys decoded, and public keys of secrets: each row
+of a verification twice, so that its key is new and then found, keys of one slot in turn, of which
+each puts the other out, and more secrets than are kept, twice. What is drawn is given to it too.
+
 promise: ed25519-laws, ed25519-sign, ed25519-verify
 """
 import random
@@ -146,6 +150,47 @@ def sections() -> Any:
     yield "verified", [verified_row(*row) for row in rows]
 
 
+def slot(public: bytes) -> int:
+    """Where the crate keeps a public key."""
+    return int.from_bytes(public[:3], "little") % 4093
+
+
+def rivals(secrets: list[bytes]) -> list[tuple[bytes, bytes]]:
+    """Pairs of secrets whose public keys have one slot."""
+    met: dict[int, bytes] = {}
+    pairs = []
+    for secret in secrets:
+        other = met.setdefault(slot(public_of(secret)), secret)
+        if other != secret:
+            pairs.append((other, secret))
+    return pairs
+
+
+def displaced(one: bytes, other: bytes) -> list[str]:
+    """Signatures by two keys of one slot: each of them new, found, put out and new again."""
+    message = b"of one slot"
+    first, second = ((public_of(it), message, sign(it, message)) for it in (one, other))
+    mixed_up = (first[0], message, second[2])
+    bad = (second[0], message, turned(second[2], 40))
+    return [
+        verified_row(*it)
+        for it in (first, first, second, bad, second, first, mixed_up, bad, first, mixed_up, first)]
+
+
+def cached_sections() -> list[tuple[str, list[str]]]:
+    """For the scheme that keeps keys: keys that are asked for first, then those of `sections`."""
+    draw = random.Random("rivals")
+    secrets = [draw.randbytes(32) for _ in range(256)]
+    plain = dict(sections())
+    pairs = rivals(secrets)[:3]
+    more = [signature_row(it, b"metadata") for it in secrets[:20]]
+    known = [row for it in vectors() for row in [verified_row(*it[1:])] * 2]
+    return [("key", plain["key"] + [key_row(public_of(it)) for pair in pairs[:2] for it in pair]),
+            ("verified", known + [row for pair in pairs for row in displaced(*pair)]),
+            ("signature", [row for it in more for row in (it, it)] + more + plain["signature"]),
+            ("verified", [row for it in plain["verified"] for row in (it, it)])]
+
+
 def drawn(word, count):
     draw = random.Random(word)
     signatures, checks, keys = [], [], []
@@ -170,20 +215,22 @@ def stdout(parts: list[tuple[str, list[str]]]) -> str:
     return "".join(f"{call}: {len(rows)}\n" for call, rows in parts)
 
 
-def compare(program, parts):
-    """What the program tells of the rows: how many of each section are answered as they want,
-    and those that aren't.
+def compare(program: str, parts: list[tuple[str, list[str]]]) -> int:
+    """What the program tells of the rows by both schemes: how many of each section are answered as
+    they want, and those that aren't.
     """
-    told = subprocess.run([program], input=stdin(parts), capture_output=True, text=True,
-                          check=False).stdout
-    asked = sum(len(rows) for _, rows in parts)
-    right = sum(
-        int(line.rpartition(": ")[2]) for line in told.splitlines()
-        if line.rpartition(": ")[0] in dict(parts))
-    if told != stdout(parts):
-        print(told[:3000], end="")
+    asked, right, wanted = 0, 0, stdout(parts)
+    for head in ("", "\n## cached"):
+        told = subprocess.run([program], input=head + stdin(parts), capture_output=True, text=True,
+                              check=False).stdout
+        asked += sum(len(rows) for _, rows in parts)
+        right += sum(
+            int(line.rpartition(": ")[2]) for line in told.splitlines()
+            if line.rpartition(": ")[0] in dict(parts))
+        if told != wanted:
+            print(told[:3000], end="")
     print("%d passed, %d failed" % (right, asked - right))
-    return 0 if told == stdout(parts) else 1
+    return 0 if right == asked else 1
 
 
 def texts() -> tuple[str, str]:
@@ -196,6 +243,18 @@ def first() -> tuple[str, str]:
     """The same without what is changed in signatures: the vectors of the RFC alone."""
     parts = [
         (call, rows[:len(vectors())] if call == "verified" else rows) for call, rows in sections()]
+    return stdin(parts), stdout(parts)
+
+
+def cached_texts() -> tuple[str, str]:
+    """Those of the kind `cached`."""
+    parts = cached_sections()
+    return stdin(parts), stdout(parts)
+
+
+def cached_first() -> tuple[str, str]:
+    """The same without what is changed in signatures."""
+    parts = cached_sections()[:3]
     return stdin(parts), stdout(parts)
 
 
