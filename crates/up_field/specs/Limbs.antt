@@ -1,14 +1,26 @@
 -- Numbers in five limbs of 51 bits.
 use Rattle.std.specs.Prelude.{ℕ, ◌+◌, ◌*◌, ◌^◌, ◌<◌}
+use Rattle.up_field.specs.declared.limbs.Field.{Field}
 
 -- the number that five limbs write, the least first
 abbrev pub limbs : ℕ → ℕ → ℕ → ℕ → ℕ → ℕ
 limbs a b c d e = a + 2 ^ 51 * b + 2 ^ 102 * c + 2 ^ 153 * d + 2 ^ 204 * e
 
--- each limb is below a bound
-pub record AreBelow (n a b c d e : ℕ) : Type 0 where
-  pub l0 : a < n
-  pub l1 : b < n
-  pub l2 : c < n
-  pub l3 : d < n
-  pub l4 : e < n
+abbrev pub number_of : Field → ℕ
+number_of f = limbs f.l0 f.l1 f.l2 f.l3 f.l4
+
+-- each limb has 51 bits
+pub record IsTight (f : Field) : Type 0 where
+  pub l0 : f.l0 < 2 ^ 51
+  pub l1 : f.l1 < 2 ^ 51
+  pub l2 : f.l2 < 2 ^ 51
+  pub l3 : f.l3 < 2 ^ 51
+  pub l4 : f.l4 < 2 ^ 51
+
+-- the last may have one more
+pub record IsLoose (f : Field) : Type 0 where
+  pub l0 : f.l0 < 2 ^ 51
+  pub l1 : f.l1 < 2 ^ 51
+  pub l2 : f.l2 < 2 ^ 51
+  pub l3 : f.l3 < 2 ^ 51
+  pub l4 : f.l4 < 2 ^ 52

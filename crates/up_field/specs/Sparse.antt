@@ -1,5 +1,7 @@
 -- Numbers in digits of one bit that may be larger.
 use Rattle.std.specs.Prelude.{◌≡◌, ℕ, ◌+◌, ◌*◌, ◌%◌, ◌<◌, ◌≤◌, ◌^◌, Bool, false, List, [], ◌∷◌, drop, slice_index_or}
+use Rattle.up_field.specs.Points.{number}
+use Rattle.up_field.specs.declared.sparse.Step.{Step}
 
 -- the number that digits write, the least first
 unfoldable pub scattered : List ℕ → ℕ
@@ -24,3 +26,11 @@ pub record EndsAt (n : ℕ) (xs ys : List ℕ) : Type 0 where
 pub record IsNearHalf (half n : ℕ) : Type 0 where
   pub below : (j : ℕ) → n ≤ 2 ^ (j + 1) → half ≤ 2 ^ j
   pub last : n ≤ 1 → half ≡ 0
+
+-- the number behind a step's digit
+abbrev pub rest_of : Step → ℕ
+rest_of s = number s.rest + s.carry
+
+-- a step's digit and twice what is left are the number
+abbrev pub IsCut : Step → ℕ → Type 0
+IsCut s n = (s.plus + 2 * rest_of s ≡ n + s.minus) × (s.carry < 2)

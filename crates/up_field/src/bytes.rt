@@ -1,6 +1,6 @@
 //! Numbers of 256 bits as 32 bytes, the least significant first (RFC 8032, section 5.1.2).
 ghost use Rattle.std.specs.Prelude.{◌≡◌, ◌+◌, ◌*◌, ◌/◌, ◌%◌, ◌<◌, ◌^◌, length};
-ghost use Rattle.up_field.specs.Limbs.{limbs, AreBelow};
+ghost use Rattle.up_field.specs.Limbs.{IsLoose, IsTight, number_of};
 ghost use Rattle.up_curve.specs.LittleEndian.{number, bytes};
 
 use crate::limbs::Field;
@@ -8,12 +8,10 @@ use crate::limbs::Field;
 /// 256 times a number, and a byte.
 #[inline(always)]
 fn pushed(a: Field, byte: u8) -> Field
-    requires limit { AreBelow (2 ^ 51) a.l0 a.l1 a.l2 a.l3 a.l4 }
-    requires small { limbs a.l0 a.l1 a.l2 a.l3 a.l4 < 2 ^ 248 }
-    ensures value { limbs result.l0 result.l1 result.l2 result.l3 result.l4
-        ≡ 256 * limbs a.l0 a.l1 a.l2 a.l3 a.l4 + byte }
-    ensures limit { AreBelow (2 ^ 51) result.l0 result.l1 result.l2 result.l3 0 }
-    ensures last { result.l4 < 2 ^ 52 }
+    requires limit { IsTight a }
+    requires small { number_of a < 2 ^ 248 }
+    ensures value { number_of result ≡ 256 * number_of a + byte }
+    ensures limit { IsLoose result }
 {
     let m0 = a.l0 * 256 + byte as u64;
     let m1 = a.l1 * 256 + (m0 >> 51);
@@ -31,11 +29,9 @@ fn pushed(a: Field, byte: u8) -> Field
 /// The number without its lowest byte.
 #[inline(always)]
 fn shifted(a: Field) -> Field
-    requires limit { AreBelow (2 ^ 51) a.l0 a.l1 a.l2 a.l3 0 }
-    requires last { a.l4 < 2 ^ 52 }
-    ensures value { limbs result.l0 result.l1 result.l2 result.l3 result.l4 ≡ (limbs a.l0 a.l1 a.l2 a.l3 a.l4) / 256 }
-    ensures limit { AreBelow (2 ^ 51) result.l0 result.l1 result.l2 result.l3 0 }
-    ensures last { result.l4 < 2 ^ 52 }
+    requires { IsLoose a }
+    ensures value { number_of result ≡ number_of a / 256 }
+    ensures limit { IsLoose result }
 {
     Field {
         l0: a.l0 / 256 + a.l1 % 256 * (1 << 43),
@@ -49,9 +45,8 @@ fn shifted(a: Field) -> Field
 /// The number that 32 bytes write.
 pub(crate) fn from_bytes(bytes: &[u8]) -> Field
     requires { length bytes.now ≡ 32 }
-    ensures value { limbs result.l0 result.l1 result.l2 result.l3 result.l4 ≡ number bytes.now }
-    ensures limit { AreBelow (2 ^ 51) result.l0 result.l1 result.l2 result.l3 0 }
-    ensures last { result.l4 < 2 ^ 52 }
+    ensures value { number_of result ≡ number bytes.now }
+    ensures limit { IsLoose result }
 {
     let mut r = Field {
         l0: 0,
@@ -68,9 +63,8 @@ pub(crate) fn from_bytes(bytes: &[u8]) -> Field
 
 /// The 32 bytes of a number.
 pub(crate) fn to_bytes(a: Field) -> [u8; 32]
-    requires limit { AreBelow (2 ^ 51) a.l0 a.l1 a.l2 a.l3 0 }
-    requires last { a.l4 < 2 ^ 52 }
-    ensures { result ≡ bytes 32 (limbs a.l0 a.l1 a.l2 a.l3 a.l4) }
+    requires { IsLoose a }
+    ensures { result ≡ bytes 32 (number_of a) }
 {
     let mut out = [0u8; 32];
     let mut r = a;

@@ -2,17 +2,16 @@
 ghost use Rattle.std.specs.Prelude.{◌≡◌, ◌+◌, ◌*◌, ◌-◌, ◌/◌, ◌%◌, ◌<◌, ◌^◌};
 ghost use Rattle.up_curve.specs.Curve.{order};
 ghost use Rattle.up_curve.specs.LittleEndian.{number};
-ghost use Rattle.up_field.specs.Limbs.{limbs, AreBelow};
+ghost use Rattle.up_field.specs.Limbs.{IsTight, number_of};
 
 use crate::bytes::from_bytes;
 use crate::limbs::{Field, zero};
-use crate::scalar::{Scalar, joined, reduce};
+use crate::scalar::{joined, reduce};
 
 /// The 255 bits that are signs of a number, modulo the order: where a bit is 0, its power of two is taken off.
 pub(crate) fn centred(scalar: &[u8; 32]) -> Field
-    ensures value { (2 * limbs result.l0 result.l1 result.l2 result.l3 result.l4) % order
-        ≡ (number scalar.now + (2 ^ 255 - 1)) % order }
-    ensures limit { AreBelow (2 ^ 51) result.l0 result.l1 result.l2 result.l3 result.l4 }
+    ensures value { (2 * number_of result) % order ≡ (number scalar.now + (2 ^ 255 - 1)) % order }
+    ensures limit { IsTight result }
 {
     let n = from_bytes(scalar);
     let digits = joined(n, zero());
@@ -21,12 +20,11 @@ pub(crate) fn centred(scalar: &[u8; 32]) -> Field
 
 /// Half of an odd number and 2^255 - 1: of the number, or of that and the order.
 #[inline(always)]
-fn halved(n: Scalar) -> Field
-    requires limit { AreBelow (2 ^ 51) n.l0 n.l1 n.l2 n.l3 n.l4 }
-    requires below { limbs n.l0 n.l1 n.l2 n.l3 n.l4 < order }
-    ensures value { 2 * limbs result.l0 result.l1 result.l2 result.l3 result.l4
-        ≡ limbs n.l0 n.l1 n.l2 n.l3 n.l4 + (1 - n.l0 % 2) * order + (2 ^ 255 - 1) }
-    ensures limit { AreBelow (2 ^ 51) result.l0 result.l1 result.l2 result.l3 result.l4 }
+fn halved(n: Field) -> Field
+    requires limit { IsTight n }
+    requires below { number_of n < order }
+    ensures value { 2 * number_of result ≡ number_of n + (1 - n.l0 % 2) * order + (2 ^ 255 - 1) }
+    ensures limit { IsTight result }
 {
     let even = 1 - n.l0 % 2;
     let t0 = n.l0 + even * 671914833335277;

@@ -1,6 +1,6 @@
 //! Secret scalars.
 ghost use Rattle.std.specs.Prelude.{◌≡◌, ◌+◌, ◌*◌, ◌/◌, ◌%◌, ◌<◌, ◌^◌, length};
-ghost use Rattle.up_field.specs.Limbs.{limbs, AreBelow};
+ghost use Rattle.up_field.specs.Limbs.{IsLoose, IsTight, number_of};
 ghost use Rattle.up_curve.specs.LittleEndian.{number, bytes};
 ghost use Rattle.up_curve.specs.Signatures.{clamped as clamped_of};
 
@@ -20,11 +20,9 @@ pub fn clamped(half: &[u8]) -> [u8; 32]
 /// The number with its three lowest bits cleared and its two highest set to 1 and 0.
 #[inline(always)]
 fn cleared(n: Field) -> Field
-    requires limit { AreBelow (2 ^ 51) n.l0 n.l1 n.l2 n.l3 0 }
-    requires last { n.l4 < 2 ^ 52 }
-    ensures value { limbs result.l0 result.l1 result.l2 result.l3 result.l4
-        ≡ clamped_of (limbs n.l0 n.l1 n.l2 n.l3 n.l4) }
-    ensures limit { AreBelow (2 ^ 51) result.l0 result.l1 result.l2 result.l3 result.l4 }
+    requires { IsLoose n }
+    ensures value { number_of result ≡ clamped_of (number_of n) }
+    ensures limit { IsTight result }
 {
     Field {
         l0: n.l0 / 8 * 8,

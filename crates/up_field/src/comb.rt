@@ -1,7 +1,7 @@
 //! Multiples of the base point, by numbers that may be secret.
 ghost use Rattle.std.specs.Prelude.{◌≡◌, ℕ, ◌+◌, ◌*◌, ◌<◌, ◌^◌, length};
 ghost use Rattle.up_field.specs.Comb.{Balances, column as column_of, eights, IsShare, spread, teeth};
-ghost use Rattle.up_field.specs.Limbs.{AreBelow};
+ghost use Rattle.up_field.specs.Limbs.{IsTight};
 ghost use Rattle.up_field.specs.Points.{Writes};
 ghost use Rattle.up_curve.specs.Curve.{base as base_point, multiple};
 ghost use Rattle.up_curve.specs.LittleEndian.{number};
@@ -27,7 +27,7 @@ pub fn times_base(scalar: &[u8; 32]) -> Extended
 
 /// A point and an entry of each row of the comb, by every third place of the number.
 fn column(r: Extended, c: Field, i: u32) -> Extended
-    requires limit { AreBelow (2 ^ 51) c.l0 c.l1 c.l2 c.l3 c.l4 }
+    requires limit { IsTight c }
     requires place { i < 3 }
     ensures { (s n : ℕ) → Balances r s n → Balances result (s + teeth * eights 17) (n + 2 * column_of 17 i c) }
 {

@@ -1,6 +1,6 @@
 //! Numbers in five limbs of 51 bits.
 ghost use Rattle.std.specs.Prelude.{◌≡◌, ◌<◌, ◌^◌};
-ghost use Rattle.up_field.specs.Limbs.{limbs, AreBelow};
+ghost use Rattle.up_field.specs.Limbs.{IsTight, number_of};
 
 /// A number in five limbs of 51 bits, the least first, each with some bits to spare.
 #[derive(Clone, Copy)]
@@ -15,8 +15,8 @@ pub struct Field {
 /// The number 0.
 #[inline(always)]
 pub(crate) fn zero() -> Field
-    ensures limit { AreBelow (2 ^ 51) result.l0 result.l1 result.l2 result.l3 result.l4 }
-    ensures value { limbs result.l0 result.l1 result.l2 result.l3 result.l4 ≡ 0 }
+    ensures limit { IsTight result }
+    ensures value { number_of result ≡ 0 }
 {
     Field {
         l0: 0,

@@ -1,12 +1,12 @@
 //! Numbers below the order of the base point, as 32 bytes.
 ghost use Rattle.std.specs.Prelude.{◌≡◌, ◌+◌, ◌*◌, ◌%◌, ◌<◌, ◌^◌, ltb, length};
 ghost use Rattle.up_curve.specs.Curve.{order};
-ghost use Rattle.up_field.specs.Limbs.{limbs, AreBelow};
+ghost use Rattle.up_field.specs.Limbs.{IsLoose, IsTight, number_of};
 ghost use Rattle.up_curve.specs.LittleEndian.{number, bytes};
 
 use crate::bytes::{from_bytes, to_bytes};
 use crate::limbs::Field;
-use crate::scalar::{as_bytes, joined, product, reduce};
+use crate::scalar::{joined, product, reduce};
 
 /// Whether the number that 32 bytes write is below the order.
 pub fn is_below_order(bytes: &[u8]) -> bool
@@ -19,9 +19,8 @@ pub fn is_below_order(bytes: &[u8]) -> bool
 /// Whether a number is below the order.
 #[inline(always)]
 fn is_below(n: Field) -> bool
-    requires limit { AreBelow (2 ^ 51) n.l0 n.l1 n.l2 n.l3 0 }
-    requires last { n.l4 < 2 ^ 52 }
-    ensures { result ≡ ltb (limbs n.l0 n.l1 n.l2 n.l3 n.l4) order }
+    requires { IsLoose n }
+    ensures { result ≡ ltb (number_of n) order }
 {
     let m0 = n.l0 + 1579884980349971;
     let m1 = n.l1 + 1173870604530941 + (m0 >> 51);
@@ -45,10 +44,10 @@ pub fn negated(bytes: &[u8]) -> [u8; 32]
 /// The order without a number below it.
 #[inline(always)]
 fn rest(n: Field) -> Field
-    requires limit { AreBelow (2 ^ 51) n.l0 n.l1 n.l2 n.l3 n.l4 }
-    requires below { limbs n.l0 n.l1 n.l2 n.l3 n.l4 < order }
-    ensures value { limbs result.l0 result.l1 result.l2 result.l3 result.l4 + limbs n.l0 n.l1 n.l2 n.l3 n.l4 ≡ order }
-    ensures limit { AreBelow (2 ^ 51) result.l0 result.l1 result.l2 result.l3 result.l4 }
+    requires limit { IsTight n }
+    requires below { number_of n < order }
+    ensures value { number_of result + number_of n ≡ order }
+    ensures limit { IsTight result }
 {
     let m0 = 671914833335277 + (1 << 51) - n.l0;
     let m1 = 1077929209154306 + ((1 << 51) - 1) - n.l1 + (m0 >> 51);
@@ -73,7 +72,7 @@ pub fn reduced(bytes: &[u8; 64]) -> [u8; 32]
     let low = from_bytes(first);
     let high = from_bytes(second);
     let digits = joined(low, high);
-    as_bytes(reduce(&digits))
+    to_bytes(reduce(&digits))
 }
 
 /// r + k a modulo the order: the second half of a signature (RFC 8032, section 5.1.6).
@@ -84,5 +83,5 @@ pub fn multiply_add(r: &[u8; 32], k: &[u8; 32], a: &[u8; 32]) -> [u8; 32]
     let c = from_bytes(k);
     let s = from_bytes(a);
     let digits = product(n, c, s);
-    as_bytes(reduce(&digits))
+    to_bytes(reduce(&digits))
 }

@@ -1,6 +1,6 @@
 //! Numbers of 256 bits in four words, which are also those modulo 2^255 - 19, in any form.
 ghost use Rattle.std.specs.Prelude.{◌≡◌, ◌+◌, ◌*◌, ◌/◌, ◌%◌, ◌^◌, ◌<◌};
-ghost use Rattle.up_field.specs.Limbs.{limbs, AreBelow};
+ghost use Rattle.up_field.specs.Limbs.{IsLoose, number_of};
 ghost use Rattle.up_field.specs.Points.{number};
 
 use crate::limbs::Field;
@@ -43,9 +43,8 @@ pub(crate) fn one() -> Words
 /// The same number, in words.
 #[inline(always)]
 pub(crate) fn in_words(n: Field) -> Words
-    requires limit { AreBelow (2 ^ 51) n.l0 n.l1 n.l2 n.l3 0 }
-    requires last { n.l4 < 2 ^ 52 }
-    ensures { number result ≡ limbs n.l0 n.l1 n.l2 n.l3 n.l4 }
+    requires { IsLoose n }
+    ensures { number result ≡ number_of n }
 {
     Words {
         a: n.l0 + n.l1 % (1 << 13) * (1 << 51),
@@ -58,9 +57,8 @@ pub(crate) fn in_words(n: Field) -> Words
 /// The same number, in limbs of 51 bits, of which the last has one more.
 #[inline(always)]
 pub(crate) fn in_limbs(w: Words) -> Field
-    ensures value { limbs result.l0 result.l1 result.l2 result.l3 result.l4 ≡ number w }
-    ensures limit { AreBelow (2 ^ 51) result.l0 result.l1 result.l2 result.l3 0 }
-    ensures last { result.l4 < 2 ^ 52 }
+    ensures value { number_of result ≡ number w }
+    ensures limit { IsLoose result }
 {
     Field {
         l0: w.a % (1 << 51),

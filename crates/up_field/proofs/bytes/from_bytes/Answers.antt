@@ -34,10 +34,7 @@ loop-i-preserved c =
 pub returns : goal.returns
 returns c =
     let e : c.loop-i.i ≡ 32 = omega arith in
-    let b : 256 ^ c.loop-i.i ≡ 256 ^ 32 = ap (λ z. 256 ^ z) e in
-    let i = c.loop-i.invariant.limit in
     record {
       value = c.loop-i.invariant.is ∙ ap (λ z. number (drop (32 - z) c.args.bytes.now)) e;
-      limit = i;
-      last = omega (arith, b);
+      limit = c.loop-i.invariant.limit;
     }

@@ -2,17 +2,13 @@ use Rattle.std.proofs.Common.{◌≡◌, ℕ, [], ◌∷◌, ◌++◌, ◌+◌, 
 use Rattle.std.proofs.Math.Nat.{div-one, div-div-eq-div-mul}
 use Rattle.std.proofs.Math.Seq.{take-length}
 use Rattle.std.proofs.lemmas.List.{take_more_set, length-set}
-use Rattle.up_field.specs.Limbs.{limbs}
-use Rattle.up_field.specs.declared.limbs.Field.{Field}
+use Rattle.up_field.specs.Limbs.{number_of as number}
 use Rattle.up_field.proofs.ByteLists.{bytes, bytes-more}
 use Rattle.up_field.proofs.bytes.to_bytes.Goals as goal
 
-abbrev number : Field → ℕ
-number f = limbs f.l0 f.l1 f.l2 f.l3 f.l4
-
 pub loop-i-init : goal.loop-i-init
 unfolding bytes
-loop-i-init c = record { long = refl; front = refl; rest = sym (div-one (number c.args.a)); limit = c.requires.limit; last = c.requires.last }
+loop-i-init c = record { long = refl; front = refl; rest = sym (div-one (number c.args.a)); limit = c.requires }
 
 pub loop-i-preserved : goal.loop-i-preserved
 loop-i-preserved c =
@@ -29,7 +25,6 @@ loop-i-preserved c =
           c.shifted-r.ensures.value ∙ ap (λ z. z / 256) c.loop-i.invariant.rest ∙ div-div-eq-div-mul n (256 ^ i) 256
           ∙ ap (λ z. n / z) (sym up);
       limit = c.shifted-r.ensures.limit;
-      last = c.shifted-r.ensures.last;
     }
 
 pub returns : goal.returns

@@ -17,7 +17,7 @@ returns c =
     let h : ℕ = limbs c.from_bytes-high.result.l0 c.from_bytes-high.result.l1 c.from_bytes-high.result.l2 c.from_bytes-high.result.l3 c.from_bytes-high.result.l4 in
     let high : h ≡ number (drop 32 bs) = c.from_bytes-high.ensures.value ∙ ap number (ap (λ z. take (z - 32) (drop 32 bs)) (sym c.told-bytes) ∙ all_of_rest 32 bs) in
     let e : l + 2 ^ 256 * h ≡ number bs = ap₂ (λ (x y : ℕ). x + 2 ^ 256 * y) c.from_bytes-low.ensures.value high ∙ sym (number-halves 32 bs (omega (arith, c.told-bytes))) in
-    ap number c.as_bytes.ensures
+    ap number c.to_bytes.ensures
     ∙ number-bytes 32 (limbs c.reduce.result.l0 c.reduce.result.l1 c.reduce.result.l2 c.reduce.result.l3 c.reduce.result.l4) (omega (arith, c.reduce.ensures.limit.l4))
     ∙ c.reduce.ensures.value
     ∙ ap (λ z. z % order) (c.joined-digits.ensures.value ∙ e)

@@ -1,21 +1,17 @@
 use Rattle.std.proofs.Common.{◌≡◌, ℕ, ◌+◌, ◌-◌, ◌%◌, List, drop, get_or, sym, ◌∙◌, ap, arith}
 use Rattle.std.proofs.lemmas.List.{drop_all}
-use Rattle.up_field.specs.Limbs.{limbs}
+use Rattle.up_field.specs.Limbs.{number_of}
 use Rattle.up_field.proofs.Digits.{written, written-drop, written-nil, horner}
 use Rattle.up_curve.specs.Curve.{order}
-use Rattle.up_field.specs.declared.scalar.Scalar.{Scalar}
 use Rattle.up_field.proofs.scalar.reduce.Goals as goal
-
-abbrev value : Scalar → ℕ
-value s = limbs s.l0 s.l1 s.l2 s.l3 s.l4
 
 pub loop-i-init : goal.loop-i-init
 loop-i-init c =
     let e : written (drop 10 c.args.digits.now) ≡ 0 = ap written (drop_all 10 c.args.digits.now (omega arith)) ∙ written-nil in
-    record { value = c.none-r.ensures.value ∙ sym (ap (λ z. z % order) e); below = omega (arith, c.none-r.ensures.value); limit = c.none-r.ensures.limit }
+    record { value = c.zero-r.ensures.value ∙ sym (ap (λ z. z % order) e); below = omega (arith, c.zero-r.ensures.value); limit = c.zero-r.ensures.limit }
 
-pub step-r-requires : goal.step-r-requires
-step-r-requires c = record {
+pub folded-requires : goal.folded-requires
+folded-requires c = record {
   acc = c.loop-i.invariant.limit;
   below = c.loop-i.invariant.below;
   digit = c.requires.each (9 - c.loop-i.i);
@@ -29,10 +25,10 @@ loop-i-preserved c =
     let y : written (drop (10 - (c.loop-i.i + 1)) ds) ≡ written (drop (9 - c.loop-i.i) ds) = ap (λ z. written (drop z ds)) (omega arith) in
     record {
       value =
-          horner (value c.step-r.result) (value c.loop-i.r) (get_or ds (9 - c.loop-i.i) 0) (written (drop (10 - c.loop-i.i) ds)) (written (drop (10 - (c.loop-i.i + 1)) ds))
-          c.step-r.ensures.below c.step-r.ensures.value c.loop-i.invariant.value (omega (arith, k, x, y));
-      below = c.step-r.ensures.below;
-      limit = c.step-r.ensures.limit;
+          horner (number_of c.reduced-r.result) (number_of c.loop-i.r) (get_or ds (9 - c.loop-i.i) 0) (written (drop (10 - c.loop-i.i) ds)) (written (drop (10 - (c.loop-i.i + 1)) ds))
+          c.reduced-r.ensures.below (c.reduced-r.ensures.value ∙ c.folded.ensures.value) c.loop-i.invariant.value (omega (arith, k, x, y));
+      below = c.reduced-r.ensures.below;
+      limit = c.reduced-r.ensures.limit;
     }
 
 pub returns : goal.returns
