@@ -1,5 +1,6 @@
 pub mod Affine
 pub mod Cached
+pub mod Choices
 pub mod Comb
 pub mod Decoded
 pub mod Digits

@@ -1,6 +1,7 @@
 //! Sums and differences modulo 2^255 - 19, and choices without a branch.
 ghost use Rattle.std.specs.Prelude.{◌≡◌, ◌+◌, ◌*◌, ◌%◌, ◌<◌, ◌≤◌, ◌^◌};
 ghost use Rattle.up_curve.specs.Field.{p};
+ghost use Rattle.up_field.specs.Choices.{IsChoice};
 ghost use Rattle.up_field.specs.Points.{number};
 
 use crate::words::Words;
@@ -120,8 +121,7 @@ fn kept(bit: u64, a: u64) -> u64
 fn joined(bit: u64, a: u64, r: u64) -> u64
     requires bit { bit < 2 }
     requires clear { bit ≡ 1 → r ≡ 0 }
-    ensures zero { bit ≡ 0 → result ≡ r }
-    ensures one { bit ≡ 1 → result ≡ a }
+    ensures { IsChoice bit a r result }
 {
     r + kept(bit, a)
 }
@@ -131,8 +131,7 @@ fn joined(bit: u64, a: u64, r: u64) -> u64
 pub(crate) fn merged(bit: u64, a: Words, r: Words) -> Words
     requires bit { bit < 2 }
     requires clear { bit ≡ 1 → number r ≡ 0 }
-    ensures zero { bit ≡ 0 → result ≡ r }
-    ensures one { bit ≡ 1 → result ≡ a }
+    ensures { IsChoice bit a r result }
 {
     Words {
         a: joined(bit, a.a, r.a),
@@ -146,8 +145,7 @@ pub(crate) fn merged(bit: u64, a: Words, r: Words) -> Words
 #[inline(always)]
 pub(crate) fn chosen(bit: u64, a: Words, b: Words) -> Words
     requires { bit < 2 }
-    ensures one { bit ≡ 1 → result ≡ a }
-    ensures zero { bit ≡ 0 → result ≡ b }
+    ensures { IsChoice bit a b result }
 {
     Words {
         a: joined(bit, a.a, kept(1 - bit, b.a)),

@@ -1,5 +1,6 @@
 //! An entry of a table at a secret place, without a branch.
 ghost use Rattle.std.specs.Prelude.{◌≡◌, ◌+◌, ◌*◌, ◌<◌, slice_index_or};
+ghost use Rattle.up_field.specs.Choices.{IsChoice};
 ghost use Rattle.up_field.specs.Comb.{IsClear};
 
 use crate::affine::Affine;
@@ -30,8 +31,7 @@ pub(crate) fn pick(table: &[Affine; 272], row: usize, k: u64) -> Affine
 fn merged_entries(bit: u64, a: Affine, r: Affine) -> Affine
     requires bit { bit < 2 }
     requires clear { bit ≡ 1 → IsClear r }
-    ensures zero { bit ≡ 0 → result ≡ r }
-    ensures one { bit ≡ 1 → result ≡ a }
+    ensures { IsChoice bit a r result }
 {
     Affine {
         plus: merged(bit, a.plus, r.plus),

@@ -1,6 +1,7 @@
 //! Numbers modulo the order of the base point, in limbs.
 ghost use Rattle.std.specs.Prelude.{◌≡◌, ◌+◌, ◌*◌, ◌%◌, ◌<◌, ◌^◌};
 ghost use Rattle.up_curve.specs.Curve.{order};
+ghost use Rattle.up_field.specs.Choices.{IsChoice};
 ghost use Rattle.up_field.specs.Limbs.{IsLoose, IsTight, number_of};
 ghost use Rattle.up_field.specs.Digits.{AreDigits, written};
 ghost use Rattle.up_curve.specs.LittleEndian.{bytes};
@@ -136,8 +137,7 @@ pub(crate) fn choice(bit: u64, a: u64, b: u64) -> u64
     requires bit { bit < 2 }
     requires first { a < 2 ^ 51 }
     requires second { b < 2 ^ 51 }
-    ensures one { bit ≡ 1 → result ≡ a }
-    ensures zero { bit ≡ 0 → result ≡ b }
+    ensures { IsChoice bit a b result }
 {
     a * bit + b * (1 - bit)
 }
