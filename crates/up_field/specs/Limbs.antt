@@ -1,5 +1,6 @@
 -- Numbers in five limbs of 51 bits.
 use Rattle.std.specs.Prelude.{ℕ, ◌+◌, ◌*◌, ◌^◌, ◌<◌}
+use Rattle.up_curve.specs.Curve.{order}
 use Rattle.up_field.specs.declared.limbs.Field.{Field}
 
 -- the number that five limbs write, the least first
@@ -24,3 +25,12 @@ pub record IsLoose (f : Field) : Type 0 where
   pub l2 : f.l2 < 2 ^ 51
   pub l3 : f.l3 < 2 ^ 51
   pub l4 : f.l4 < 2 ^ 52
+
+-- each limb has 51 bits, and the number is below the order
+pub record IsScalar (f : Field) : Type 0 where
+  pub l0 : f.l0 < 2 ^ 51
+  pub l1 : f.l1 < 2 ^ 51
+  pub l2 : f.l2 < 2 ^ 51
+  pub l3 : f.l3 < 2 ^ 51
+  pub l4 : f.l4 < 2 ^ 51
+  pub below : number_of f < order

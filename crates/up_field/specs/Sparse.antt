@@ -31,6 +31,10 @@ pub record IsNearHalf (half n : ℕ) : Type 0 where
 abbrev pub rest_of : Step → ℕ
 rest_of s = number s.rest + s.carry
 
+-- what is left is nearly half of the number
+abbrev pub IsHalf : Step → ℕ → Type 0
+IsHalf s n = IsNearHalf (rest_of s) n
+
 -- a step's digit and twice what is left are the number
 abbrev pub IsCut : Step → ℕ → Type 0
 IsCut s n = (s.plus + 2 * rest_of s ≡ n + s.minus) × (s.carry < 2)

@@ -2,7 +2,7 @@
 ghost use Rattle.std.specs.Prelude.{◌≡◌, ◌+◌, ◌*◌, ◌-◌, ◌/◌, ◌%◌, ◌<◌, ◌^◌};
 ghost use Rattle.up_curve.specs.Curve.{order};
 ghost use Rattle.up_curve.specs.LittleEndian.{number};
-ghost use Rattle.up_field.specs.Limbs.{IsTight, number_of};
+ghost use Rattle.up_field.specs.Limbs.{IsScalar, IsTight, number_of};
 
 use crate::bytes::from_bytes;
 use crate::limbs::{Field, zero};
@@ -21,8 +21,7 @@ pub(crate) fn centred(scalar: &[u8; 32]) -> Field
 /// Half of an odd number and 2^255 - 1: of the number, or of that and the order.
 #[inline(always)]
 fn halved(n: Field) -> Field
-    requires limit { IsTight n }
-    requires below { number_of n < order }
+    requires { IsScalar n }
     ensures value { 2 * number_of result ≡ number_of n + (1 - n.l0 % 2) * order + (2 ^ 255 - 1) }
     ensures limit { IsTight result }
 {

@@ -1,7 +1,7 @@
 //! Numbers below the order of the base point, as 32 bytes.
 ghost use Rattle.std.specs.Prelude.{◌≡◌, ◌+◌, ◌*◌, ◌%◌, ◌<◌, ◌^◌, ltb, length};
 ghost use Rattle.up_curve.specs.Curve.{order};
-ghost use Rattle.up_field.specs.Limbs.{IsLoose, IsTight, number_of};
+ghost use Rattle.up_field.specs.Limbs.{IsLoose, IsScalar, IsTight, number_of};
 ghost use Rattle.up_curve.specs.LittleEndian.{number, bytes};
 
 use crate::bytes::{from_bytes, to_bytes};
@@ -44,8 +44,7 @@ pub fn negated(bytes: &[u8]) -> [u8; 32]
 /// The order without a number below it.
 #[inline(always)]
 fn rest(n: Field) -> Field
-    requires limit { IsTight n }
-    requires below { number_of n < order }
+    requires { IsScalar n }
     ensures value { number_of result + number_of n ≡ order }
     ensures limit { IsTight result }
 {

@@ -2,7 +2,7 @@
 ghost use Rattle.std.specs.Prelude.{◌≡◌, ◌+◌, ◌*◌, ◌%◌, ◌<◌, ◌^◌};
 ghost use Rattle.up_curve.specs.Curve.{order};
 ghost use Rattle.up_field.specs.Choices.{IsChoice};
-ghost use Rattle.up_field.specs.Limbs.{IsLoose, IsTight, number_of};
+ghost use Rattle.up_field.specs.Limbs.{IsLoose, IsScalar, IsTight, number_of};
 ghost use Rattle.up_field.specs.Digits.{AreDigits, written};
 ghost use Rattle.up_curve.specs.LittleEndian.{bytes};
 
@@ -12,7 +12,7 @@ use crate::limbs::{Field, zero};
 pub(crate) fn reduce(digits: &[u128; 10]) -> Field
     requires { AreDigits digits.now }
     ensures value { number_of result ≡ written digits.now % order }
-    ensures limit { IsTight result }
+    ensures limit { IsScalar result }
 {
     let mut r = zero();
     for i in 0..10usize {
@@ -86,8 +86,7 @@ fn times(a: u64, b: u64) -> u128
 /// 2^51 times a number, and a digit, modulo the order, or that and the order.
 #[inline(always)]
 fn folded(acc: Field, digit: u128) -> Field
-    requires acc { IsTight acc }
-    requires below { number_of acc < order }
+    requires acc { IsScalar acc }
     requires digit { digit < 2 ^ 110 }
     ensures value { number_of result % order ≡ (2 ^ 51 * number_of acc + digit) % order }
     ensures below { number_of result < 2 * order }
@@ -114,8 +113,7 @@ fn reduced(n: Field) -> Field
     requires limit { IsTight n }
     requires below { number_of n < 2 * order }
     ensures value { number_of result % order ≡ number_of n % order }
-    ensures below { number_of result < order }
-    ensures limit { IsTight result }
+    ensures limit { IsScalar result }
 {
     let m0 = n.l0 + 1579884980349971;
     let m1 = n.l1 + 1173870604530941 + (m0 >> 51);

@@ -1,7 +1,7 @@
 //! Numbers in bits of which few stand, and stand for more than one: odd numbers, some of them taken off, with 0 behind each.
 ghost use Rattle.std.specs.Prelude.{◌≡◌, ◌+◌, ◌*◌, ◌%◌, ◌<◌, ◌^◌, false, true};
 ghost use Rattle.up_field.specs.Points.{number};
-ghost use Rattle.up_field.specs.Sparse.{AreDigits, EndsAt, IsCut, IsDigit, IsNearHalf, rest_of, scattered};
+ghost use Rattle.up_field.specs.Sparse.{AreDigits, EndsAt, IsCut, IsDigit, IsHalf, scattered};
 
 use crate::words::Words;
 
@@ -61,7 +61,7 @@ fn next_digit(n: Words, carry: u64, wide: bool) -> Step
     requires { carry < 2 }
     ensures value { IsCut result (number n + carry) }
     ensures digits { IsDigit wide result.plus × IsDigit wide result.minus }
-    ensures near { IsNearHalf (rest_of result) (number n + carry) }
+    ensures near { IsHalf result (number n + carry) }
 {
     if wide {
         wide_digit(n, carry)
@@ -76,7 +76,7 @@ fn wide_digit(n: Words, carry: u64) -> Step
     requires { carry < 2 }
     ensures value { IsCut result (number n + carry) }
     ensures digits { IsDigit true result.plus × IsDigit true result.minus }
-    ensures near { IsNearHalf (rest_of result) (number n + carry) }
+    ensures near { IsHalf result (number n + carry) }
 {
     let low = n.a % 256;
     let t = low + carry;
@@ -110,7 +110,7 @@ fn narrow_digit(n: Words, carry: u64) -> Step
     requires { carry < 2 }
     ensures value { IsCut result (number n + carry) }
     ensures digits { IsDigit false result.plus × IsDigit false result.minus }
-    ensures near { IsNearHalf (rest_of result) (number n + carry) }
+    ensures near { IsHalf result (number n + carry) }
 {
     let low = n.a % 32;
     let t = low + carry;

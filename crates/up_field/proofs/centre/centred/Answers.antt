@@ -7,11 +7,8 @@ use Rattle.up_field.specs.Limbs.{limbs}
 use Rattle.up_field.specs.Digits.{written}
 use Rattle.up_field.proofs.centre.centred.Goals as goal
 
-below : (l w : ℕ) → l ≡ w % order → l < order
-below l w e = omega (arith, e)
-
 pub halved-requires : goal.halved-requires
-halved-requires c = record { limit = c.reduce.ensures.limit; below = below _ _ c.reduce.ensures.value }
+halved-requires c = c.reduce.ensures.limit
 
 -- a multiple of the order makes no difference
 dropped : (n b : ℕ) → (n + b * order + (2 ^ 255 - 1)) % order ≡ (n + (2 ^ 255 - 1)) % order

@@ -8,12 +8,12 @@ use Rattle.up_field.proofs.scalar.reduce.Goals as goal
 pub loop-i-init : goal.loop-i-init
 loop-i-init c =
     let e : written (drop 10 c.args.digits.now) ≡ 0 = ap written (drop_all 10 c.args.digits.now (omega arith)) ∙ written-nil in
-    record { value = c.zero-r.ensures.value ∙ sym (ap (λ z. z % order) e); below = omega (arith, c.zero-r.ensures.value); limit = c.zero-r.ensures.limit }
+    let z = c.zero-r.ensures.limit in
+    record { value = c.zero-r.ensures.value ∙ sym (ap (λ z. z % order) e); limit = record { l0 = z.l0; l1 = z.l1; l2 = z.l2; l3 = z.l3; l4 = z.l4; below = omega (arith, c.zero-r.ensures.value) } }
 
 pub folded-requires : goal.folded-requires
 folded-requires c = record {
   acc = c.loop-i.invariant.limit;
-  below = c.loop-i.invariant.below;
   digit = c.requires.each (9 - c.loop-i.i);
 }
 
@@ -26,8 +26,7 @@ loop-i-preserved c =
     record {
       value =
           horner (number_of c.reduced-r.result) (number_of c.loop-i.r) (get_or ds (9 - c.loop-i.i) 0) (written (drop (10 - c.loop-i.i) ds)) (written (drop (10 - (c.loop-i.i + 1)) ds))
-          c.reduced-r.ensures.below (c.reduced-r.ensures.value ∙ c.folded.ensures.value) c.loop-i.invariant.value (omega (arith, k, x, y));
-      below = c.reduced-r.ensures.below;
+          c.reduced-r.ensures.limit.below (c.reduced-r.ensures.value ∙ c.folded.ensures.value) c.loop-i.invariant.value (omega (arith, k, x, y));
       limit = c.reduced-r.ensures.limit;
     }
 
