@@ -27,14 +27,8 @@ pub record IsNearHalf (half n : ℕ) : Type 0 where
   pub below : (j : ℕ) → n ≤ 2 ^ (j + 1) → half ≤ 2 ^ j
   pub last : n ≤ 1 → half ≡ 0
 
--- the number behind a step's digit
-abbrev pub rest_of : Step → ℕ
-rest_of s = number s.rest + s.carry
-
--- what is left is nearly half of the number
-abbrev pub IsHalf : Step → ℕ → Type 0
-IsHalf s n = IsNearHalf (rest_of s) n
-
 -- a step's digit and twice what is left are the number
-abbrev pub IsCut : Step → ℕ → Type 0
-IsCut s n = (s.plus + 2 * rest_of s ≡ n + s.minus) × (s.carry < 2)
+pub record IsCut (s : Step) (n : ℕ) : Type 0 where
+  pub value : s.plus + 2 * (number s.rest + s.carry) ≡ n + s.minus
+  pub carry : s.carry < 2
+  pub near : IsNearHalf (number s.rest + s.carry) n

@@ -1,5 +1,5 @@
 //! Secret scalars.
-ghost use Rattle.std.specs.Prelude.{◌≡◌, ◌+◌, ◌*◌, ◌/◌, ◌%◌, ◌<◌, ◌^◌, length};
+ghost use Rattle.std.specs.Prelude.{◌≡◌, ◌+◌, ◌*◌, ◌/◌, ◌%◌, ◌<◌, length};
 ghost use Rattle.up_field.specs.Limbs.{IsLoose, IsTight, number_of};
 ghost use Rattle.up_curve.specs.LittleEndian.{number, bytes};
 ghost use Rattle.up_curve.specs.Signatures.{clamped as clamped_of};

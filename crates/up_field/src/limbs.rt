@@ -1,5 +1,5 @@
 //! Numbers in five limbs of 51 bits.
-ghost use Rattle.std.specs.Prelude.{◌≡◌, ◌<◌, ◌^◌};
+ghost use Rattle.std.specs.Prelude.{◌≡◌};
 ghost use Rattle.up_field.specs.Limbs.{IsTight, number_of};
 
 /// A number in five limbs of 51 bits, the least first, each with some bits to spare.

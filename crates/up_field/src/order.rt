@@ -1,5 +1,5 @@
 //! Numbers below the order of the base point, as 32 bytes.
-ghost use Rattle.std.specs.Prelude.{◌≡◌, ◌+◌, ◌*◌, ◌%◌, ◌<◌, ◌^◌, ltb, length};
+ghost use Rattle.std.specs.Prelude.{◌≡◌, ◌+◌, ◌*◌, ◌%◌, ◌<◌, ltb, length};
 ghost use Rattle.up_curve.specs.Curve.{order};
 ghost use Rattle.up_field.specs.Limbs.{IsLoose, IsScalar, IsTight, number_of};
 ghost use Rattle.up_curve.specs.LittleEndian.{number, bytes};

@@ -4,7 +4,6 @@ ghost use Rattle.up_curve.specs.Curve.{order};
 ghost use Rattle.up_field.specs.Choices.{IsChoice};
 ghost use Rattle.up_field.specs.Limbs.{IsLoose, IsScalar, IsTight, number_of};
 ghost use Rattle.up_field.specs.Digits.{AreDigits, written};
-ghost use Rattle.up_curve.specs.LittleEndian.{bytes};
 
 use crate::limbs::{Field, zero};
 

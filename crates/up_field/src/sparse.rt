@@ -1,7 +1,7 @@
 //! Numbers in bits of which few stand, and stand for more than one: odd numbers, some of them taken off, with 0 behind each.
 ghost use Rattle.std.specs.Prelude.{◌≡◌, ◌+◌, ◌*◌, ◌%◌, ◌<◌, ◌^◌, false, true};
 ghost use Rattle.up_field.specs.Points.{number};
-ghost use Rattle.up_field.specs.Sparse.{AreDigits, EndsAt, IsCut, IsDigit, IsHalf, scattered};
+ghost use Rattle.up_field.specs.Sparse.{AreDigits, EndsAt, IsCut, IsDigit, scattered};
 
 use crate::words::Words;
 
@@ -59,9 +59,8 @@ pub(crate) fn top(x: &Digits, y: &Digits) -> usize
 #[inline(always)]
 fn next_digit(n: Words, carry: u64, wide: bool) -> Step
     requires { carry < 2 }
-    ensures value { IsCut result (number n + carry) }
+    ensures cut { IsCut result (number n + carry) }
     ensures digits { IsDigit wide result.plus × IsDigit wide result.minus }
-    ensures near { IsHalf result (number n + carry) }
 {
     if wide {
         wide_digit(n, carry)
@@ -74,9 +73,8 @@ fn next_digit(n: Words, carry: u64, wide: bool) -> Step
 #[inline(always)]
 fn wide_digit(n: Words, carry: u64) -> Step
     requires { carry < 2 }
-    ensures value { IsCut result (number n + carry) }
+    ensures cut { IsCut result (number n + carry) }
     ensures digits { IsDigit true result.plus × IsDigit true result.minus }
-    ensures near { IsHalf result (number n + carry) }
 {
     let low = n.a % 256;
     let t = low + carry;
@@ -108,9 +106,8 @@ fn wide_digit(n: Words, carry: u64) -> Step
 #[inline(always)]
 fn narrow_digit(n: Words, carry: u64) -> Step
     requires { carry < 2 }
-    ensures value { IsCut result (number n + carry) }
+    ensures cut { IsCut result (number n + carry) }
     ensures digits { IsDigit false result.plus × IsDigit false result.minus }
-    ensures near { IsHalf result (number n + carry) }
 {
     let low = n.a % 32;
     let t = low + carry;

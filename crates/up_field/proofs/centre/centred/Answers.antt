@@ -1,4 +1,4 @@
-use Rattle.std.proofs.Common.{◌≡◌, ℕ, ◌+◌, ◌*◌, ◌-◌, ◌^◌, ◌%◌, ◌<◌, ap, ◌∙◌, arith}
+use Rattle.std.proofs.Common.{◌≡◌, ℕ, ◌+◌, ◌*◌, ◌-◌, ◌^◌, ◌%◌, ap, ◌∙◌, arith}
 use Rattle.std.proofs.Math.Nat.{mod-mod}
 use Rattle.up_curve.proofs.Ring.{mod_plus}
 use Rattle.up_curve.specs.Curve.{order}

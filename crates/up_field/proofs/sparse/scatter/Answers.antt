@@ -72,12 +72,12 @@ loop-i-preserved c =
     record {
       long = omega (arith, c.loop-i.invariant.long, length-set c.loop-i.plus i s.result.plus);
       long_minus = omega (arith, c.loop-i.invariant.long_minus, length-set c.loop-i.minus i s.result.minus);
-      carry = s.ensures.value.1;
+      carry = s.ensures.cut.carry;
       value = grown _ _ _ _ s.result.plus s.result.minus _ _ i _
           (scattered-set c.loop-i.plus i s.result.plus (omega arith)) (scattered-set c.loop-i.minus i s.result.minus (omega arith))
-          c.loop-i.invariant.value s.ensures.value.0;
-      bound = less _ _ i s.ensures.near c.loop-i.invariant.bound;
-      done = none _ _ i s.ensures.near c.loop-i.invariant.bound c.loop-i.invariant.done;
+          c.loop-i.invariant.value s.ensures.cut.value;
+      bound = less _ _ i s.ensures.cut.near c.loop-i.invariant.bound;
+      done = none _ _ i s.ensures.cut.near c.loop-i.invariant.bound c.loop-i.invariant.done;
       plus = λ k. all_set (IsDigit c.args.wide) c.loop-i.plus i s.result.plus k (omega arith) s.ensures.digits.0 (c.loop-i.invariant.plus k);
       minus = λ k. all_set (IsDigit c.args.wide) c.loop-i.minus i s.result.minus k (omega arith) s.ensures.digits.1 (c.loop-i.invariant.minus k);
     }
