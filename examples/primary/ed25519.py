@@ -79,6 +79,15 @@ def decode(data):
     return x, y, 1, x * y % P
 
 
+def is_public(data):
+    """Whether they are a public key: a point that isn't neutral, in the subgroup of the base point's
+    order. Under any other anybody makes signatures.
+    """
+    point = decode(data)
+    return point is not None and not is_same(point, NEUTRAL) and is_same(
+        multiple(ORDER, point), NEUTRAL)
+
+
 BASE = decode((4 * pow(5, P - 2, P) % P).to_bytes(32, "little"))
 
 

@@ -4,6 +4,7 @@ Under HMAC-SHA-256 the same 32 bytes sign and verify: every key here is a secret
 whoever reads one can sign with it. Under Ed25519 an ECU has its secret alone, and what verifies the repositories' files stands
 in their Root files.
 """
+import functools
 import hashlib
 import hmac
 import json
@@ -32,6 +33,8 @@ class Ed25519:
     public_of, sign, verify = ed25519.public_of, ed25519.sign, ed25519.verify
 
 
+# the same keys are asked again and again
+is_public = functools.lru_cache(1000)(ed25519.is_public)
 # the greatest number, and how many lists and objects may stand in one another
 MOST, DEEPEST = 2**53 - 1, 16
 SCHEMES = {it.method: it for it in (HmacSha256, Ed25519)}
@@ -110,12 +113,11 @@ def reply_of(text):
 
 def has_form(key, name, secrets):
     """Whether a Root shows a key as it has to: of this scheme, and under its identifier, in the one
-    encoding of a point. Under HMAC it shows nothing, and the vehicle has the key."""
+    encoding of a point of the right order. Under HMAC it shows nothing, and the vehicle has the key."""
     if scheme is HmacSha256:
         return name in secrets and key == key | {"method": scheme.method, "public": ""}
     public = bytes.fromhex(key["public"]) if re.fullmatch("[0-9a-f]{64}", key["public"]) else b""
-    is_point = len(public) == 32 and ed25519.decode(public) is not None
-    return key["method"] == scheme.method and is_point and key_identifier(public) == name
+    return key["method"] == scheme.method and is_public(public) and key_identifier(public) == name
 
 
 def shown_keys(root):
@@ -123,7 +125,7 @@ def shown_keys(root):
     that the vehicle got in the factory may have such a one."""
     keys = {} if scheme is HmacSha256 else root.get("keys", {})
     shown = {name: bytes.fromhex(it["public"]) for name, it in keys.items() if re.fullmatch("[0-9a-f]{64}", it["public"])}
-    return {name: public for name, public in shown.items() if key_identifier(public) == name}
+    return {name: public for name, public in shown.items() if key_identifier(public) == name and is_public(public)}
 
 
 def moment(seconds):

@@ -38,6 +38,7 @@ import http.client
 import json
 import os
 import random
+import re
 import sys
 import time
 import urllib.error
@@ -81,6 +82,8 @@ def follows(status, text):
     error, words = told.get("error"), told.get("text")
     if status >= 500 or type(error) is not int or error < 1 or not isinstance(words, str):
         return "again", None
+    if error in (1, 2, 3, 8):
+        return "again", None
     value = words.partition(" ")[2]
     if error == 13 and forms.is_like("[0-9]{1,16}", value) and int(value) <= MOST:
         return "counter", int(value)
@@ -96,14 +99,32 @@ def of_get(status, text):
     return "none" if (status, value) == (404, 29) else "end"
 
 
+class NoRedirect(urllib.request.HTTPRedirectHandler):
+    """A redirect is an answer that isn't the service's."""
+
+    def redirect_request(self, *_):
+        return None
+
+
+def taken(answer, ends):
+    """The bytes of an answer, one more at most than a file may have: all of them come in time."""
+    data = bytearray()
+    while len(data) <= forms.LARGEST and (piece := answer.read1(65_536)):
+        data += piece
+        if time.monotonic() > ends:
+            raise TimeoutError("an answer without end")
+    return bytes(data)
+
+
 def exchanged(url, data):
-    """The status of one answer, and its bytes: one more at most than a file may have."""
+    """The status of one answer, and its bytes."""
+    ends, opener = time.monotonic() + PATIENCE, urllib.request.build_opener(NoRedirect)
     request = urllib.request.Request(url, data=data, headers={"Connection": "close"})
     try:
-        with urllib.request.urlopen(request, timeout=PATIENCE) as answer:
-            return answer.status, answer.read(forms.LARGEST + 1)
+        with opener.open(request, timeout=PATIENCE) as answer:
+            return answer.status, taken(answer, ends)
     except urllib.error.HTTPError as refused:
-        return refused.code, refused.read(forms.LARGEST + 1)
+        return refused.code, taken(refused, ends)
 
 
 def asked(url, body=None):
@@ -114,7 +135,7 @@ def asked(url, body=None):
         try:
             status, data = exchanged(url, body and body.encode("ascii"))
             verify.expect(len(data) <= forms.LARGEST, "%s has no end", url)
-            came = status, data.decode("ascii", "strict" if status == 200 else "replace")
+            came = status, data.decode("utf-8", "strict" if status == 200 else "replace")
         except (OSError, http.client.HTTPException, UnicodeError) as error:
             came, wrong = None, error
         if came and follows(*came)[0] != "again":
@@ -149,23 +170,36 @@ def primary_of(told):
     return next(ecu for ecu in told["ecus"] if ecu["ecu"] == told["primary"])
 
 
-def new_manifest(told, now):
-    """The body of the next manifest: its counter and that of each report rise, and each ECU reports
-    what it has, and the attack that it has seen. The greatest number is never signed: no counter
-    would come behind it."""
-    if max(it["counter"] for it in (told, *told["ecus"])) + 1 >= MOST:
+def raised(counter):
+    """A counter that may be signed. The greatest number never is: none would come behind it."""
+    if counter >= MOST:
         raise Failed("no counter is left")
-    told["counter"] += 1
-    secrets, reports = {}, []
-    for ecu in told["ecus"]:
-        ecu["counter"] += 1
-        secrets[ecu["ecu"]] = ecu["secret"]
-        own = ecu["installed"]
-        has = {name: own[name] for name in ("file", "length", "sha256", "sha512") if name in own}
-        signs = {"ecu": ecu["ecu"], "key": ecu["secret"], "counter": ecu["counter"]}
-        reports.append(signs | {"time": now, "attack": ecu.get("attack", "")} | has)
-    made = {"vehicle": told["vehicle"], "primary": told["primary"], "key": secrets[told["primary"]]}
-    return manifest(made | {"counter": told["counter"], "reports": reports})
+    return counter
+
+
+def new_report(ecu, now):
+    """What an ECU reports next: what it has, and the attack that it has seen. Its counter rises;
+    where none is left, and nothing but the time moved, the report is the last one once more."""
+    own = ecu["installed"]
+    has = {name: own[name] for name in ("file", "length", "sha256", "sha512") if name in own}
+    says, last = {"ecu": ecu["ecu"], "attack": ecu.get("attack", "")} | has, ecu.get("last", {})
+    if ecu["counter"] + 1 < MOST or says != {it: last[it] for it in last if it != "time"}:
+        ecu["counter"], ecu["last"] = raised(ecu["counter"] + 1), says | {"time": now}
+    return ecu["last"] | {"key": ecu["secret"], "counter": ecu["counter"]}
+
+
+def new_manifest(told, now):
+    """The body of the next manifest: its counter rises, and each ECU reports."""
+    counter, reports = raised(told["counter"] + 1), [new_report(it, now) for it in told["ecus"]]
+    told["counter"], key = counter, primary_of(told)["secret"]
+    made = {"vehicle": told["vehicle"], "primary": told["primary"], "key": key}
+    return manifest(made | {"counter": counter, "reports": reports})
+
+
+def clock(told):
+    """The latest time that the vehicle knows: it never goes back."""
+    told["time"] = max(told.get("time", 0), int(time.time()))
+    return told["time"]
 
 
 def role_secrets(told):
@@ -180,7 +214,7 @@ def answered(told, url, save):
     manifest follows at once; behind one that is refused, one in the next round."""
     is_second = False
     for _ in range(2 + 2 * len(told["ecus"])):
-        now = int(time.time())
+        now = clock(told)
         if not told.get("pending"):
             told["pending"] = new_manifest(told, now)
             save()
@@ -189,7 +223,7 @@ def answered(told, url, save):
             what, value = follows(status, text)
             if what == "read":
                 reply, fetch = reply_of(text), fetcher(url)
-                return verify.verified(told, reply, fetch, role_secrets(told), now)
+                return verify.verified(told, reply, fetch, role_secrets(told), clock(told))
         except verify.Old as old:
             told["pending"] = None
             verify.expect(not is_second, "the service's replies stay old, or the clock is wrong: %s", old)
@@ -198,12 +232,13 @@ def answered(told, url, save):
         except verify.Refused:
             told["pending"] = None
             raise
+        if what != "read":
+            told["pending"] = None
         if what == "counter":
-            told["counter"], told["pending"] = max(value, told["counter"]), None
+            told["counter"] = max(raised(value + 1) - 1, told["counter"])
         elif what == "report":
             skip(told, value, now)
         elif what == "mend":
-            told["pending"] = None
             raise Failed("%d %s" % (status, text))
     raise Failed("the service goes on refusing the counters")
 
@@ -211,48 +246,63 @@ def answered(told, url, save):
 def skip(told, name, now):
     """The ECU has lost its counter, and the refusal doesn't say what the last one was. Counters may
     skip: so the next one is the time in seconds, or twice what was refused, which comes above any
-    other in a few tries."""
+    other in a few tries. One that can't be signed isn't kept."""
     for ecu in told["ecus"]:
         if ecu["ecu"] == name:
-            ecu["counter"] = max(2 * ecu["counter"], now) - 1
-    told["pending"] = None
+            ecu["counter"] = raised(max(2 * ecu["counter"], now)) - 1
 
 
-def within(folder, name):
-    """The path of an image. A filename that would leave the folder is refused: the repository takes any."""
-    is_inside = not name.startswith("/") and ".." not in name.split("/")
-    verify.expect(is_inside, "the filename %s leaves its folder", name)
-    return folder / name
+def path_of(folder, name):
+    """The path of an image. A filename is not a path: `/` and a first `.` are written as %2F and %2E."""
+    return folder / re.sub(r"^\.", "%2E", name.replace("/", "%2F"))
 
 
 def images_in(folder):
     """Finds an image by its filename, where the folder has it."""
 
     def image(name):
-        path = within(folder, name) if folder else None
+        path = path_of(folder, name) if folder else None
         return path.read_bytes() if path and path.is_file() else None
 
     return image
 
 
+def takes(_ecu, _content):
+    """Whether an ECU installs an image: here each one does."""
+    return True
+
+
+def has_already(ecu, target):
+    """Whether an ECU has its target's image already. A SHA-512 that only one of them has makes no
+    difference."""
+    own, second = ecu["installed"], verify.second_hash(target)
+    is_one = second is None or own.get("sha512") in (None, second)
+    found = own["file"], own["length"], own["sha256"], own.get("release")
+    return is_one and found == (target["file"], target["length"], target["hashes"]["sha256"], target["release"])
+
+
 def install(told, due, image):
-    """Puts each image into its ECU once all that are due are there and are what was meant: one may
-    need another. Returns how many were installed, and nothing where one isn't there."""
-    found = {}
-    for ecu in (it for it in told["ecus"] if it["ecu"] in due):
-        target = due[ecu["ecu"]]
+    """Puts each image into its ECU that hasn't it, in the order of Targets, once all of these can be
+    had and are what was meant: one may need another. So none follows one that failed. Returns how
+    many were installed, and nothing where one wasn't."""
+    found, ecus = {}, {it["ecu"]: it for it in told["ecus"]}
+    due = {name: target for name, target in due.items() if not has_already(ecus[name], target)}
+    for ecu, target in due.items():
         content = image(target["file"])
         if content is not None:
             verify.check_image(target, content)
-            has = {"file": target["file"], "length": target["length"], **hashes(target["hashes"])}
-            found[ecu["ecu"]] = has | {"release": target["release"]}
+            found[ecu] = content
         else:
-            print("%s is to install %s, which isn't here yet" % (ecu["ecu"], target["file"]))
+            print("%s is to install %s, which isn't here yet" % (ecu, target["file"]))
     if len(found) < len(due):
         return None
-    for ecu in (it for it in told["ecus"] if it["ecu"] in due):
-        ecu["installed"] = found[ecu["ecu"]]
-        print("%s installed %s" % (ecu["ecu"], ecu["installed"]["file"]))
+    for ecu, target in due.items():
+        if not takes(ecu, found[ecu]):
+            print("%s failed to install %s" % (ecu, target["file"]))
+            return None
+        has = {"file": target["file"], "length": target["length"], **hashes(target["hashes"])}
+        ecus[ecu]["installed"] = has | {"release": target["release"]}
+        print("%s installed %s" % (ecu, target["file"]))
     return len(due)
 
 

@@ -89,7 +89,7 @@ def check_named(files, role, repository):
     version = files[role]["signed"]["version"]
     if role == "snapshot":
         named = forms.entry(files["timestamp"]["signed"], "snapshot.json")
-        digest = hashlib.sha256(files["snapshot"].text.encode("ascii")).hexdigest()
+        digest = hashlib.sha256(files["snapshot"].text.encode("utf-8")).hexdigest()
         words = "the %s Timestamp names another Snapshot"
         expect(named["hashes"]["sha256"] == digest, words, repository)
         words = "the %s Timestamp names another version of the Snapshot"

@@ -125,11 +125,12 @@ function isSignedBy(envelope, key) {
 // What isn't a key of that name counts for nothing: the Root of the factory may have such a one.
 function shownKeys({ signed }) {
   const shown = Object.entries(method === 'ed25519' ? signed.keys : {}).filter(([, it]) => /^[0-9a-f]{64}$/.test(it.public));
-  return Object.fromEntries(shown.map(([id, it]) => [id, bytes(it.public)]).filter(([id, key]) => keyid(key) === id));
+  return Object.fromEntries(shown.map(([id, it]) => [id, bytes(it.public)]).filter(([id, key]) => keyid(key) === id && isPublic(key)));
 }
 
-// Whether 32 bytes are a point of the curve: the library takes a key that is none, until it verifies by it.
-function isPoint(point) {
+// Whether 32 bytes are a public key: a point of the curve that isn't neutral and whose multiple by the base point's order is. Under any other
+// anybody makes signatures, and the library takes it. (Of which sign x is makes no difference here.)
+function isPublic(point) {
   if (!isOneEncoding(point)) return false;
   const p = 2n ** 255n - 19n, y = BigInt(`0x${Buffer.from(point).reverse().toString('hex')}`) % 2n ** 255n;
   const power = (base, exponent) => {
@@ -138,14 +139,25 @@ function isPoint(point) {
     return result;
   };
   const d = (p - 121665n) * power(121666n, p - 2n) % p;
-  const square = (y * y - 1n + p) * power(d * y % p * y + 1n, p - 2n) % p;
-  return square === 0n || power(square, (p - 1n) / 2n) === 1n;
+  const square = (y * y - 1n + p) * power(d * y % p * y + 1n, p - 2n) % p, root = power(square, (p + 3n) / 8n);
+  const x = root * root % p === square ? root : root * power(2n, (p - 1n) / 4n) % p;
+  if (x * x % p !== square) return false;
+  const add = ([x1, y1, z1, t1], [x2, y2, z2, t2]) => {
+    const a = (y1 - x1) * (y2 - x2), b = (y1 + x1) * (y2 + x2), c = 2n * d * t1 % p * t2, e = 2n * z1 * z2;
+    const [k, l, m, n] = [b - a, e - c, e + c, b + a].map((it) => ((it % p) + p) % p);
+    return [k * l % p, m * n % p, l * m % p, k * n % p];
+  };
+  let total = [0n, 1n, 1n, 0n], doubled = [x, y, 1n, x * y % p];
+  for (let rest = 2n ** 252n + 27742317777372353535851937790883648493n; rest > 0n; rest >>= 1n, doubled = add(doubled, doubled)) {
+    if (rest & 1n) total = add(total, doubled);
+  }
+  return y !== 1n && total[0] === 0n && total[1] === total[2];
 }
 
 // Whether a Root shows a key as it has to: of this scheme, and under its identifier. Under HMAC it shows nothing, and the vehicle has the key.
 function hasForm(id, key, secrets) {
   if (key.method !== method || method !== 'ed25519') return key.method === method && key.public === '' && Object.hasOwn(secrets, id);
-  return /^[0-9a-f]{64}$/.test(key.public) && keyid(bytes(key.public)) === id && isPoint(bytes(key.public));
+  return /^[0-9a-f]{64}$/.test(key.public) && keyid(bytes(key.public)) === id && isPublic(bytes(key.public));
 }
 
 // ---- what is sent
@@ -160,15 +172,32 @@ function built({ vehicle, primary, key, counter, reports }) {
   return sealed(bytes(key), canonical({ type: 'manifest', vehicle, primary, counter, reports: envelopes.map(read) }));
 }
 
-// The greatest number is never signed: no counter would come behind it.
+// A counter that may be signed. The greatest number never is: none would come behind it.
+function raised(counter) {
+  if (counter >= MOST) throw new Failed('no counter is left');
+  return counter;
+}
+
+// What an ECU reports next. Where no counter is left, and nothing but the time moved, that is its last report once more.
+function report(ecu, now) {
+  const { file, length } = ecu.installed, { time, ...last } = ecu.last ?? {};
+  const says = { ecu: ecu.ecu, attack: ecu.attack ?? '', file, length, ...hashesOf(ecu.installed) };
+  if (ecu.counter + 1 < MOST || canonical(says) !== canonical(last)) {
+    Object.assign(ecu, { counter: raised(ecu.counter + 1), last: { ...says, time: now } });
+  }
+  return { ...ecu.last, key: ecu.secret, counter: ecu.counter };
+}
+
 function manifest(vehicle, now) {
-  if (Math.max(...[vehicle, ...vehicle.ecus].map((it) => it.counter)) + 1 >= MOST) throw new Failed('no counter is left');
-  vehicle.counter += 1;
-  const reports = vehicle.ecus.map((ecu) => {
-    ecu.counter += 1;
-    return { ...ecu.installed, ecu: ecu.ecu, key: ecu.secret, counter: ecu.counter, time: now, attack: ecu.attack };
-  });
+  const counter = raised(vehicle.counter + 1), reports = vehicle.ecus.map((ecu) => report(ecu, now));
+  vehicle.counter = counter;
   return built({ ...vehicle, key: vehicle.ecus.find((it) => it.ecu === vehicle.primary).secret, reports });
+}
+
+// The latest time that the vehicle knows: it never goes back.
+function clock(vehicle) {
+  vehicle.time = Math.max(vehicle.time ?? 0, world.now());
+  return vehicle.time;
 }
 
 // ---- forms: what docs/integrate/FORMATS.md says of the files, member by member
@@ -319,7 +348,8 @@ async function imageRepository(trust, fetched, secrets, now, again = true) {
   try {
     await follow(trust, fetched, secrets, 'image', now);
     const files = {};
-    for (const role of ROLES) expect(files[role] = await fetched(`image/${role}.json`), `the Image repository has no ${role}.json`);
+    for (const role of ROLES) files[role] = await fetched(`image/${role}.json`);
+    expect(ROLES.every((role) => files[role]), 'the Image repository lacks a file');
     return { targets: files.targets, versions: checkFiles(trust, files, secrets, 'image', now) };
   } catch (wrong) {
     if (!again || !(wrong instanceof Refused)) throw wrong;
@@ -358,15 +388,16 @@ const between = (least, most) => least + Math.random() * (most - least);
 // What the vectors of rounds put others in the place of: one answer, of at most a byte more than a file may have, the clock, and a wait.
 const world = {
   async exchanged(url, body) {
-    const came = await fetch(url, { method: body ? 'POST' : 'GET', body, signal: AbortSignal.timeout(PATIENCE) }), pieces = [];
+    const came = await fetch(url, { method: body ? 'POST' : 'GET', body, redirect: 'manual', signal: AbortSignal.timeout(PATIENCE) }), pieces = [];
     let length = 0;
     for await (const piece of came.body ?? []) {
       pieces.push(piece);
       if ((length += piece.length) > LARGEST) break;
     }
-    return { status: came.status, text: Buffer.concat(pieces).toString('latin1') };
+    return { status: came.status, text: Buffer.concat(pieces).toString('utf8') };
   },
   now: () => Math.floor(Date.now() / 1000),
+  takes: () => true, // whether an ECU installs an image: here each one does
   sleep: (seconds) => new Promise((done) => setTimeout(done, seconds * 1000)),
 };
 
@@ -378,7 +409,7 @@ function follows(status, text) {
   if (!isObject(told)) return ['again', null];
   if (status === 200) return ['read', null];
   const { error, text: words } = told;
-  if (status >= 500 || !Number.isInteger(error) || error < 1 || typeof words !== 'string') return ['again', null];
+  if (status >= 500 || !Number.isInteger(error) || error < 1 || [1, 2, 3, 8].includes(error) || typeof words !== 'string') return ['again', null];
   const value = words.slice(words.split(' ')[0].length + 1);
   if (error === 13 && /^\d{1,16}$/.test(value) && Number(value) <= MOST) return ['counter', Number(value)];
   return error === 18 && isName(value) ? ['report', value] : ['mend', error];
@@ -396,7 +427,7 @@ async function asked(url, body) {
   for (const wait of WAITS) {
     try {
       const { status, text } = await world.exchanged(url, body);
-      expect(text.length <= LARGEST, `${url} has no end`);
+      expect(Buffer.byteLength(text) <= LARGEST, `${url} has no end`);
       const [what, value] = follows(status, text);
       if (what !== 'again') return { status, text, what, value };
     } catch (wrong) { if (wrong instanceof Refused || wrong instanceof Stopped) throw wrong; /* else there was no answer */ }
@@ -418,13 +449,13 @@ async function answered(vehicle, url, save) {
   const secrets = Object.fromEntries((vehicle.role_secrets ?? []).map((it) => [keyid(bytes(it)), bytes(it)]));
   let isSecond = false;
   for (let turn = 0; turn < 2 + 2 * vehicle.ecus.length; turn += 1) {
-    const now = world.now();
+    const now = clock(vehicle);
     vehicle.pending ??= manifest(vehicle, now);
     save();
     let status, text, what, value;
     try {
       ({ status, text, what, value } = await asked(`${url}/director/manifest`, vehicle.pending));
-      if (what === 'read') return await verified(vehicle, replyOf(text), fetcher(url), secrets, now);
+      if (what === 'read') return await verified(vehicle, replyOf(text), fetcher(url), secrets, clock(vehicle));
     } catch (wrong) {
       if (wrong instanceof Refused) vehicle.pending = null;
       if (!(wrong instanceof Old)) throw wrong;
@@ -433,9 +464,9 @@ async function answered(vehicle, url, save) {
       isSecond = true;
     }
     vehicle.pending = null;
-    if (what === 'counter') vehicle.counter = Math.max(vehicle.counter, value);
+    if (what === 'counter') vehicle.counter = Math.max(vehicle.counter, raised(value + 1) - 1);
     // (no one says what an ECU's last counter was: the next is the time, or twice what was refused, which comes above any other in a few tries)
-    else if (what === 'report') vehicle.ecus.filter((it) => it.ecu === value).forEach((it) => { it.counter = Math.max(2 * it.counter, now) - 1; });
+    else if (what === 'report') vehicle.ecus.filter((it) => it.ecu === value).forEach((it) => { it.counter = raised(Math.max(2 * it.counter, now)) - 1; });
     else if (what === 'mend') throw new Failed(`${status} ${text}`);
   }
   throw new Failed('the service goes on refusing the counters');
@@ -446,17 +477,28 @@ const pathOf = (images, file) => join(images, encodeURIComponent(file).replace(/
 
 const imagesIn = (folder) => (file) => (folder && existsSync(pathOf(folder, file)) ? readFileSync(pathOf(folder, file)) : null);
 
-// Installs all that is due, once each image is there and is what was meant: one may need another. Returns how many were installed, and
-// nothing where one isn't there.
+// Whether an ECU has its target's image already. A SHA-512 that only one of them has makes no difference.
+function has({ installed: own }, { file, length, hashes, release }) {
+  const second = secondOf({ hashes }) ?? own.sha512;
+  return own.file === file && own.length === length && own.sha256 === hashes.sha256 && (own.sha512 ?? second) === second && own.release === release;
+}
+
+// Installs all that is due and isn't there, in the order of Targets, once each image can be had and is what was meant: one may need another.
+// So none follows one that failed. Returns how many were installed, and nothing where one wasn't.
 function install(vehicle, due, image) {
-  const ecus = vehicle.ecus.filter((it) => due[it.ecu]), contents = ecus.map((it) => image(due[it.ecu].file));
+  const ecus = Object.keys(due).map((name) => vehicle.ecus.find((it) => it.ecu === name)).filter((it) => !has(it, due[it.ecu]));
+  const contents = ecus.map((it) => image(due[it.ecu].file));
   ecus.forEach(({ ecu }, at) => {
     if (contents[at] === null) console.log(`${ecu} is to install ${due[ecu].file}, which isn't here yet`);
     else checkImage(due[ecu], contents[at]);
   });
   if (contents.includes(null)) return null;
-  for (const it of ecus) {
+  for (const [at, it] of ecus.entries()) {
     const target = due[it.ecu];
+    if (!world.takes(it.ecu, contents[at])) {
+      console.log(`${it.ecu} failed to install ${target.file}`);
+      return null;
+    }
     it.installed = { file: target.file, length: target.length, ...hashesOf(target.hashes), release: target.release };
     console.log(`${it.ecu} installed ${target.file}`);
   }
@@ -599,23 +641,33 @@ async function ofRounds(told, compare) {
   const own = { ...world }, { log, error } = console;
   for (const it of told.cases) {
     const vehicle = knownAt(told, it), seen = [];
-    let failed = it.knows?.failed ?? 0, last = { counter: vehicle.counter, counters: {} }, kept = vehicle;
+    let failed = it.knows?.failed ?? 0, latest = 0, last = { counter: vehicle.counter, counters: {} }, kept = vehicle;
     for (const ecu of vehicle.ecus) last.counters[ecu.ecu] = ecu.counter;
+    // what a report has of an image: of what each ECU has, and of what it is to have
+    const shown = ({ file, length, hashes }) => ({ file, length, hashes }), { targets } = JSON.parse(told.texts.update).targets.signed;
+    const has = Object.fromEntries(told.vehicle.ecus.map(({ ecu, installed }) => [ecu, shown({ ...installed, ...it.knows?.installed?.[ecu] })]));
     Object.assign(console, { log() {}, error() {} });
     for (const due of it.rounds) {
       const known = structuredClone(kept), line = lineOf(told, due);
       for (const repository of ['director', 'image']) withText(known[repository].root, '');
       for (const ecu of known.ecus.filter((one) => due.replaced?.[one.ecu])) {
         (known.replaced ??= []).push(ecu.ecu);
+        has[due.replaced[ecu.ecu]] = has[ecu.ecu];
+        delete has[ecu.ecu];
         Object.assign(ecu, { ecu: due.replaced[ecu.ecu], counter: 0 });
       }
       const before = Object.fromEntries(known.ecus.map((one) => [one.ecu, one.installed.file])), images = { ...told.images, ...due.images };
       kept = structuredClone(known);
       const save = () => { if (line.isUp) kept = structuredClone(known); };
-      const image = (file) => (typeof images[file] === 'string' ? Buffer.from(images[file]) : null);
+      const image = (file) => {
+        line.isUp = images[file] !== 'stop';
+        if (!line.isUp) throw new Stopped('stop');
+        return typeof images[file] === 'string' ? Buffer.from(images[file]) : null;
+      };
       let verdict = null, wait = null;
       const now = due.now ?? told.now;
-      Object.assign(world, { exchanged: line.exchanged, now: () => now, sleep: async (seconds) => { line.waits.push(seconds); } });
+      latest = Math.max(latest, now);
+      Object.assign(world, { exchanged: line.exchanged, now: () => now, takes: (ecu) => !due.fails?.includes(ecu), sleep: async (seconds) => { line.waits.push(seconds); } });
       const go = async () => {
         try {
           const done = await went(known, 'http://desk', save, image);
@@ -628,12 +680,13 @@ async function ofRounds(told, compare) {
       };
       try { [failed, wait] = await behind(go, failed); } catch { [failed, verdict] = [0, 'stopped']; }
       const sent = line.sent.map((body, at) => {
-        const [is, next] = sentAs(body, due.sent[at] ?? {}, last, { before, own: vehicle.primary, now });
+        const [is, next] = sentAs(body, due.sent[at] ?? {}, last, { has, own: vehicle.primary, now, latest });
         last = next;
         return is;
       });
       const isIn = (value, bounds) => (bounds ? value !== null && value >= bounds[0] && value <= bounds[1] : value === null);
       const installed = known.ecus.filter((one) => one.installed.file !== before[one.ecu]).map((one) => [one.ecu, one.installed.file]);
+      for (const one of targets.filter((target) => installed.some(([ecu]) => ecu === target.ecu))) has[one.ecu] = shown(one);
       const waits = line.waits.map((value, at) => (isIn(value, [due.waits[at], 1.5 * due.waits[at]]) ? due.waits[at] : value));
       const states = Object.keys(due.trusts ?? {}).map((one) => (
         [one, { root: kept[one].root.signed.version, timestamp: 0, snapshot: 0, targets: 0, ...kept[one].versions }]));
@@ -649,8 +702,10 @@ async function ofRounds(told, compare) {
 
 function knownAt({ vehicle: { role_keys: keys, ...vehicle }, files }, { knows = {} }) {
   const known = (repository) => ({ root: read(files[`${repository}/1.root.json`]), versions: { ...knows.trusted?.[repository] } });
-  const ecus = vehicle.ecus.map(({ installed: { hashes, ...installed }, ...ecu }) => (
-    { ...ecu, installed: { ...installed, ...hashes }, counter: knows.counters?.[ecu.ecu] ?? ecu.counter }));
+  const ecus = vehicle.ecus.map(({ installed, ...ecu }) => {
+    const { hashes, ...own } = { ...installed, ...knows.installed?.[ecu.ecu] };
+    return { ...ecu, installed: { ...own, ...hashes }, counter: knows.counters?.[ecu.ecu] ?? ecu.counter };
+  });
   const more = { role_secrets: Object.values(keys), director: known('director'), image: known('image') };
   return { ...vehicle, ecus, counter: knows.counter ?? vehicle.counter, ...more };
 }
@@ -676,16 +731,17 @@ function lineOf(told, due) {
 }
 
 // What is due where the body is it, and else the body; and what was sent last from then on.
-function sentAs(body, due, last, { before, own, now }) {
+function sentAs(body, due, last, { has, own, now, latest }) {
   if (!due.new) return [body === last.body ? due : body, { ...last, body }];
   const { signed } = JSON.parse(body), reports = Object.fromEntries(signed.reports.map((it) => [it.signed.ecu, it]));
   const isReport = ([name, it]) => {
-    const { counter, attack, image } = it.signed, least = last.counters[name] ?? -1;
-    const isCounter = (least < counter && counter < MOST) || JSON.stringify(it) === JSON.stringify(last.reports?.[name]);
-    const isRaised = due.raised !== name || counter === Math.max(2 * least, now);
-    return isCounter && isRaised && (attack !== '') === (name === own && due.attack) && image.file === before[name];
+    const { counter, attack, image, time } = it.signed, least = last.counters[name] ?? -1;
+    const isSame = JSON.stringify(it) === JSON.stringify(last.reports?.[name]) && due.fresh !== name;
+    const isCounter = (least < counter && counter < MOST && time === moment(latest)) || isSame;
+    const isRaised = (due.raised !== name || counter === Math.max(2 * least, now)) && (due.counters?.[name] ?? counter) === counter;
+    return isCounter && isRaised && (attack !== '') === (name === own && due.attack) && canonical(image) === canonical(has[name]);
   };
-  const isAll = signed.reports.length === Object.keys(before).length && Object.entries(reports).every(isReport);
+  const isAll = signed.reports.length === Object.keys(has).length && Object.entries(reports).every(isReport);
   const is = isAll && signed.counter > Math.max(last.counter, due.above ?? 0) && signed.counter < MOST;
   const counters = Object.fromEntries(Object.entries(reports).map(([name, it]) => [name, it.signed.counter]));
   return [is ? due : body, { body, counter: signed.counter, counters, reports }];

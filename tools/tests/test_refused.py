@@ -8,6 +8,7 @@ import subprocess
 import sys
 import tempfile
 import unittest
+from collections.abc import Callable, Iterator
 from pathlib import Path
 from unittest import mock
 
@@ -92,15 +93,17 @@ TREE = {
     "crates/up/src/lib.rt": UP,
     "crates/up/refused/three-told-as-two.edit": "file: src/lib.rt\nold:     2\nnew:     3\n"}
 
+LOW_COUNTS = "crates/low/src/counts.rt"
 
-def edit(old, new, file="src/counts.rt"):
+
+def edit(old: str, new: str, file: str = "src/counts.rt") -> str:
     return f"file: {file}\nold: {old}\nnew: {new}\n"
 
 
 class OnATree(unittest.TestCase):
     """A test in a repository of two small crates, made anew."""
 
-    def setUp(self):
+    def setUp(self) -> None:
         room = tempfile.TemporaryDirectory()
         self.addCleanup(room.cleanup)
         self.addCleanup(os.chdir, os.getcwd())
@@ -108,16 +111,16 @@ class OnATree(unittest.TestCase):
         for path, text in TREE.items():
             self.write(path, text)
 
-    def write(self, path, text):
+    def write(self, path: str, text: str) -> None:
         Path(path).parent.mkdir(parents=True, exist_ok=True)
         Path(path).write_text(text, encoding="utf-8")
 
-    def turn(self, path, old, new):
+    def turn(self, old: str, new: str, path: str = LOW_COUNTS) -> None:
         text = Path(path).read_text(encoding="utf-8")
         self.assertEqual(text.count(old), 1)
         self.write(path, text.replace(old, new))
 
-    def tool(self, *words):
+    def tool(self, *words: str) -> tuple[int, list[str], str]:
         ran = subprocess.run([sys.executable, RUN, "refused", *words], capture_output=True,
                              text=True, check=False)
         return ran.returncode, ran.stdout.splitlines(), ran.stderr
@@ -126,48 +129,49 @@ class OnATree(unittest.TestCase):
 class Hashes(OnATree):
     """What a change makes of the hash of the crate that it stands in, and of the crate above."""
 
-    def changed(self):
+    def changed(self) -> Callable[[], list[str]]:
         before = hashes(crates_here(), ["low", "up"])
 
-        def now():
+        def now() -> list[str]:
             after = hashes(crates_here(), ["low", "up"])
             return [name for name in ("low", "up") if after[name] != before[name]]
 
         return now
 
-    def test_a_body_below_is_not_read_above(self):
+    def turned(self, crates: list[str], old: str, new: str, path: str = LOW_COUNTS) -> None:
+        """Turns a text, by which the hashes of these crates change, and no other."""
         now = self.changed()
-        self.turn("crates/low/src/counts.rt", "b <= a", "b <= a && true")
-        self.assertEqual(now(), ["low"])
+        self.turn(old, new, path)
+        self.assertEqual(now(), crates)
 
-    def test_comments_are_not_read(self):
+    def test_a_body_below_is_not_read_above(self) -> None:
+        self.turned(["low"], "b <= a", "b <= a && true")
+
+    def test_comments_are_not_read(self) -> None:
         now = self.changed()
-        self.turn("crates/low/specs/Numbers.antt", "-- the least count",
-                  "-- the least of all counts\n")
-        self.turn("crates/low/src/counts.rt", "/// The least count.",
-                  "/// The least\n/// of all counts.")
-        self.turn("crates/low/src/counts.rt", "    // a brace }", "    // no brace")
+        self.turn("-- the least count", "-- the least of all counts\n",
+                  "crates/low/specs/Numbers.antt")
+        self.turn("/// The least count.", "/// The least\n/// of all counts.")
+        self.turn("    // a brace }", "    // no brace")
         self.assertEqual(now(), [])
 
-    def test_a_comment_that_an_edit_names_is_read(self):
+    def test_a_comment_that_an_edit_names_is_read(self) -> None:
         self.write("crates/low/refused/same-below.edit", edit("    b <= a // of counts",
                                                               "    b < a"))
-        self.turn("crates/low/src/counts.rt", "b <= a", "b <= a // of counts")
-        now = self.changed()
-        self.turn("crates/low/src/counts.rt", "// of counts", "// of numbers")
-        self.assertEqual(now(), ["low"])
+        self.turn("b <= a", "b <= a // of counts")
+        self.turned(["low"], "// of counts", "// of numbers")
 
-    def test_of_layout_the_columns_of_antt_are_read(self):
+    def test_of_layout_the_columns_of_antt_are_read(self) -> None:
         now = self.changed()
-        self.turn("crates/low/src/counts.rt", "    items\n", "  items\n\n")
+        self.turn("    items\n", "  items\n\n")
         self.assertEqual(now(), [])
-        self.turn("crates/low/proofs/Facts.antt", "three = 3", "three =\n 3")
+        self.turn("three = 3", "three =\n 3", "crates/low/proofs/Facts.antt")
         low = hashes(crates_here(), ["low"])
         self.assertEqual(now(), ["low"])
-        self.turn("crates/low/proofs/Facts.antt", "\n 3", "\n  3")
+        self.turn("\n 3", "\n  3", "crates/low/proofs/Facts.antt")
         self.assertNotEqual(hashes(crates_here(), ["low"]), low)
 
-    def test_what_crosses_the_boundary_is_read_above(self):
+    def test_what_crosses_the_boundary_is_read_above(self) -> None:
         self.above("use low::counts::{same, LEAST};")
         texts = [("src/counts.rt", "ensures { result ≡ a }", "ensures { a ≡ result }"),
                  ("src/counts.rt", "LEAST: u64 = 3", "LEAST: u64 = 4"),
@@ -176,35 +180,30 @@ class Hashes(OnATree):
                  ("specs/Numbers.antt", "least = 3", "least = 4")]
         for path, old, new in texts:
             with self.subTest(new):
-                now = self.changed()
-                self.turn(f"crates/low/{path}", old, new)
-                self.assertEqual(now(), ["low", "up"])
+                self.turned(["low", "up"], old, new, f"crates/low/{path}")
 
-    def more(self, text, path="crates/low/src/counts.rt"):
+    def more(self, text: str, path: str = LOW_COUNTS) -> None:
         """Writes a text behind the counts of the low crate, or behind another file."""
         self.write(path, f"{Path(path).read_text(encoding='utf-8')}\n{text}\n")
 
-    def above(self, text):
+    def above(self, text: str) -> None:
         """Writes a file of the upper crate."""
         self.write("crates/up/src/more.rt", f"{text}\n")
 
-    def test_a_private_function_below_is_not_read_above(self):
+    def test_a_private_function_below_is_not_read_above(self) -> None:
         now = self.changed()
         self.more("#[inline]\nfn halved(a: u64) -> u64\n    ensures { result ≡ a }\n{\n    a\n}")
         self.assertEqual(now(), ["low"])
-        self.turn("crates/low/src/counts.rt",
-                  "fn halved(a: u64) -> u64\n    ensures { result ≡ a }",
+        self.turn("fn halved(a: u64) -> u64\n    ensures { result ≡ a }",
                   "fn halved(a: u8)\n    ensures { a ≡ a }")
         self.more("pub(crate) fn third() -> u64 {\n    halved(3) as u64\n}")
         self.more("pub(in crate::counts) fn fourth() -> u64 {\n    third()\n}")
         self.assertEqual(now(), ["low"])
         self.more("pub struct Held;\nimpl Held {\n}")
-        now = self.changed()
-        self.turn("crates/low/src/counts.rt", "impl Held {\n}",
-                  "impl Held {\n    fn told(&self) -> u64 {\n        3\n    }\n}")
-        self.assertEqual(now(), ["low"])
+        self.turned(["low"], "impl Held {\n}",
+                    "impl Held {\n    fn told(&self) -> u64 {\n        3\n    }\n}")
 
-    def test_a_private_function_below_that_is_named_is_read_above(self):
+    def test_a_private_function_below_that_is_named_is_read_above(self) -> None:
         private = "fn halved(a: u64) -> u64\n    ensures { nat_le result a }\n{\n    a / 2\n}"
         other = "fn other(a: u64) -> u64\n    ensures { result ≡ halved }\n{\n    a\n}"
         namings = [
@@ -221,15 +220,11 @@ class Hashes(OnATree):
                 self.more(other)
                 for path, text in files:
                     self.write(f"crates/low/{path}", text)
-                now = self.changed()
-                self.turn("crates/low/src/counts.rt", "ensures { nat_le result a }",
-                          "ensures { nat_le a result }")
-                self.assertEqual(now(), ["low", "up"])
-                now = self.changed()
-                self.turn("crates/low/src/counts.rt", "a / 2", "a / 3")
-                self.assertEqual(now(), ["low"])
+                self.turned(["low", "up"], "ensures { nat_le result a }",
+                            "ensures { nat_le a result }")
+                self.turned(["low"], "a / 2", "a / 3")
 
-    def test_a_function_that_is_more_than_private_is_read_above(self):
+    def test_a_function_that_is_more_than_private_is_read_above(self) -> None:
         texts = {
             "of a trait's impl": "impl Counted for u8 {\n    fn count(&self) -> u64\n        ensures { result ≡ 4 }\n  "
             "  {\n        4\n    }\n}",
@@ -246,29 +241,25 @@ class Hashes(OnATree):
             with self.subTest(name):
                 self.setUp()
                 self.more(text)
-                now = self.changed()
-                self.turn("crates/low/src/counts.rt", "ensures { result ≡ 4 }",
-                          "ensures { 4 ≡ result }")
-                self.assertEqual(now(), ["low", "up"])
+                self.turned(["low", "up"], "ensures { result ≡ 4 }", "ensures { 4 ≡ result }")
 
-    def test_what_stands_before_a_private_function_is_read_above(self):
+    def test_what_stands_before_a_private_function_is_read_above(self) -> None:
         before = "//! More.\n#![tactic(auto)]\n"
         self.write("crates/low/src/more.rt", f"{before}fn halved() {{}}\n")
         now = self.changed()
         self.write("crates/low/src/more.rt", f"{before}fn third() {{}}\n")
         self.assertEqual(now(), ["low"])
-        self.turn("crates/low/src/more.rt", "(auto)", "(search)")
+        self.turn("(auto)", "(search)", "crates/low/src/more.rt")
         self.assertEqual(now(), ["low", "up"])
         items = [
             "macro_rules! made { () => {} }", "struct Held { a: u8 }",
             "pub use crate::counts::same;", "use crate::counts::*;"]
         for text in items:
             with self.subTest(text):
-                now = self.changed()
-                self.turn("crates/low/src/more.rt", "fn third()", f"{text}\nfn third()")
-                self.assertEqual(now(), ["low", "up"])
+                self.turned(["low", "up"], "fn third()", f"{text}\nfn third()",
+                            "crates/low/src/more.rt")
 
-    def test_a_public_function_below_is_read_above_where_it_is_named(self):
+    def test_a_public_function_below_is_read_above_where_it_is_named(self) -> None:
         halved = ("#[inline]\npub fn halved(a: u64) -> u64\n    ensures { nat_le result a }\n{\n   "
                   " a / 2\n}")
         begun = "pub struct Held;\nimpl Held {"
@@ -287,34 +278,26 @@ class Hashes(OnATree):
                     self.setUp()
                     self.more(f"// here\n{before}")
                     now = self.changed()
-                    self.turn("crates/low/src/counts.rt", f"// here\n{before}", text)
-                    self.turn("crates/low/src/counts.rt", "nat_le result a", "nat_le a result")
+                    self.turn(f"// here\n{before}", text)
+                    self.turn("nat_le result a", "nat_le a result")
                     # a clause below that has its name knows a variable by it
-                    self.turn("crates/low/src/counts.rt", "requires { a ≡ true }",
-                              "requires { (halved : ℕ) → a ≡ true }")
+                    self.turn("requires { a ≡ true }", "requires { (halved : ℕ) → a ≡ true }")
                     self.assertEqual(now(), ["low"])
                     self.write(path, naming)
-                    now = self.changed()
-                    self.turn("crates/low/src/counts.rt", "nat_le a result", "nat_le result a")
-                    self.assertEqual(now(), ["low", "up"])
-                    now = self.changed()
-                    self.turn("crates/low/src/counts.rt", "a / 2", "a / 3")
-                    self.assertEqual(now(), ["low"])
+                    self.turned(["low", "up"], "nat_le a result", "nat_le result a")
+                    self.turned(["low"], "a / 2", "a / 3")
 
-    def test_what_stands_beside_a_function_below_is_read_above(self):
+    def test_what_stands_beside_a_function_below_is_read_above(self) -> None:
         self.more(
             "pub struct Held;\nimpl Held {\n    ghost view = { 4 }\n    pub fn made() -> u64 {\n  "
             "      4\n    }\n    const MADE: u64 = 3;\n}")
         now = self.changed()
-        self.turn("crates/low/src/counts.rt", "pub fn made() -> u64 {\n        4",
-                  "pub fn made(a: u64) -> u64 {\n        a")
+        self.turn("pub fn made() -> u64 {\n        4", "pub fn made(a: u64) -> u64 {\n        a")
         self.assertEqual(now(), ["low"])
         for old, new in (("view = { 4 }", "view = { 5 }"), ("MADE: u64 = 3", "MADE: u64 = 4")):
-            now = self.changed()
-            self.turn("crates/low/src/counts.rt", old, new)
-            self.assertEqual(now(), ["low", "up"])
+            self.turned(["low", "up"], old, new)
 
-    def test_a_constant_below_is_read_above_where_it_is_named(self):
+    def test_a_constant_below_is_read_above_where_it_is_named(self) -> None:
         made = "const MADE: [u64; 2] = [3, 4];\n"
         namings = [
             ("crates/up/src/more.rt", "fn calls(a: u64) -> u64 { MADE[0] }"),
@@ -332,29 +315,22 @@ class Hashes(OnATree):
                     self.above("")
                     now = self.changed()
                     self.more(of + made)
-                    self.turn("crates/low/src/counts.rt", "[3, 4]", "[3, 5]")
+                    self.turn("[3, 4]", "[3, 5]")
                     self.assertEqual(now(), ["low"])
                     self.write(path, f"{naming}\n{Path(path).read_text(encoding='utf-8')}")
-                    now = self.changed()
-                    self.turn("crates/low/src/counts.rt", "[3, 5]", "[3, 4]")
-                    self.assertEqual(now(), ["low", "up"])
+                    self.turned(["low", "up"], "[3, 5]", "[3, 4]")
 
-    def test_a_constant_below_that_its_crate_alone_may_name_is_read_above_where_it_is_named(self):
+    def test_a_constant_below_that_its_crate_alone_may_name_is_read_above_where_it_is_named(
+            self) -> None:
         self.more("pub(crate) const MOST: u64 = 4;")
-        now = self.changed()
-        self.turn("crates/low/src/counts.rt", "MOST: u64 = 4", "MOST: u64 = 5")
-        self.assertEqual(now(), ["low"])
+        self.turned(["low"], "MOST: u64 = 4", "MOST: u64 = 5")
         self.more("pub const fn most() -> u64 {\n    MOST\n}")
-        now = self.changed()
-        self.turn("crates/low/src/counts.rt", "MOST: u64 = 5", "MOST: u64 = 6")
-        self.assertEqual(now(), ["low", "up"])
+        self.turned(["low", "up"], "MOST: u64 = 5", "MOST: u64 = 6")
 
-    def test_how_a_function_below_is_proved_is_not_read_above(self):
+    def test_how_a_function_below_is_proved_is_not_read_above(self) -> None:
         self.above("use low::counts::same;")
-        now = self.changed()
-        self.turn("crates/low/src/counts.rt", "pub fn same",
-                  "#[tactic(auto, using(crate::proofs::Facts::three))]\npub fn same")
-        self.assertEqual(now(), ["low"])
+        self.turned(["low"], "pub fn same",
+                    "#[tactic(auto, using(crate::proofs::Facts::three))]\npub fn same")
 
     HELD = """//! Held.
 use crate::counts::{Counted, same as alike};
@@ -376,7 +352,7 @@ impl Counted for Held {
 }
 """
 
-    def test_a_name_that_is_brought_below_is_read_above_where_it_stands(self):
+    def test_a_name_that_is_brought_below_is_read_above_where_it_stands(self) -> None:
         path = "crates/low/src/held.rt"
         self.write(path, self.HELD)
         turns = [
@@ -397,11 +373,9 @@ impl Counted for Held {
              "#[cfg(test)]\nuse crate::counts::Write;\nuse crate::counts::Read", ["low", "up"])]
         for old, new, crates in turns:
             with self.subTest(new):
-                now = self.changed()
-                self.turn(path, old, new)
-                self.assertEqual(now(), crates)
+                self.turned(crates, old, new, path)
 
-    def test_what_may_use_a_name_that_is_brought_below_and_not_say_it_is_read_above(self):
+    def test_what_may_use_a_name_that_is_brought_below_and_not_say_it_is_read_above(self) -> None:
         default = "pub trait More { fn more(&self) -> u64 { self.count() } }"
         for text in (default, "macro_rules! more { () => { 4.count() } }", "more! { 4 }",
                      "mod third;"):
@@ -411,7 +385,7 @@ impl Counted for Held {
                 self.write("crates/low/src/more.rt", f"use crate::counts::Counted;\n{text}\n")
                 self.assertEqual(now(), ["low", "up"])
 
-    def test_a_module_below_that_nothing_names_is_not_read_above(self):
+    def test_a_module_below_that_nothing_names_is_not_read_above(self) -> None:
         for line in ("mod third;", "pub mod third;"):
             with self.subTest(line):
                 self.setUp()
@@ -425,11 +399,10 @@ impl Counted for Held {
                 self.more("pub struct Third;", "crates/low/src/third.rt")
                 self.assertEqual(now(), ["low", "up"] if "pub" in line else ["low"])
         self.above("use low::third::third;")
-        now = self.changed()
-        self.turn("crates/low/src/lib.rt", "pub mod third;", "mod third;")
-        self.assertEqual(now(), ["low", "up"])
+        self.turned(["low", "up"], "pub mod third;", "mod third;", "crates/low/src/lib.rt")
 
-    def test_a_file_of_a_private_module_below_is_read_above_where_something_leads_to_it(self):
+    def test_a_file_of_a_private_module_below_is_read_above_where_something_leads_to_it(
+            self) -> None:
         third = ("pub(crate) struct Third { a: u8 }\n\nimpl Third {\n    pub fn a(&self) -> u8 {\n "
                  "       3\n    }\n}\n\nimpl From<u8> for Third {}\n\npub(crate) const MOST: u8 = "
                  "4;\n")
@@ -455,15 +428,14 @@ impl Counted for Held {
                 now = self.changed()
                 self.more("mod third;", "crates/low/src/lib.rt")
                 self.write("crates/low/src/third.rt", third)
-                self.turn("crates/low/src/third.rt", "struct Third { a: u8 }",
-                          "struct Third { a: u16 }")
+                self.turn("struct Third { a: u8 }", "struct Third { a: u16 }",
+                          "crates/low/src/third.rt")
                 self.assertEqual(now(), ["low"])
                 self.write(path, text)
-                now = self.changed()
-                self.turn("crates/low/src/third.rt", "struct Third {", "struct Third { b: u8,")
-                self.assertEqual(now(), ["low", "up"])
+                self.turned(["low", "up"], "struct Third {", "struct Third { b: u8,",
+                            "crates/low/src/third.rt")
 
-    def test_a_file_of_definitions_below_is_read_above_where_something_leads_to_it(self):
+    def test_a_file_of_definitions_below_is_read_above_where_something_leads_to_it(self) -> None:
         more = "use Rattle.std.specs.Prelude.{ℕ}\n\nabbrev pub more : ℕ\nmore = 4\n"
         leads = [
             ("crates/up/specs/Lib.antt", "use Rattle.low.specs.More.{more}\n"),
@@ -483,28 +455,22 @@ impl Counted for Held {
                 now = self.changed()
                 self.write("crates/low/specs/More.antt", more)
                 self.write("crates/low/specs/Lib.antt", "pub mod Numbers\npub mod More\n")
-                self.turn("crates/low/specs/More.antt", "more = 4", "more = 5")
+                self.turn("more = 4", "more = 5", "crates/low/specs/More.antt")
                 self.assertEqual(now(), ["low"])
                 self.write(path, text)
-                now = self.changed()
-                self.turn("crates/low/specs/More.antt", "more = 5", "more = 4")
-                self.assertEqual(now(), ["low", "up"])
+                self.turned(["low", "up"], "more = 5", "more = 4", "crates/low/specs/More.antt")
 
-    def test_a_file_of_definitions_that_a_function_below_leads_to_is_read_with_it(self):
+    def test_a_file_of_definitions_that_a_function_below_leads_to_is_read_with_it(self) -> None:
         self.write("crates/low/specs/More.antt", "use Rattle.low.specs.Most.{most}\n")
         self.write("crates/low/specs/Most.antt", "abbrev pub most : ℕ\nmost = 4\n")
         third = ("ghost use Rattle.low.specs.More.{most as third_of};\n\npub fn third() -> u64\n   "
                  " ensures { result ≡ third_of }\n{\n    4\n}\n")
         self.write("crates/low/src/more.rt", third)
-        now = self.changed()
-        self.turn("crates/low/specs/Most.antt", "most = 4", "most = 5")
-        self.assertEqual(now(), ["low"])
+        self.turned(["low"], "most = 4", "most = 5", "crates/low/specs/Most.antt")
         self.above("use low::more::third;")
-        now = self.changed()
-        self.turn("crates/low/specs/Most.antt", "most = 5", "most = 4")
-        self.assertEqual(now(), ["low", "up"])
+        self.turned(["low", "up"], "most = 5", "most = 4", "crates/low/specs/Most.antt")
 
-    def test_another_kit_of_the_same_logic_is_not_read(self):
+    def test_another_kit_of_the_same_logic_is_not_read(self) -> None:
         now = self.changed()
         with mock.patch.object(kit, "version", return_value=f"another-kit logic {kit.logic()}"):
             self.assertEqual((kit.name(), now()), ("another-kit", []))
@@ -513,59 +479,49 @@ impl Counted for Held {
         with mock.patch.object(kit, "version", return_value="a-kit-without-logic"):
             self.assertRaises(SystemExit, now)
 
-    def test_a_lemma_below_is_read_above_where_it_is_named(self):
-        now = self.changed()
-        self.turn("crates/low/proofs/Facts.antt", "three = 3", "three = 2")
-        self.assertEqual(now(), ["low"])
+    def test_a_lemma_below_is_read_above_where_it_is_named(self) -> None:
+        self.turned(["low"], "three = 3", "three = 2", "crates/low/proofs/Facts.antt")
         self.write("crates/up/proofs/Lib.antt", "use Rattle.low.proofs.Facts.{three}\n")
         now = self.changed()
         self.write("crates/low/proofs/Lib.antt", "pub mod Facts\npub mod More\n")
         self.write("crates/low/proofs/More.antt", "abbrev pub four : ℕ\nfour = 3\n")
         self.assertEqual(now(), ["low"])
-        self.turn("crates/low/proofs/Facts.antt", "three = 2", "three = 3")
+        self.turn("three = 2", "three = 3", "crates/low/proofs/Facts.antt")
         self.assertEqual(now(), ["low", "up"])
-        self.turn("crates/low/proofs/Facts.antt", "ℕ}\n", "ℕ}\nuse Rattle.low.proofs.More.{four}\n")
-        now = self.changed()
-        self.turn("crates/low/proofs/More.antt", "four = 3", "four = 4")
-        self.assertEqual(now(), ["low", "up"])
+        self.turn("ℕ}\n", "ℕ}\nuse Rattle.low.proofs.More.{four}\n", "crates/low/proofs/Facts.antt")
+        self.turned(["low", "up"], "four = 3", "four = 4", "crates/low/proofs/More.antt")
 
-    def test_it_is_the_same_asked_for_alone_and_with_others(self):
+    def test_it_is_the_same_asked_for_alone_and_with_others(self) -> None:
         # (a lemma file that names another of its own crate, below a crate that is asked about too)
         self.write("crates/low/proofs/Lib.antt",
                    "pub mod Facts\nuse Rattle.low.proofs.Facts.{three}\n")
         alone = hashes(crates_here(), ["low"])["low"]
         self.assertEqual(hashes(crates_here(), ["low", "up"])["low"], alone)
 
-    def test_a_proof_of_one_function_below_is_not_read_above(self):
+    def test_a_proof_of_one_function_below_is_not_read_above(self) -> None:
         self.write("crates/up/proofs/Lib.antt", "use Rattle.low.proofs.Facts.{three}\n")
         now = self.changed()
         self.write("crates/low/proofs/counts/same/Answers.antt", "-- none\n")
         self.assertEqual(now(), ["low"])
 
-    def test_an_edit_and_a_file_of_its_own_are_read(self):
-        now = self.changed()
-        self.turn("crates/up/refused/three-told-as-two.edit", "3", "4")
-        self.assertEqual(now(), ["up"])
-        now = self.changed()
-        self.turn("crates/up/src/lib.rt", "2", "2 + 0")
-        self.assertEqual(now(), ["up"])
+    def test_an_edit_and_a_file_of_its_own_are_read(self) -> None:
+        self.turned(["up"], "3", "4", "crates/up/refused/three-told-as-two.edit")
+        self.turned(["up"], "2", "2 + 0", "crates/up/src/lib.rt")
 
-    def test_the_rows_that_an_edit_names_are_not_read(self):
-        now = self.changed()
-        self.turn("crates/low/refused/another-least.edit", "LEAST + 1;\n",
-                  "LEAST + 1;\nrows: rows are set\n")
-        self.assertEqual(now(), [])
+    def test_the_rows_that_an_edit_names_are_not_read(self) -> None:
+        self.turned([], "LEAST + 1;\n", "LEAST + 1;\nrows: rows are set\n",
+                    "crates/low/refused/another-least.edit")
 
-    def test_owed_names_what_the_lock_lacks(self):
+    def test_owed_names_what_the_lock_lacks(self) -> None:
         lock.write(crates_here(), hashes(crates_here(), ["low", "up"]))
         self.assertEqual(self.tool("--owed"), (0, [], ""))
-        self.turn("crates/up/refused/three-told-as-two.edit", "3", "4")
+        self.turn("3", "4", "crates/up/refused/three-told-as-two.edit")
         self.assertEqual(
             self.tool("--owed")[:2], (1, ["up: its edits are to be judged: tools/run refused up"]))
         Path(lock.FILE).unlink()
         self.assertEqual(len(self.tool("--owed")[1]), 2)
 
-    def test_owed_tells_where_another_kit_judged(self):
+    def test_owed_tells_where_another_kit_judged(self) -> None:
         lock.write(crates_here(), hashes(crates_here(), ["low", "up"]))
         here, text = kit.name(), Path(lock.FILE).read_text(encoding="utf-8")
         self.write(lock.FILE, re.sub(rf"(?m)^(low .*) {here}$", r"\1 an-older-kit", text))
@@ -574,7 +530,7 @@ impl Counted for Held {
         self.assertEqual(self.tool("--owed"),
                          (0, [f"{told}; the kit here, of the same logic, is {here}"], ""))
         # the kit of a verdict that doesn't stand any more tells nothing
-        self.turn("crates/low/refused/another-least.edit", "LEAST + 1;", "LEAST + 2;")
+        self.turn("LEAST + 1;", "LEAST + 2;", "crates/low/refused/another-least.edit")
         self.assertEqual(
             self.tool("--owed")[:2],
             (1, ["low: its edits are to be judged: tools/run refused low"]))
@@ -583,7 +539,7 @@ impl Counted for Held {
         self.assertEqual({name: it.kit for name, it in lock.kept().items()},
                          {"low": "an-older-kit", "up": here})
 
-    def test_a_line_of_another_form_is_none(self):
+    def test_a_line_of_another_form_is_none(self) -> None:
         lock.write(crates_here(), hashes(crates_here(), ["low", "up"]))
         self.write(
             lock.FILE,
@@ -593,11 +549,11 @@ impl Counted for Held {
             self.tool("--owed")[:2],
             (1, ["low: its edits are to be judged: tools/run refused low"]))
 
-    def git(self, *words):
+    def git(self, *words: str) -> None:
         made = ["git", "-c", "user.name=a", "-c", "user.email=a@b", *words]
         subprocess.run(made, check=True, stdout=subprocess.DEVNULL, stderr=subprocess.DEVNULL)
 
-    def judged(self):
+    def judged(self) -> None:
         """A commit at which all edits were judged, two of the low crate among them, by an older kit."""
         self.write("crates/low/refused/less-reached.edit", edit("b <= a", "b < a"))
         lock.write(crates_here(), hashes(crates_here(), ["low", "up"]))
@@ -607,7 +563,7 @@ impl Counted for Held {
         self.git("add", "-A")
         self.git("commit", "-q", "-m", "judged")
 
-    def test_fewer_edits_stand_by_the_verdicts_on_all(self):
+    def test_fewer_edits_stand_by_the_verdicts_on_all(self) -> None:
         self.judged()
         Path("crates/low/refused/another-least.edit").unlink()
         self.assertEqual(self.tool("--owed")[0], 1)
@@ -623,19 +579,18 @@ impl Counted for Held {
         Path("crates/up/refused/three-told-as-two.edit").unlink()
         self.assertEqual((self.tool("--fewer", "HEAD")[0], [*lock.kept()]), (0, ["low"]))
 
-    def test_fewer_edits_are_judged_where_anything_else_changed(self):
+    def test_fewer_edits_are_judged_where_anything_else_changed(self) -> None:
         more = Path("crates/low/refused/more.edit")
         turns = {
-            "an edit that is another": lambda: self.turn("crates/low/refused/less-reached.edit",
-                                                         "b < a", "b > a"),
-            "an edit that is new": lambda: self.write(more, edit("a || b", "a")),
-            "an edit under another name": lambda: Path("crates/low/refused/less-reached.edit"
-                                                       ).rename(more),
-            "a body of its own": lambda: self.turn("crates/low/src/counts.rt", "a || b", "b || a"),
-            "a definition of its own": lambda: self.turn("crates/low/specs/Numbers.antt",
-                                                         "least = 3", "least = 4"),
-            "a lemma of its own": lambda: self.turn("crates/low/proofs/Facts.antt", "three = 3",
-                                                    "three = 2"),
+            "an edit that is another": lambda: self.turn("b < a", "b > a",
+                                                         "crates/low/refused/less-reached.edit"),
+            "an edit that is new": lambda: self.write(str(more), edit("a || b", "a")),
+            "an edit under another name": lambda: Path("crates/low/refused/less-reached.edit").
+            rename(more), "a body of its own": lambda: self.turn("a || b", "b || a"),
+            "a definition of its own": lambda: self.turn("least = 3", "least = 4",
+                                                         "crates/low/specs/Numbers.antt"),
+            "a lemma of its own": lambda: self.turn("three = 3", "three = 2",
+                                                    "crates/low/proofs/Facts.antt"),
             "the lock at that revision": lambda: self.unjudged("28"),
             "the number in the lock": lambda: self.unjudged("low 2", "low 3")}
         for name, turn in turns.items():
@@ -648,7 +603,7 @@ impl Counted for Held {
                 self.assertEqual((status, lines[:1]),
                                  (1, ["low: its edits are to be judged: tools/run refused low"]))
 
-    def unjudged(self, old, new=None):
+    def unjudged(self, old: str, new: str = "") -> None:
         """A line of the lock that didn't hold when it was kept."""
         text = Path(lock.FILE).read_text(encoding="utf-8")
         self.write(
@@ -657,17 +612,67 @@ impl Counted for Held {
             if new else re.sub(r"(?m)^(low \d+ )\w{8}", r"\g<1>00000000", text))
         self.git("commit", "-q", "-m", "another lock", lock.FILE)
 
-    def test_fewer_edits_are_judged_where_a_crate_below_changed(self):
+    def test_fewer_edits_are_judged_where_a_crate_below_changed(self) -> None:
         self.above("use low::counts::same;")
         self.judged()
         Path("crates/low/refused/another-least.edit").unlink()
-        self.turn("crates/low/src/counts.rt", "ensures { result ≡ a }", "ensures { a ≡ result }")
+        self.turn("ensures { result ≡ a }", "ensures { a ≡ result }")
         status, lines, _ = self.tool("--fewer", "HEAD")
         words = [
             f"{it}: its edits are to be judged: tools/run refused {it}" for it in ("low", "up")]
         self.assertEqual((status, lines[:2]), (1, words))
 
-    def test_a_crate_without_edits_is_not_owed(self):
+    NUMBERS, FACTS = "crates/low/specs/Numbers.antt", "crates/low/proofs/Facts.antt"
+
+    def renamed(self, *words: str) -> tuple[int, str]:
+        """The status of a commit's verdicts by those of the commit before, and what is told."""
+        self.git("add", "-A")
+        self.git("commit", "-q", "-m", "names")
+        status, _, why = self.tool("--renamed", "HEAD~1", *words)
+        return status, why
+
+    def test_verdicts_stand_under_other_names(self) -> None:
+        self.judged()
+        for old, new in ("abbrev pub least", "abbrev pub fewest"), ("\nleast =", "\nfewest ="):
+            self.turn(old, new, self.NUMBERS)
+        self.assertEqual(self.tool("--owed")[0], 1)
+        self.assertEqual(self.renamed("fewest=least"), (0, ""))
+        self.assertEqual(lock.kept()["low"].kit, "an-older-kit")
+
+    def test_verdicts_do_not_stand_where_more_than_a_name_changed(self) -> None:
+        self.judged()
+        for old, new in ("abbrev pub least", "abbrev pub fewest"), ("\nleast = 3", "\nfewest = 4"):
+            self.turn(old, new, self.NUMBERS)
+        self.assertEqual(self.renamed("fewest=least")[0], 1)
+
+    def test_what_no_commit_has_gets_no_verdict_by_names(self) -> None:
+        self.judged()
+        self.turn("a || b", "b || a")
+        status, _, why = self.tool("--renamed", "HEAD", "fewest=least")
+        self.assertEqual((status, "in none" in why), (1, True))
+
+    def test_a_name_that_was_there_is_no_new_name(self) -> None:
+        self.judged()
+        self.turn("abbrev pub least", "abbrev pub three", self.NUMBERS)
+        status, why = self.renamed("three=least")
+        self.assertEqual((status, why), (1, "refused: HEAD~1 has the name three\n"))
+
+    def test_verdicts_stand_where_a_definition_moved_word_for_word(self) -> None:
+        moved = "\n\n-- the least count\nabbrev pub least : ℕ\nleast = 3"
+        rest = "use Rattle.std.specs.Prelude.{ℕ}\n\nabbrev pub most : ℕ\nmost = 9"
+        self.write(self.NUMBERS, rest + moved + "\n")
+        self.judged()
+        for text, status in (moved.replace("= 3", "= 2"), 1), (moved, 0):
+            with self.subTest(text):
+                self.git("checkout", "-q", ":/judged", "--", self.FACTS)
+                self.write(self.NUMBERS, rest + "\n")
+                self.turn("three = 3", "three = 3" + text, self.FACTS)
+                self.git("add", "-A")
+                self.git("commit", "-q", "-m", "moved")
+                word = f"{self.NUMBERS}:least:{self.FACTS}"
+                self.assertEqual(self.tool("--renamed", ":/judged", word)[0], status)
+
+    def test_a_crate_without_edits_is_not_owed(self) -> None:
         lock.write(crates_here(), hashes(crates_here(), ["low", "up"]))
         Path("crates/up/refused/three-told-as-two.edit").unlink()
         self.assertEqual(self.tool("--owed")[:2], (0, []))
@@ -678,7 +683,7 @@ impl Counted for Held {
 class Texts(OnATree):
     """Functions, edits and what the prover's lines say of them."""
 
-    def test_functions(self):
+    def test_functions(self) -> None:
         found = functions_in(COUNTS.encode())
         self.assertEqual([it.name for it in found],
                          ["count", "doubled", "least_count", "reaches", "same", "kept", "either"])
@@ -688,7 +693,7 @@ class Texts(OnATree):
                  b"outer() { fn inside() {} }\n")
         self.assertEqual([it.name for it in functions_in(macro)], ["outer"])
 
-    def test_owners(self):
+    def test_owners(self) -> None:
         text = b"""
         impl<D: Fn(u8) -> u8> crate::held::Held<'_, D> where D: Copy { fn first() {} const fn second() {} }
         impl<T> From<Vec<T>> for Other { fn third() {} }
@@ -701,13 +706,13 @@ class Texts(OnATree):
         """
         owners = {it.name: (it.owner, it.is_own) for it in functions_in(text)}
         own = {"first": ("Held", True), "second": ("Held", True)}
-        others = {
+        others: dict[str, str | None] = {
             "third": "OtherFromVec", "fourth": "ScripterInterpretDesk", "fifth": "RefSliceU8Shown",
             "sixth": "Tuple2U8HeldFromRefStr"}
         others |= {"seventh": "Counted", "eighth": "AnySource", "alone": None}
         self.assertEqual(owners, own | {name: (owner, False) for name, owner in others.items()})
 
-    def test_a_method_is_named_by_the_module_of_its_type(self):
+    def test_a_method_is_named_by_the_module_of_its_type(self) -> None:
         self.write("crates/low/src/held.rt", "pub struct Held;\nimpl Held { fn two() {} }\n")
         self.write(
             "crates/low/src/more.rt",
@@ -723,7 +728,7 @@ class Texts(OnATree):
                          [both, both, (("more", ), ), (("more", ), )])
         self.assertEqual(modules["src/deep/other.rt"], [(("deep", "other"), )])
 
-    def test_edits_of_something_else_than_one_body_are_bad(self):
+    def test_edits_of_something_else_than_one_body_are_bad(self) -> None:
         texts = {
             "a-constant": edit("LEAST: u64 = 3", "LEAST: u64 = 4"), "a-signature": edit(
                 "pub fn same(a: u64)", "pub fn same(a: u32)"), "a-definition": edit(
@@ -738,7 +743,7 @@ class Texts(OnATree):
         bad = [it.label for it in edits_in("low", "crates/low") if it.why]
         self.assertEqual(bad, [f"low/{name}" for name in sorted(texts)])
 
-    def test_an_edit_of_a_text_of_sql_names_rows(self):
+    def test_an_edit_of_a_text_of_sql_names_rows(self) -> None:
         asked = ('pub fn asked() -> &\'static str {\n    let held = "SELECT a"; "UPDATE t SET a = '
                  '1 WHERE b = 2"\n}\npub fn named() -> &\'static str {\n    "a SELECT"\n}\n')
         self.write("crates/low/src/asked.rt", asked)
@@ -784,7 +789,7 @@ class Texts(OnATree):
                 self.assertEqual(found[name].why is None, why is None)
         self.assertEqual(found["shown"].rows, ["rows are set"])
 
-    def test_groups_have_different_functions(self):
+    def test_groups_have_different_functions(self) -> None:
         for name, body in (("less", "b < a"), ("more", "b > a"), ("always", "true")):
             self.write(f"crates/low/refused/reaches-{name}.edit", edit("b <= a", body))
         self.write("crates/low/refused/both.edit", edit("a || b", "a && b"))
@@ -795,7 +800,7 @@ class Texts(OnATree):
             for group in groups:
                 self.assertEqual(len({it.function.name for it in group}), len(group))
 
-    def test_a_refusal_is_of_the_function_whose_goal_stays_open(self):
+    def test_a_refusal_is_of_the_function_whose_goal_stays_open(self) -> None:
         lines = [
             "note: src/counts.rt:31:5: it is not proved that the result is so (`returns`); the "
             "facts known there allow other values",
@@ -831,7 +836,7 @@ class Texts(OnATree):
         self.assertFalse(is_shown("src/counts.rt", told._replace(owner="Other"), *found[3][:2]))
         self.assertFalse(is_shown("src/counts.rt", told._replace(name="kept"), *found[3][:2]))
 
-    def test_a_function_is_told_by_its_whole_path(self):
+    def test_a_function_is_told_by_its_whole_path(self) -> None:
         # (a module and a function of one name, and a goal of another function of that module,
         # placed where a helper's lines are)
         response = Function("response", (10, 20), 0, 0, None, False)
@@ -861,7 +866,7 @@ class Texts(OnATree):
                      place))
         self.assertFalse(is_shown("src/response.rt", response, "up::response::fn::response", place))
 
-    def test_a_method_is_told_by_its_type_and_trait(self):
+    def test_a_method_is_told_by_its_type_and_trait(self) -> None:
         compared = Function("cmp", (10, 20), 0, 0, None, False, "IdentOrd")
         self.assertTrue(is_of("up::compared::IdentOrd::cmp", "src/compared.rt", compared))
         for name in ("up::compared::NoteOrd::cmp", "up::compared::Ident::cmp",
@@ -877,8 +882,8 @@ class Texts(OnATree):
 class Macros(unittest.TestCase):
     """The kit's macros."""
 
-    def test_the_methods_that_they_call_are_listed(self):
-        called = set()
+    def test_the_methods_that_they_call_are_listed(self) -> None:
+        called: set[str] = set()
         for file in Path(kit.rtlib.KIT, "rattle").rglob("src/**/*.rt"):
             text = file.read_text(encoding="utf-8")
             if "macro_rules" in text and "uses" not in file.parts:
@@ -886,13 +891,13 @@ class Macros(unittest.TestCase):
         self.assertIn("write_fmt", called)
         self.assertEqual(sorted(called - {*OF_MACROS}), [])
 
-    def test_what_they_call_is_found(self):
+    def test_what_they_call_is_found(self) -> None:
         text = ("fn a() { b.c() }\nmacro_rules! d { ($e:expr) => { $e.f(\"}\").g::<u8>(); /* .h() "
                 "*/ // .i()\n $e . j () } }\nfn k() { l.m() }")
         self.assertEqual([*map(methods_called, macros_in(text))], [{"f", "g", "j"}])
 
 
-def macros_in(text):
+def macros_in(text: str) -> Iterator[str]:
     """Yields what each macro that a text declares has in its braces, without comments and texts."""
     code = re.sub(r'//[^\n]*|/\*.*?\*/|"(?:[^"\\]|\\.)*"|\'(?:[^\'\\]|\\.)\'', " ", text,
                   flags=re.DOTALL)
@@ -902,7 +907,7 @@ def macros_in(text):
             at for at, depth in enumerate(depths) if not depth), len(code))]
 
 
-def methods_called(code):
+def methods_called(code: str) -> set[str]:
     """Returns the names of the methods that are called in code."""
     return {*re.findall(r"\.\s*([a-z_]\w*)\s*(?:::\s*<[^()]*>\s*)?\(", code)}
 
@@ -924,7 +929,7 @@ class Verdicts(OnATree):
                                 "a || b", "a || || ;; b"), "unknown-name": edit("b <= a", "c <= a"),
         "wrong-type": edit("let count = LEAST;", "let count = b\"3\";")}
 
-    def begun(self, edits, *words):
+    def begun(self, edits: dict[str, str], *words: str) -> tuple[str, subprocess.Popen[str]]:
         """Starts the tool in a tree of its own, whose low crate has these edits."""
         self.setUp()
         for file in Path("crates/low/refused").iterdir():
@@ -932,11 +937,12 @@ class Verdicts(OnATree):
         Path("crates/up/refused/three-told-as-two.edit").unlink()
         for name, text in edits.items():
             self.write(f"crates/low/refused/{name}.edit", text)
-        words = [sys.executable, RUN, "refused", "--jobs", "1", *words]
-        return os.getcwd(), subprocess.Popen(words, stdout=subprocess.PIPE,
+        asked = [sys.executable, str(RUN), "refused", "--jobs", "1", *words]
+        return os.getcwd(), subprocess.Popen(asked, stdout=subprocess.PIPE,
                                              stderr=subprocess.DEVNULL, text=True)
 
-    def ended(self, folder, run):
+    def ended(self, folder: str,
+              run: subprocess.Popen[str]) -> tuple[int, dict[str, str], str, list[str]]:
         """Returns how the tool ended: its status, what it said of each edit, its last line, and
         the crates in the lock.
         """
@@ -947,9 +953,9 @@ class Verdicts(OnATree):
             for verdict, name in re.findall(r"(?m)^([A-Za-z ]+) low/([\w-]+):", "\n".join(lines))}
         return run.returncode, verdicts, lines[-1], [*lock.kept()]
 
-    def test_verdicts(self):
-        wanted = [(self.REAL, "refused"), (self.HARMLESS, "NOT REFUSED"), (self.BROKEN, "BAD EDIT")]
-        wanted = {name: verdict for names, verdict in wanted for name in names}
+    def test_verdicts(self) -> None:
+        kinds = [(self.REAL, "refused"), (self.HARMLESS, "NOT REFUSED"), (self.BROKEN, "BAD EDIT")]
+        wanted = {name: verdict for names, verdict in kinds for name in names}
         # (side by side, since each waits for the prover)
         all_kinds = self.begun({**self.REAL, **self.HARMLESS, **self.BROKEN}, "low")
         real = self.begun(self.REAL, "low")

@@ -5,4 +5,4 @@ from pathlib import Path
 
 # where the repository is, or what the package for operators has of it
 TOP = Path(__file__).resolve().parents[2]
-RUN = TOP / "tools" / "run"
+RUN = str(TOP / "tools" / "run")

@@ -7,7 +7,7 @@ use Rattle.std.proofs.lemmas.Fmt.{IsAscii-decimal}
 use Rattle.std.proofs.lemmas.Str.{IsAscii-append}
 use Rattle.std.proofs.lemmas.Str.Ascii.{IsAscii-nil, IsAscii-cons}
 use Rattle.serde_json.specs.Data.{unsigned, negative, float, Data, null, boolean, number, string, array, object, Items, no_items, item, Members, no_members, member}
-use Rattle.up_canon.specs.Canon.{max_count, is_printable, is_printable_text, is_plain, items_are_plain, members_are_plain, escaped, quoted, text, items_text, more_items_text, members_text, more_members_text}
+use Rattle.up_canon.specs.Canon.{max_count, is_printable, is_printable_text, is_plain, items_are_plain, members_are_plain, escape_of, json_string, text, items_text, more_items_text, members_text, more_members_text}
 use Rattle.up_canon.proofs.PlainMembers.{plain_member}
 
 -- one byte more in front
@@ -26,19 +26,19 @@ small-ascii (b ∷ bs) h = let p = and_parts (nat_le b 127) _ h in byte b bs p.0
 small : (x : ℕ) → is_printable x ≡ true → nat_le x 127 ≡ true
 small x h = grind (arith, nat_tests)
 
-escaped-ascii : (x : ℕ) → is_printable x ≡ true → IsAscii (escaped x)
-escaped-ascii x h = by_test ((x == 34) || (x == 92))
+escape_of-ascii : (x : ℕ) → is_printable x ≡ true → IsAscii (escape_of x)
+escape_of-ascii x h = by_test ((x == 34) || (x == 92))
   where
     by_test : (b : Bool) → IsAscii (cond b (92 ∷ x ∷ []) (x ∷ []))
     by_test true = byte 92 (x ∷ []) refl (byte x [] (small x h) IsAscii-nil)
     by_test false = byte x [] (small x h) IsAscii-nil
 
-escaped_text-ascii : (s : List ℕ) → is_printable_text s ≡ true → IsAscii (flat_map escaped s)
+escaped_text-ascii : (s : List ℕ) → is_printable_text s ≡ true → IsAscii (flat_map escape_of s)
 escaped_text-ascii [] h = IsAscii-nil
-escaped_text-ascii (x ∷ s) h = let p = and_parts (is_printable x) _ h in IsAscii-append (escaped x) (flat_map escaped s) (escaped-ascii x p.0) (escaped_text-ascii s p.1)
+escaped_text-ascii (x ∷ s) h = let p = and_parts (is_printable x) _ h in IsAscii-append (escape_of x) (flat_map escape_of s) (escape_of-ascii x p.0) (escaped_text-ascii s p.1)
 
-quoted-ascii : (s : List ℕ) → is_printable_text s ≡ true → IsAscii (quoted s)
-quoted-ascii s h = byte 34 (flat_map escaped s ++ 34 ∷ []) refl (IsAscii-append (flat_map escaped s) (34 ∷ []) (escaped_text-ascii s h) (byte 34 [] refl IsAscii-nil))
+json_string-ascii : (s : List ℕ) → is_printable_text s ≡ true → IsAscii (json_string s)
+json_string-ascii s h = byte 34 (flat_map escape_of s ++ 34 ∷ []) refl (IsAscii-append (flat_map escape_of s) (34 ∷ []) (escaped_text-ascii s h) (byte 34 [] refl IsAscii-nil))
 
 count-ascii : (n : ℕ) → nat_le n max_count ≡ true → IsAscii (decimal n)
 count-ascii n h = IsAscii-decimal n (grind (arith, nat_tests))
@@ -51,7 +51,7 @@ mutual
   text-ascii (number (unsigned n)) h = count-ascii n h
   text-ascii (number (negative z)) h = cc
   text-ascii (number (float x)) h = cc
-  text-ascii (string s) h = quoted-ascii s h
+  text-ascii (string s) h = json_string-ascii s h
   text-ascii (array ds) h = byte 91 (items_text ds) refl (items-ascii ds h)
   text-ascii (object ms) h = byte 123 (members_text ms) refl (members-ascii ms h)
 
@@ -69,13 +69,13 @@ mutual
   members-ascii no_members h = byte 125 [] refl IsAscii-nil
   members-ascii (member k d ms) h =
       let p = plain_member k d ms h in
-      IsAscii-append (quoted k) (58 ∷ (text d ++ more_members_text ms)) (quoted-ascii k p.key)
+      IsAscii-append (json_string k) (58 ∷ (text d ++ more_members_text ms)) (json_string-ascii k p.key)
       (byte 58 (text d ++ more_members_text ms) refl (IsAscii-append (text d) (more_members_text ms) (text-ascii d p.value) (more_members-ascii ms p.others)))
 
   more_members-ascii : (ms : Members) → members_are_plain ms ≡ true → IsAscii (more_members_text ms)
   more_members-ascii no_members h = byte 125 [] refl IsAscii-nil
   more_members-ascii (member k d ms) h =
       let p = plain_member k d ms h in
-      byte 44 (quoted k ++ 58 ∷ (text d ++ more_members_text ms)) refl
-      (IsAscii-append (quoted k) (58 ∷ (text d ++ more_members_text ms)) (quoted-ascii k p.key)
+      byte 44 (json_string k ++ 58 ∷ (text d ++ more_members_text ms)) refl
+      (IsAscii-append (json_string k) (58 ∷ (text d ++ more_members_text ms)) (json_string-ascii k p.key)
       (byte 58 (text d ++ more_members_text ms) refl (IsAscii-append (text d) (more_members_text ms) (text-ascii d p.value) (more_members-ascii ms p.others))))

@@ -23,21 +23,21 @@ use Rattle.serde_json.specs.Written.{outline, items_outline, members_outline, co
 use Rattle.serde_json.specs.Written as written
 use Rattle.serde_json.proofs.Numbers.{number_of-decimal}
 use Rattle.serde_json.proofs.Texts.{print-outline}
-use Rattle.up_canon.specs.Canon.{is_printable, is_printable_text, comes_first, is_plain, items_are_plain, members_are_plain, has_canon, escaped, quoted, text, items_text, more_items_text, members_text, more_members_text, PlainIsRead, CanonIsRead, CanonIsInjective, max_count}
+use Rattle.up_canon.specs.Canon.{is_printable, is_printable_text, comes_first, is_plain, items_are_plain, members_are_plain, has_canon, escape_of, json_string, text, items_text, more_items_text, members_text, more_members_text, PlainIsRead, CanonIsRead, CanonIsInjective, max_count}
 use Rattle.up_canon.proofs.PlainMembers.{plain_member}
 
 -- ---- the text is the one that `serde_json` prints
 
-escape_byte-printable : (x : ℕ) → is_printable x ≡ true → escape_byte x ≡ escaped x
+escape_byte-printable : (x : ℕ) → is_printable x ≡ true → escape_byte x ≡ escape_of x
 unfolding escape_byte
 escape_byte-printable x h = grind (arith, nat_tests)
 
-escape-printable : (s : List ℕ) → is_printable_text s ≡ true → escape s ≡ flat_map escaped s
+escape-printable : (s : List ℕ) → is_printable_text s ≡ true → escape s ≡ flat_map escape_of s
 escape-printable [] h = refl
 escape-printable (x ∷ s) h = let p = and_parts (is_printable x) _ h in ap₂ (λ a b. a ++ b) (escape_byte-printable x p.0) (escape-printable s p.1)
 
-quoted-printable : (s : List ℕ) → is_printable_text s ≡ true → printed.quoted s ≡ quoted s
-quoted-printable s h = ap (λ e. 34 ∷ (e ++ 34 ∷ [])) (escape-printable s h)
+json_string-printable : (s : List ℕ) → is_printable_text s ≡ true → printed.quoted s ≡ json_string s
+json_string-printable s h = ap (λ e. 34 ∷ (e ++ 34 ∷ [])) (escape-printable s h)
 
 mutual
   pub compact_text-plain : (d : Data) → is_plain d ≡ true → compact_text d ≡ text d
@@ -47,7 +47,7 @@ mutual
   compact_text-plain (number (unsigned n)) h = refl
   compact_text-plain (number (negative z)) h = cc
   compact_text-plain (number (float x)) h = cc
-  compact_text-plain (string s) h = quoted-printable s h
+  compact_text-plain (string s) h = json_string-printable s h
   compact_text-plain (array ds) h = ap (λ t. 91 ∷ t) (items_text-plain ds h)
   compact_text-plain (object ms) h = ap (λ t. 123 ∷ t) (members_text-plain ms h)
 
@@ -63,13 +63,13 @@ mutual
   members_text-plain no_members h = refl
   members_text-plain (member k d ms) h =
       let p = plain_member k d ms h in
-      ap₂ (λ a b. a ++ 58 ∷ b) (quoted-printable k p.key) (ap₂ (λ a b. a ++ b) (compact_text-plain d p.value) (more_members_text-plain ms p.others))
+      ap₂ (λ a b. a ++ 58 ∷ b) (json_string-printable k p.key) (ap₂ (λ a b. a ++ b) (compact_text-plain d p.value) (more_members_text-plain ms p.others))
 
   more_members_text-plain : (ms : Members) → members_are_plain ms ≡ true → written.members_text true ms ≡ more_members_text ms
   more_members_text-plain no_members h = refl
   more_members_text-plain (member k d ms) h =
       let p = plain_member k d ms h in
-      ap₂ (λ a b. 44 ∷ (a ++ 58 ∷ b)) (quoted-printable k p.key) (ap₂ (λ a b. a ++ b) (compact_text-plain d p.value) (more_members_text-plain ms p.others))
+      ap₂ (λ a b. 44 ∷ (a ++ 58 ∷ b)) (json_string-printable k p.key) (ap₂ (λ a b. a ++ b) (compact_text-plain d p.value) (more_members_text-plain ms p.others))
 
 -- ---- its tokens are those of the value
 

@@ -11,7 +11,7 @@ use Rattle.hex.proofs.HexLemmas.{IsAscii-encode_with}
 use Rattle.up_canon.proofs.MomentTexts.{moment_parts, civil_bounds}
 use Rattle.up_canon.proofs.Printable.{all-more, digit-below}
 use Rattle.up_canon.specs.Build.{hashes_value}
-use Rattle.up_canon.specs.Canon.{escaped, quoted, text}
+use Rattle.up_canon.specs.Canon.{escape_of, json_string, text}
 use Rattle.up_canon.specs.HexText.{second_hash_text}
 use Rattle.up_canon.specs.Moments.{last_moment, year_of, month_of, day_in_month, parts_text, moment_text}
 use Rattle.up_canon.specs.Names.{is_from_to, is_ident_byte, is_file_byte, is_ident, is_file_name}
@@ -22,10 +22,10 @@ use Rattle.up_canon.specs.Names.{is_from_to, is_ident_byte, is_file_byte, is_ide
 abbrev is_special : ℕ → Bool
 is_special x = (x == 34) || (x == 92)
 
-not_special : (x : ℕ) → not (is_special x) ≡ true → escaped x ≡ x ∷ []
+not_special : (x : ℕ) → not (is_special x) ≡ true → escape_of x ≡ x ∷ []
 not_special x h = grind (arith, nat_tests)
 
-pub all_straight : (t : List ℕ) → list_all (λ x. not (is_special x)) t ≡ true → flat_map escaped t ≡ t
+pub all_straight : (t : List ℕ) → list_all (λ x. not (is_special x)) t ≡ true → flat_map escape_of t ≡ t
 all_straight [] h = refl
 all_straight (x ∷ t) h =
     let p = and_parts (not (is_special x)) _ h in
@@ -39,10 +39,10 @@ ident_byte x h = grind (arith, nat_tests)
 file_byte : (x : ℕ) → is_file_byte x ≡ true → not (is_special x) ≡ true
 file_byte x h = grind (arith, nat_tests)
 
-pub ident_straight : (t : List ℕ) → is_ident t ≡ true → flat_map escaped t ≡ t
+pub ident_straight : (t : List ℕ) → is_ident t ≡ true → flat_map escape_of t ≡ t
 ident_straight t h = all_straight t (all-more is_ident_byte (λ x. not (is_special x)) t ident_byte (and_parts (is_from_to 1 64 (length t)) _ h).1)
 
-pub file_name_straight : (t : List ℕ) → is_file_name t ≡ true → flat_map escaped t ≡ t
+pub file_name_straight : (t : List ℕ) → is_file_name t ≡ true → flat_map escape_of t ≡ t
 file_name_straight t h = all_straight t (all-more is_file_byte (λ x. not (is_special x)) t file_byte (and_parts (is_from_to 1 128 (length t)) _ h).1)
 
 -- ---- moments
@@ -64,19 +64,19 @@ moment_is_straight m h =
     parts_straight (year_of (m / 86_400)) (month_of (m / 86_400)) (day_in_month (m / 86_400)) (m / 3600 % 24) (m / 60 % 60) (m % 60) small.0 small.1 small.2 (omega arith) (omega arith) (omega arith)
 
 -- what a clock shows, with the sign of UTC, in quotes
-pub moment_quoted : (shown : List ℕ) (m : ℕ) → m ≤ last_moment → shown ++ 90 ∷ [] ≡ moment_text m → 34 ∷ shown ++ 90 ∷ 34 ∷ [] ≡ quoted (moment_text m)
+pub moment_quoted : (shown : List ℕ) (m : ℕ) → m ≤ last_moment → shown ++ 90 ∷ [] ≡ moment_text m → 34 ∷ shown ++ 90 ∷ 34 ∷ [] ≡ json_string (moment_text m)
 moment_quoted shown m h is =
     ap (λ t. 34 ∷ t) (sym (append_assoc shown (90 ∷ []) (34 ∷ [])) ∙ ap (λ t. t ++ 34 ∷ []) (is ∙ sym (all_straight (moment_text m) (moment_is_straight m h))))
 
 -- ---- hexadecimal digits
 
-escaped_digit : (d : ℕ) → escaped (slice_index lower_digits d) ≡ slice_index lower_digits d ∷ []
+escaped_digit : (d : ℕ) → escape_of (slice_index lower_digits d) ≡ slice_index lower_digits d ∷ []
 escaped_digit d = elim (cases_lt d 16) [
   | inl below ↦ not_special (slice_index lower_digits d) (digit-below (λ x. not (is_special x)) 16 d refl below)
   | inr past ↦ not_special (slice_index lower_digits d) (rw (get_or_past lower_digits d 0 past) refl)
 ]
 
-escaped_hex : (xs : List ℕ) → flat_map escaped (encode_lower xs) ≡ encode_lower xs
+escaped_hex : (xs : List ℕ) → flat_map escape_of (encode_lower xs) ≡ encode_lower xs
 unfolding encode_with
 escaped_hex [] = refl
 escaped_hex (b ∷ xs) = rw (escaped_digit (b / 16), escaped_digit (b % 16)) (ap (λ t. slice_index lower_digits (b / 16) ∷ slice_index lower_digits (b % 16) ∷ t) (escaped_hex xs))
@@ -105,12 +105,12 @@ pub passes_utf8 : {T E : Type 0} (bs : List ℕ) (P : T → Type 0) (Q : E → T
 passes_utf8 bs P Q (Ok text) h utf8 = refl
 passes_utf8 bs P Q (Err e) h utf8 = absurd (h.0 utf8)
 
-pub quoted_hex : (xs : List ℕ) → quoted (encode_lower xs) ≡ 34 ∷ encode_lower xs ++ 34 ∷ []
+pub quoted_hex : (xs : List ℕ) → json_string (encode_lower xs) ≡ 34 ∷ encode_lower xs ++ 34 ∷ []
 quoted_hex xs = ap (λ t. 34 ∷ t ++ 34 ∷ []) (escaped_hex xs)
 
 -- ---- hashes
 
 pub hashes_text : (sha256 : List ℕ) (sha512 : Option (List ℕ))
-    → (codes "{\"sha256\":" ++ quoted (encode_lower sha256)) ++ (second_hash_text sha512 ++ 125 ∷ []) ≡ text (hashes_value sha256 sha512)
+    → (codes "{\"sha256\":" ++ json_string (encode_lower sha256)) ++ (second_hash_text sha512 ++ 125 ∷ []) ≡ text (hashes_value sha256 sha512)
 hashes_text sha256 None = refl
 hashes_text sha256 (Some hash) = refl

@@ -3,7 +3,7 @@ use Rattle.std.specs.Prelude.{ℕ, ◌++◌, ◌&&◌, ◌||◌, ◌==◌, List,
 use Rattle.std.specs.List.{list_all}
 use Rattle.hex.specs.Hex.{decode_of, encode_lower}
 use Rattle.serde_json.specs.Data.{Data}
-use Rattle.up_canon.specs.Canon.{quoted}
+use Rattle.up_canon.specs.Canon.{json_string}
 use Rattle.up_canon.specs.Members.{member_in, text_of}
 use Rattle.up_canon.specs.Names.{is_from_to}
 use Rattle.up_canon.specs.Readers.{fitting}
@@ -27,7 +27,7 @@ is_second_hash (Some hash) = is_sha512 hash
 -- the canonical text of the member of a second hash, where there is one, with the comma before it
 abbrev pub second_hash_text : Option (List ℕ) → List ℕ
 second_hash_text None = []
-second_hash_text (Some hash) = codes ",\"sha512\":" ++ quoted (encode_lower hash)
+second_hash_text (Some hash) = codes ",\"sha512\":" ++ json_string (encode_lower hash)
 
 -- a hexadecimal digit in lower case: `0` to `9` and `a` to `f`
 abbrev pub is_lower_digit : ℕ → Bool

@@ -3,7 +3,7 @@ ghost use Rattle.std.specs.Prelude.{◌≡◌, ◌||◌, ◌==◌, ◌≤◌, �
 ghost use Rattle.std.specs.List.{list_all};
 ghost use Rattle.hex.specs.Hex.{encode_lower};
 ghost use Rattle.up_canon.specs.Build.{hashes_value};
-ghost use Rattle.up_canon.specs.Canon.{is_printable, escaped, quoted, text as text_of};
+ghost use Rattle.up_canon.specs.Canon.{is_printable, escape_of, json_string, text as text_of};
 ghost use Rattle.up_canon.specs.HexText.{is_hash, is_sha512, is_second_hash, second_hash_text};
 ghost use Rattle.up_canon.specs.Moments.{last_moment, moment_text};
 
@@ -19,7 +19,7 @@ use std::str;
 /// text.
 pub fn push_quoted(out: &mut String, text: &str) -> Result<(), AllocError>
     requires { IsTrue (list_all is_printable text.now) }
-    ensures { IfOk result (λ _. string_bytes out.new ≡ string_bytes out.old ++ quoted text.now) }
+    ensures { IfOk result (λ _. string_bytes out.new ≡ string_bytes out.old ++ json_string text.now) }
 {
     if is_straight(text.as_bytes()) {
         push_straight(out, text)
@@ -37,8 +37,8 @@ fn is_straight(bytes: &[u8]) -> bool
 
 /// Appends a text that needs no backslash, in one piece.
 fn push_straight(out: &mut String, text: &str) -> Result<(), AllocError>
-    requires { flat_map escaped text.now ≡ text.now }
-    ensures { IfOk result (λ _. string_bytes out.new ≡ string_bytes out.old ++ quoted text.now) }
+    requires { flat_map escape_of text.now ≡ text.now }
+    ensures { IfOk result (λ _. string_bytes out.new ≡ string_bytes out.old ++ json_string text.now) }
 {
     out.push('"')?;
     out.push_str(text)?;
@@ -48,7 +48,7 @@ fn push_straight(out: &mut String, text: &str) -> Result<(), AllocError>
 
 fn push_each_escaped(out: &mut String, text: &str) -> Result<(), AllocError>
     requires { IsTrue (list_all is_printable text.now) }
-    ensures { IfOk result (λ _. string_bytes out.new ≡ string_bytes out.old ++ quoted text.now) }
+    ensures { IfOk result (λ _. string_bytes out.new ≡ string_bytes out.old ++ json_string text.now) }
 {
     out.push('"')?;
     for byte in text.as_bytes().iter() {
@@ -60,7 +60,7 @@ fn push_each_escaped(out: &mut String, text: &str) -> Result<(), AllocError>
 
 fn push_escaped(out: &mut String, byte: u8) -> Result<(), AllocError>
     requires { IsTrue (is_printable byte) }
-    ensures { IfOk result (λ _. string_bytes out.new ≡ string_bytes out.old ++ escaped byte) }
+    ensures { IfOk result (λ _. string_bytes out.new ≡ string_bytes out.old ++ escape_of byte) }
 {
     if byte == b'"' || byte == b'\\' {
         out.push('\\')?;
@@ -72,7 +72,7 @@ fn push_escaped(out: &mut String, byte: u8) -> Result<(), AllocError>
 /// Appends the bytes as lower case hexadecimal digits in quotes, without memory of its own. On an error `out` may hold any
 /// text.
 pub fn push_hex(_alloc: Global, out: &mut String, bytes: &[u8]) -> Result<(), AllocError>
-    ensures { IfOk result (λ _. string_bytes out.new ≡ string_bytes out.old ++ quoted (encode_lower bytes.now)) }
+    ensures { IfOk result (λ _. string_bytes out.new ≡ string_bytes out.old ++ json_string (encode_lower bytes.now)) }
 {
     out.push('"')?;
     push_digits(out, bytes)?;
@@ -116,7 +116,7 @@ pub fn push_number(out: &mut String, number: u64) -> Result<(), AllocError>
 /// Appends an identifier in quotes. On an error `out` may hold any text.
 #[tactic(auto, using(crate::proofs::Written::ident_straight))]
 pub fn push_ident(out: &mut String, ident: &Ident) -> Result<(), AllocError>
-    ensures { IfOk result (λ _. string_bytes out.new ≡ string_bytes out.old ++ quoted ident.now) }
+    ensures { IfOk result (λ _. string_bytes out.new ≡ string_bytes out.old ++ json_string ident.now) }
 {
     push_straight(out, ident.text())
 }
@@ -124,14 +124,14 @@ pub fn push_ident(out: &mut String, ident: &Ident) -> Result<(), AllocError>
 /// Appends a filename in quotes. On an error `out` may hold any text.
 #[tactic(auto, using(crate::proofs::Written::file_name_straight))]
 pub fn push_file_name(out: &mut String, name: &FileName) -> Result<(), AllocError>
-    ensures { IfOk result (λ _. string_bytes out.new ≡ string_bytes out.old ++ quoted name.now) }
+    ensures { IfOk result (λ _. string_bytes out.new ≡ string_bytes out.old ++ json_string name.now) }
 {
     push_straight(out, name.text())
 }
 
 /// Appends the text of a moment, `YYYY-MM-DDTHH:MM:SSZ`, in quotes. On an error `out` may hold any text.
 pub fn push_moment(out: &mut String, moment: Moment) -> Result<(), AllocError>
-    ensures value { IfOk result (λ _. string_bytes out.new ≡ string_bytes out.old ++ quoted (moment_text moment)) }
+    ensures value { IfOk result (λ _. string_bytes out.new ≡ string_bytes out.old ++ json_string (moment_text moment)) }
     ensures typed { moment ≤ last_moment }
 {
     let shown = shown_at(moment.get());
@@ -159,7 +159,7 @@ pub fn push_hashes(
 
 fn push_sha256(alloc: Global, out: &mut String, hash: &[u8; 32]) -> Result<(), AllocError>
     ensures value { IfOk result
-        (λ _. string_bytes out.new ≡ string_bytes out.old ++ (codes "{\"sha256\":" ++ quoted (encode_lower hash.now))) }
+        (λ _. string_bytes out.new ≡ string_bytes out.old ++ (codes "{\"sha256\":" ++ json_string (encode_lower hash.now))) }
     ensures typed { is_hash hash.now ≡ true }
 {
     out.push_str("{\"sha256\":")?;

@@ -8,7 +8,7 @@ use Rattle.std.proofs.lemmas.List.{append_assoc}
 use Rattle.serde_json.specs.Data.{Data, string}
 use Rattle.serde_json.specs.View.{items_of}
 use Rattle.up_canon.specs.Build.{list_with, object_with}
-use Rattle.up_canon.specs.Canon.{escaped, has_canon, is_printable, text, items_text, more_items_text}
+use Rattle.up_canon.specs.Canon.{escape_of, has_canon, is_printable, text, items_text, more_items_text}
 use Rattle.up_canon.specs.Names.{is_file_byte}
 use Rattle.up_canon.proofs.PlainValues.{IsPlain, AllItems, plain-string, plain-object, plain-list, plain-canon}
 use Rattle.up_canon.proofs.Printable.{all-more}
@@ -21,20 +21,20 @@ prints x h = grind (arith, nat_tests)
 pub name-plain : (name : List ℕ) → list_all is_file_byte name ≡ true → IsPlain 0 (string name)
 name-plain name h = plain-string name (all-more is_file_byte is_printable name prints h)
 
-bare-byte : (x : ℕ) → is_file_byte x ≡ true → escaped x ≡ x ∷ []
+bare-byte : (x : ℕ) → is_file_byte x ≡ true → escape_of x ≡ x ∷ []
 bare-byte x h =
     let other : ((x == 34) || (x == 92)) ≡ false = grind (arith, nat_tests) in
     ap (λ b. cond b (92 ∷ x ∷ []) (x ∷ [])) other
 
-bare : (name : List ℕ) → list_all is_file_byte name ≡ true → flat_map escaped name ≡ name
+bare : (name : List ℕ) → list_all is_file_byte name ≡ true → flat_map escape_of name ≡ name
 bare [] h = refl
 bare (x ∷ name) h =
     let p = and_parts (is_file_byte x) _ h in
     ap₂ (λ a b. a ++ b) (bare-byte x p.0) (bare name p.1)
 
 -- behind its opening quote, with what stands behind it
-quoted_then : (name rest : List ℕ) → list_all is_file_byte name ≡ true → (flat_map escaped name ++ 34 ∷ []) ++ rest ≡ name ++ 34 ∷ rest
-quoted_then name rest h = append_assoc (flat_map escaped name) (34 ∷ []) rest ∙ ap (λ t. t ++ 34 ∷ rest) (bare name h)
+quoted_then : (name rest : List ℕ) → list_all is_file_byte name ≡ true → (flat_map escape_of name ++ 34 ∷ []) ++ rest ≡ name ++ 34 ∷ rest
+quoted_then name rest h = append_assoc (flat_map escape_of name) (34 ∷ []) rest ∙ ap (λ t. t ++ 34 ∷ rest) (bare name h)
 
 pub name-text : (name rest : List ℕ) → list_all is_file_byte name ≡ true → codes "\"" ++ (name ++ (codes "\"" ++ rest)) ≡ text (string name) ++ rest
 name-text name rest h = ap (λ t. 34 ∷ t) (sym (quoted_then name rest h))
@@ -51,10 +51,10 @@ pair-plain file hardware hf hh =
 pub pair-text : (file hardware rest : List ℕ) → list_all is_file_byte file ≡ true → list_all is_file_byte hardware ≡ true
     → codes "{\"file\":\"" ++ (file ++ (codes "\",\"hardware\":\"" ++ (hardware ++ (codes "\"}" ++ rest)))) ≡ text (pair file hardware) ++ rest
 pair-text file hardware rest hf hh =
-    let quoted_hardware = flat_map escaped hardware ++ 34 ∷ [] in
+    let quoted_hardware = flat_map escape_of hardware ++ 34 ∷ [] in
     let behind = codes ",\"hardware\":\"" ++ (quoted_hardware ++ 125 ∷ []) in
     sym (ap (λ t. codes "{\"file\":\"" ++ t)
-    (append_assoc (flat_map escaped file ++ 34 ∷ []) behind rest
+    (append_assoc (flat_map escape_of file ++ 34 ∷ []) behind rest
     ∙ quoted_then file (behind ++ rest) hf
     ∙ ap (λ t. file ++ (codes "\",\"hardware\":\"" ++ t)) (append_assoc quoted_hardware (125 ∷ []) rest ∙ quoted_then hardware (125 ∷ rest) hh)))
 

@@ -10,3 +10,4 @@ pub mod Vectors
 pub mod Extended
 pub mod Decoded
 pub mod Negated
+pub mod Order

@@ -2,6 +2,7 @@ pub mod Coordinates
 pub mod Curve
 pub mod Encoding
 pub mod Field
+pub mod Keys
 pub mod Laws
 pub mod LittleEndian
 pub mod Points

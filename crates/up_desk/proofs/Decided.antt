@@ -1,5 +1,5 @@
 -- What a decision that went through says.
-use Rattle.std.proofs.Common.{◌≡◌, ℕ, List, Some, Result, Ok, Err, refl, sym, ap, ◌∙◌, subst}
+use Rattle.std.proofs.Common.{◌≡◌, Some, Result, Ok, ap, ◌∙◌, subst}
 use Rattle.std.specs.FinMap as table
 use Rattle.up_canon.specs.Names.{Name}
 use Rattle.up_canon.specs.declared.refusal.Refusal.{Refusal}
@@ -16,12 +16,8 @@ use Rattle.up_machine.specs.Deliveries.{with_entry}
 use Rattle.up_machine.specs.Rows.{reply_kept}
 use Rattle.up_machine.specs.State.{Entry, Vehicle, State}
 use Rattle.up_machine.specs.Deciding.{Outcome, done, already}
-use Rattle.up_machine.specs.Inventory.{with_campaign, closed, decide_open}
-use Rattle.up_machine.specs.Decisions.{IsDone, GivesDecision, GivesClosed, GivesFile, HasAcceptedRows, GivesDelivered}
-use Rattle.up_records.specs.Standing.{Standing}
-use Rattle.up_records.specs.Steps.{GivesOrFails}
-use Rattle.up_records.specs.Writes.{OpensWith}
-use Rattle.up_records.proofs.NeverStore.{NeverStore}
+use Rattle.up_machine.specs.Inventory.{with_campaign, closed}
+use Rattle.up_machine.specs.Decisions.{IsDone, GivesDecision, GivesClosed, HasAcceptedRows, GivesDelivered}
 
 pub when_already : {R : Type 0} (has : R → Type 0) (s next : State) (d : Decision R) (computed : Result Outcome Refusal) → d ≡ Already → GivesDecision has s next (Ok d) computed
     → computed ≡ Ok (already s)
@@ -70,8 +66,3 @@ when_accepted k s name (Repeat reply) rows computed is h = cc
 when_accepted k s name (Accepted other) rows computed is h =
     let same : other ≡ rows = cc in
     subst (λ (r : AcceptedRows). IsAccepted k s name r computed) same (record { vehicle = h.0; entry = h.1; found = h.2; decided = h.3; has = h.4 })
-
--- the campaign that is opened
-pub opened_as : (s : State) (at : ℕ) (campaign row : CampaignData) → row ≡ campaign → decide_open s at campaign ≡ Ok (done (with_campaign s campaign)) → OpensWith row s (with_campaign s campaign)
-opened_as s at campaign row is opened =
-    subst (λ (r : CampaignData). OpensWith r s (with_campaign s campaign)) (sym is) (at, refl, opened)

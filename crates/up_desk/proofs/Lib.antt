@@ -1,10 +1,9 @@
 pub mod Standings
-pub mod Steps
+pub mod Carrying
 pub mod Decided
 pub mod Due
 pub mod LookedUp
 pub mod Loops
-pub mod Marks
 pub mod Serving
 pub mod Outlasting
 pub mod Calls

@@ -5,10 +5,6 @@ use Rattle.up_canon.specs.Names.{Name, Table}
 use Rattle.up_plan.specs.Images.{ImageData}
 use Rattle.up_desk.specs.Gathered.{IsPart, gathered}
 use Rattle.up_desk.proofs.LookedUp.{gathered_more, part_gathered}
-use Rattle.up_sign.specs.Schemes.{Rules}
-use Rattle.up_machine.specs.State.{State}
-use Rattle.up_records.specs.Reads.{Reads}
-use Rattle.up_records.specs.Standing.{HasCleanDisk, IfClean, ShowsState, Standing}
 
 pub mapped_more : {A B : Type 0} (f : A → B) (xs : List A) (i : ℕ) (x : A) → i < length xs → x ≡ get_or xs i x → map f (take (i + 1) xs) ≡ map f (take i xs) ++ f x ∷ []
 mapped_more f xs i x within is = map_more f xs i x within ∙ ap (λ y. map f (take i xs) ++ f y ∷ []) (sym is)
@@ -24,8 +20,3 @@ pub files_more : (registered start : Table ImageData) (before these : List Name)
 files_more registered start before these is so_far part found =
     found (subst (IsPart registered) (sym so_far) (part_gathered registered before start part))
     ∙ ap (gathered registered these) so_far ∙ sym (gathered_more registered before these start) ∙ ap (λ files. gathered registered files start) (sym is)
-
--- the images of these files were put among those that were there, and nothing was written
-pub record FarGathered (k : Rules) (files : List Name) (start images : Table ImageData) (old now : Standing) : Type 0 where
-  pub found : HasCleanDisk now → (s : State) → IfClean (ShowsState k s) old → IsPart s.images start → images ≡ gathered s.images files start
-  pub reads : Reads k old now

@@ -1,11 +1,12 @@
 -- What is due is what a command over the rows comes to.
 use Rattle.std.proofs.Common.{◌≡◌, ℕ, ◌<◌, ◌≤◌, List, Bool, true, false, Option, Some, None, Result, Ok, Err, refl, sym, ap, ◌∙◌, subst, arith}
-use Rattle.std.specs.Prelude.{◌||◌, ⊤, nat_lt, if◌then◌else◌, codes, length, IfErr, IfSome, option_and_then, MatchBool, IsTrue}
+use Rattle.std.specs.Prelude.{⊤, nat_le, nat_lt, if◌then◌else◌, codes, length, IfErr, IfSome, option_and_then, MatchBool, IsTrue}
+use Rattle.std.specs.Borrow.{MutBor}
 use Rattle.std.specs.List.{list_all}
 use Rattle.std.proofs.lemmas.Bool.Decides.{nat_tests}
+use Rattle.up_canon.specs.JsonText.{value_within}
 use Rattle.up_canon.specs.Moments.{last_command_moment}
 use Rattle.up_canon.specs.Steps.{and_then, refuse_if, unless, value_of}
-use Rattle.up_canon.specs.Refusals.{is_memory}
 use Rattle.up_canon.specs.declared.refusal.Refusal.{Refusal}
 use Rattle.up_canon.specs.declared.refusal.Refusal.TheVariants.{Store, MomentOutOfRange, TooLarge, BadShape}
 use Rattle.up_canon.proofs.Steps.{bind-ok, bind-err}
@@ -18,7 +19,9 @@ use Rattle.up_machine.specs.declared.answer.Answer.{Answer}
 use Rattle.up_machine.specs.declared.answer.Answer.TheVariants.{Reply as Replied, Refused}
 use Rattle.up_machine.specs.Vehicles.{NewVehicleData, public_fits}
 use Rattle.up_machine.specs.Commands.{is_command}
+use Rattle.sqlite.specs.Held.{Held}
 use Rattle.sqlite.specs.Tree.{Trees}
+use Rattle.sqlite_trees.specs.declared.store.Store.{Ghosts}
 use Rattle.sqlite_trees.specs.View.{doubt}
 use Rattle.up_machine.specs.Laws.{EmptyIsSound}
 use Rattle.up_machine.specs.State.{State, empty_state}
@@ -33,13 +36,14 @@ use Rattle.up_machine.specs.Repeats.{KeptEntry, repeat_in, repeat_of, served_as,
 use Rattle.up_machine.specs.Sound.{IsSound}
 use Rattle.up_machine.specs.RepeatLaws.{ServedStaysSound}
 use Rattle.up_machine.proofs.Fetched.{in_time}
-use Rattle.up_records.specs.Connected.{is_fault, is_store}
-use Rattle.up_records.specs.Reads.{DiskFailed}
+use Rattle.up_records.specs.declared.catalog.Catalog.{Catalog}
+use Rattle.up_records.specs.Connected.{is_fault}
 use Rattle.up_records.specs.Standing.{HasCleanDisk, HoldsState, IfClean, LeavesOnly, ShowsState, Standing, Survives}
 use Rattle.up_records.specs.Senders.{RefusesUnread}
-use Rattle.up_records.specs.Steps.{IsDueOrFails}
+use Rattle.up_desk.specs.declared.carried.Carried.{Carried}
+use Rattle.up_desk.specs.Carrying.{CarriesIn}
 use Rattle.up_desk.specs.Serving.{CarriesOut, IsAnswered, IsBlamed, IsCommit, Leaves, Serves, is_failed, outcome_due, outright, outright_in_time, told}
-use Rattle.up_records.proofs.NeverStore.{NeverStore}
+use Rattle.up_records.proofs.Reading.{survives_same}
 
 -- ---- the moment
 
@@ -51,19 +55,6 @@ in_time_test at h = grind (arith, nat_tests)
 
 too_late : (at : ℕ) → last_command_moment < at → check_moment at ≡ Err MomentOutOfRange
 too_late at h = ap (λ t. refuse_if t MomentOutOfRange) (late_test at h)
-
--- what is refused stays so, unless it is lost
-pub stopped_or_failed : {A B : Type 0} (old new : Standing) (m : Result A Refusal) (f : A → Result B Refusal) (r : Refusal) → NeverStore m → MatchBool (is_memory r) ⊤ (m ≡ Err r)
-    → MatchBool (is_fault r) (r ≡ Store → DiskFailed old new) (and_then m f ≡ Err r)
-stopped_or_failed {A} {B} old new m f r never h = by_memory (is_memory r) refl h
-  where
-    by_store : (b : Bool) → m ≡ Err r → MatchBool b (r ≡ Store → DiskFailed old new) (and_then m f ≡ Err r)
-    by_store true h = λ store. absurd (never (h ∙ ap (λ (q : Refusal). Err q) store))
-    by_store false h = bind-err m f r h
-
-    by_memory : (a : Bool) → is_memory r ≡ a → MatchBool a ⊤ (m ≡ Err r) → MatchBool (a || is_store r) (r ≡ Store → DiskFailed old new) (and_then m f ≡ Err r)
-    by_memory true is h = λ store. absurd (let both : true ≡ false = sym is ∙ ap is_memory store in cc)
-    by_memory false is h = by_store (is_store r) h
 
 pub late_due : (k : Rules) (s : State) (at : ℕ) (c : Command) → last_command_moment < at → outcome_due k s at c ≡ Err MomentOutOfRange
 unfolding decide_found decide_rotate decide_image decide_refresh decide_fetch decide_vehicle decide_replace decide_open decide_close
@@ -83,18 +74,14 @@ pub delivery_served : (k : Rules) (s : State) (at : ℕ) (body : List ℕ) → a
 unfolding and_then
 delivery_served k s at body h = sym (ap (λ (m : Result ⊤ Refusal). and_then m (λ _. and_then (incoming_in body) (decide_incoming k s at))) (in_time at h))
 
--- what is carried out at the command's moment is the command's
-pub of_command : {k : Rules} {old new : Standing} {r : Result Answer Refusal} {at moment : ℕ} (c d : Command) → moment ≡ at → c ≡ d → CarriesOut k (λ s. outcome_due k s moment d) old new r
-    → CarriesOut k (λ s. outcome_due k s at c) old new r
-of_command {k} {old} {new} {r} {at} {moment} c d same is h =
-    subst (λ (a : ℕ). CarriesOut k (λ s. outcome_due k s a c) old new r) same (subst (λ (e : Command). CarriesOut k (λ s. outcome_due k s moment e) old new r) (sym is) h)
+pub of_carried : {S : Type 0} (g : Ghosts S) {k : Rules} {old new : MutBor (Held S)} {kept left : Option Catalog} {r : Result Carried Refusal} (at : ℕ) (c d : Command) → c ≡ d
+    → CarriesIn g k (λ s. outcome_due k s at d) old new kept left r → CarriesIn g k (λ s. outcome_due k s at c) old new kept left r
+of_carried g {k} {old} {new} {kept} {left} {r} at c d is h = subst (λ (e : Command). CarriesIn g k (λ s. outcome_due k s at e) old new kept left r) (sym is) h
 
-pub of_delivery : {k : Rules} {old new : Standing} {r : Result Answer Refusal} {at moment : ℕ} (c : Command) (body : List ℕ) → at ≤ last_command_moment → moment ≡ at → c ≡ Deliver body
-    → CarriesOut k (λ s. and_then (incoming_in body) (decide_incoming k s moment)) old new r → CarriesOut k (λ s. outcome_due k s at c) old new r
-of_delivery {k} {old} {new} {r} {at} {moment} c body fits same is h = of_command c (Deliver body) same is (record {
-  serves = λ s sound was. subst (λ (o : Result Outcome Refusal). Serves k s old new r o) (delivery_served k s moment body (subst (λ (a : ℕ). a ≤ last_command_moment) (sym same) fits)) (h.serves s sound was);
-  can = h.can;
-})
+-- at the command's moment
+pub at_moment : {k : Rules} {old new : Standing} {r : Result Answer Refusal} {at moment : ℕ} (c : Command) → moment ≡ at → CarriesOut k (λ s. outcome_due k s moment c) old new r
+    → CarriesOut k (λ s. outcome_due k s at c) old new r
+at_moment {k} {old} {new} {r} c same h = subst (λ (a : ℕ). CarriesOut k (λ s. outcome_due k s a c) old new r) same h
 
 -- a vehicle with a public part that doesn't fit is refused
 pub unfit_vehicle : (k : Rules) (s : State) (at : ℕ) (new : NewVehicleData) → at ≤ last_command_moment → list_all (λ e. public_fits k e.public) new.ecus ≡ false
@@ -108,8 +95,52 @@ pub unfit_ecu : (k : Rules) (s : State) (at : ℕ) (new : Replacement) → at �
 unfolding decide_replace
 unfit_ecu k s at new h none = bind-ok _ _ tt (in_time at h) ∙ bind-err _ _ _ (ap (λ b. unless b (BadShape (codes "key"))) none)
 
-pub by_key : (old new : Standing) (r : Refusal) (computed : Result Outcome Refusal) → computed ≡ Err (BadShape (codes "key")) → r ≡ BadShape (codes "key") → IsDueOrFails old new r computed
-by_key old new r computed is same = subst (λ (q : Refusal). IsDueOrFails old new q computed) (sym same) is
+-- and a body that is too large
+too_large : (body : List ℕ) → nat_lt largest_body (length body) ≡ true → incoming_in body ≡ Err TooLarge
+unfolding incoming_in value_within
+too_large body h =
+    let long : nat_le (length body) largest_body ≡ false = grind (arith, nat_tests) in
+    bind-err _ _ _ (bind-err _ _ _ (ap (λ b. unless b TooLarge) long))
+
+-- what is refused outright is due, and no fault
+pub outright_due : (k : Rules) (s : State) (at : ℕ) (c : Command) (r : Refusal) → at ≤ last_command_moment → outright_in_time k c ≡ Some r → (outcome_due k s at c ≡ Err r) × (is_fault r ≡ false)
+outright_due k s at (Deliver body) r fits h = by_test (nat_lt largest_body (length body)) refl h
+  where
+    by_test : (t : Bool) → nat_lt largest_body (length body) ≡ t → (if t then Some TooLarge else None) ≡ Some r → (outcome_due k s at (Deliver body) ≡ Err r) × (is_fault r ≡ false)
+    by_test true is h =
+        let same : TooLarge ≡ r = cc in
+        subst (λ q. (outcome_due k s at (Deliver body) ≡ Err q) × (is_fault q ≡ false)) same (bind-ok _ _ tt (in_time at fits) ∙ bind-err _ _ _ (too_large body is), refl)
+    by_test false is h = cc
+outright_due k s at (AddVehicle new) r fits h = by_test (list_all (λ e. public_fits k e.public) new.ecus) refl h
+  where
+    by_test : (t : Bool) → list_all (λ e. public_fits k e.public) new.ecus ≡ t → (if t then None else Some (BadShape (codes "key"))) ≡ Some r → (outcome_due k s at (AddVehicle new) ≡ Err r) × (is_fault r ≡ false)
+    by_test true is h = cc
+    by_test false is h =
+        let same : BadShape (codes "key") ≡ r = cc in
+        subst (λ q. (outcome_due k s at (AddVehicle new) ≡ Err q) × (is_fault q ≡ false)) same (unfit_vehicle k s at new fits is, refl)
+outright_due k s at (ReplaceEcu new) r fits h = by_test (public_fits k new.ecu.public) refl h
+  where
+    by_test : (t : Bool) → public_fits k new.ecu.public ≡ t → (if t then None else Some (BadShape (codes "key"))) ≡ Some r → (outcome_due k s at (ReplaceEcu new) ≡ Err r) × (is_fault r ≡ false)
+    by_test true is h = cc
+    by_test false is h =
+        let same : BadShape (codes "key") ≡ r = cc in
+        subst (λ q. (outcome_due k s at (ReplaceEcu new) ≡ Err q) × (is_fault q ≡ false)) same (unfit_ecu k s at new fits is, refl)
+outright_due k s at (Found keys) r fits h = cc
+outright_due k s at (Rotate keys) r fits h = cc
+outright_due k s at (AddImage image) r fits h = cc
+outright_due k s at (Refresh version) r fits h = cc
+outright_due k s at (OpenCampaign campaign) r fits h = cc
+outright_due k s at (CloseCampaign name) r fits h = cc
+outright_due k s at (Fetch repository name) r fits h = cc
+
+-- what is refused with nothing asked of the connection
+pub refused_unread : {k : Rules} {s : State} (d : Standing) {r : Refusal} {computed : Result Outcome Refusal} → IfClean (ShowsState k s) d → computed ≡ Err r → is_fault r ≡ false → Serves k s d d (Err r) computed
+refused_unread {k} {s} d {r} {computed} was is fault = record {
+  leaves = λ clean. (was clean, subst (λ b. MatchBool b ⊤ (computed ≡ Err r)) (sym fault) is);
+  crash = survives_same (HoldsState k (outcome_of s computed).next) d.connection;
+  durable = λ commit. absurd commit;
+  blame = λ clean sound store. absurd (let no : true ≡ false = sym (ap is_fault store) ∙ fault in cc);
+}
 
 -- ---- repeats
 
@@ -223,39 +254,8 @@ above : (n m : ℕ) → nat_lt n m ≡ true → n < m
 above n m h = grind (arith, nat_tests)
 
 -- a moment in range refuses nothing
-in_time_outright : (k : Rules) (at : ℕ) (c : Command) (P : Refusal → Type 0) → at ≤ last_command_moment → IfSome (outright_in_time k c) P → IfSome (outright k at c) P
+pub in_time_outright : (k : Rules) (at : ℕ) (c : Command) (P : Refusal → Type 0) → at ≤ last_command_moment → IfSome (outright_in_time k c) P → IfSome (outright k at c) P
 in_time_outright k at c P h refused = subst (λ t. IfSome (if t then Some MomentOutOfRange else outright_in_time k c) P) (sym (in_time_test at h)) refused
-
-pub key_outright : (k : Rules) (at : ℕ) (new : NewVehicleData) (c : Command) (P : Refusal → Type 0) → at ≤ last_command_moment → c ≡ AddVehicle new
-    → (list_all (λ e. public_fits k e.public) new.ecus ≡ false → P (BadShape (codes "key"))) → IfSome (outright k at c) P
-key_outright k at new c P fits is refused =
-    in_time_outright k at c P fits (subst (λ (d : Command). IfSome (outright_in_time k d) P) (sym is) (by_test (list_all (λ e. public_fits k e.public) new.ecus) refl))
-  where
-    by_test : (t : Bool) → list_all (λ e. public_fits k e.public) new.ecus ≡ t → IfSome (if t then None else Some (BadShape (codes "key"))) P
-    by_test true is = tt
-    by_test false is = refused is
-
-pub ecu_outright : (k : Rules) (at : ℕ) (new : Replacement) (c : Command) (P : Refusal → Type 0) → at ≤ last_command_moment → c ≡ ReplaceEcu new
-    → (public_fits k new.ecu.public ≡ false → P (BadShape (codes "key"))) → IfSome (outright k at c) P
-ecu_outright k at new c P fits is refused =
-    in_time_outright k at c P fits (subst (λ (d : Command). IfSome (outright_in_time k d) P) (sym is) (by_test (public_fits k new.ecu.public) refl))
-  where
-    by_test : (t : Bool) → public_fits k new.ecu.public ≡ t → IfSome (if t then None else Some (BadShape (codes "key"))) P
-    by_test true is = tt
-    by_test false is = refused is
-
-pub large_outright : (k : Rules) (at : ℕ) (body : List ℕ) (c : Command) (P : Refusal → Type 0) → at ≤ last_command_moment → c ≡ Deliver body
-    → (largest_body < length body → P TooLarge) → IfSome (outright k at c) P
-large_outright k at body c P fits is refused =
-    in_time_outright k at c P fits (subst (λ (d : Command). IfSome (outright_in_time k d) P) (sym is) (by_test (nat_lt largest_body (length body)) refl))
-  where
-    by_test : (t : Bool) → nat_lt largest_body (length body) ≡ t → IfSome (if t then Some TooLarge else None) P
-    by_test true is = refused (above largest_body (length body) is)
-    by_test false is = tt
-
--- a command that isn't refused so
-pub none_outright : (k : Rules) (at : ℕ) (c d : Command) (P : Refusal → Type 0) → at ≤ last_command_moment → c ≡ d → outright_in_time k d ≡ None → IfSome (outright k at c) P
-none_outright k at c d P fits is none = in_time_outright k at c P fits (subst (λ (e : Command). IfSome (outright_in_time k e) P) (sym is) (subst (λ r. IfSome r P) (sym none) tt))
 
 pub late_outright : (k : Rules) (at : ℕ) (c : Command) (P : Refusal → Type 0) → last_command_moment < at → P MomentOutOfRange → IfSome (outright k at c) P
 late_outright k at c P h is = subst (λ t. IfSome (if t then Some MomentOutOfRange else outright_in_time k c) P) (sym (late_test at h)) is

@@ -1,5 +1,6 @@
 pub mod Gathered
 pub mod Serving
+pub mod Carrying
 pub mod Deciding
 pub mod Desks
 pub mod Calls

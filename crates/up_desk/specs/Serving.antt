@@ -22,9 +22,7 @@ use Rattle.up_machine.specs.declared.answer.Answer.TheVariants.{Done, Already, R
 use Rattle.up_machine.specs.declared.answer.Reply.{Reply}
 use Rattle.up_machine.specs.State.{State}
 use Rattle.up_machine.specs.Deciding.{Outcome, check_moment}
-use Rattle.up_machine.specs.Decisions.{decide_incoming, GivesDelivered}
-use Rattle.up_machine.specs.declared.decision.AcceptedRows.{AcceptedRows}
-use Rattle.up_machine.specs.declared.decision.Delivered.TheVariants.{Accepted}
+use Rattle.up_machine.specs.Decisions.{decide_incoming}
 use Rattle.up_machine.specs.Machine.{decide, outcome_of}
 use Rattle.up_machine.specs.Replies.{kept_reply}
 use Rattle.up_machine.specs.Sound.{IsSound}
@@ -120,12 +118,6 @@ pub record CarriesOut (k : Rules) (rule : State → Result Outcome Refusal) (old
 
 abbrev pub Carries : {D : Type 0} → Ghosts D → Rules → (State → Result Outcome Refusal) → Stored D → Stored D → Result Answer Refusal → Type 0
 Carries g k rule old new result = CarriesOut k rule (state g old) (state g new) result
-
--- the rows of a manifest that is accepted are written
-pub record Accepts (k : Rules) (rows : AcceptedRows) (old new : Standing) (result : Result Answer Refusal) : Type 0 where
-  pub serves : (s : State) (name : Name) (computed : Result Outcome Refusal) → IsSound k s → IfClean (ShowsState k s) old
-      → (HasCleanDisk old → GivesDelivered k s name (Ok (Accepted rows)) computed) → Serves k s old new result computed
-  pub can : CanUse k old → CanUse k new
 
 -- the answer, where it was written
 abbrev pub answer_written : Answer → Result ⊤ StoreFault → Result Answer Refusal

@@ -1,139 +1,125 @@
 //! Campaigns.
-ghost use Rattle.std.specs.Prelude.{◌≡◌, is_some, map, option_copied};
+ghost use Rattle.std.specs.Prelude.{◌≡◌, map};
 ghost use Rattle.std.specs.FinMap as table;
 ghost use Rattle.up_sign.specs.Schemes.{Rules};
 ghost use Rattle.up_machine.specs.Inventory.{decide_open as decide_open_in, decide_close as decide_close_in};
 ghost use Rattle.up_machine.specs.Decisions.{named_in};
-ghost use Rattle.up_machine.specs.Rows.{founding_row};
+ghost use Rattle.up_desk.specs.Carrying.{CarriesIn};
 ghost use Rattle.up_desk.specs.Deciding.{DecidesClose, DecidesOpen};
-ghost use Rattle.up_desk.specs.Serving.{Carries};
-ghost use Rattle.up_records.specs.Reads.{FindsSuch};
-ghost use Rattle.std.specs.Prelude.{⊤};
+ghost use Rattle.up_desk.specs.Gathered.{AreOpeningRows};
+ghost use Rattle.up_records.specs.Sessions.{FindsIn};
+ghost use Rattle.up_tables.specs.Statements.{IsStep, WhereInside};
 
+use crate::carried::{Carried, put_of};
 use crate::command_moment::CommandMoment;
-use crate::faults::done_of;
 use crate::images::images_of;
-use sqlite::Alter;
+use sqlite::{Alter, Transaction};
 use std::alloc::Global;
 use up_canon::ident::Ident;
 use up_canon::refusal::Refusal;
+use up_canon::table::Table;
 use up_machine::answer::Answer;
 use up_machine::decide_campaign::{decide_close, decide_open};
 use up_machine::decision::Decision;
 use up_plan::campaign::{Campaign, Reach};
+use up_plan::image::Image;
+use up_records::catalog::{Catalog, forget};
 use up_records::faults::refusal_of;
-use up_records::records::Records;
+use up_records::session::is_known;
+use up_rows::laws::campaigns_are_written;
+use up_store::campaigns::{find_campaign, put_campaign, put_closed};
+use up_store::roots::find_whether_founded;
 use up_store::store::StoreFault;
+
+/// The rows that the rule of opening a campaign reads.
+#[derive(Drop)]
+pub struct OpeningRows {
+    pub founded: bool,
+    pub old: Option<Campaign>,
+    pub known: Vec<bool>,
+    pub images: Table<Image>,
+}
 
 /// Opens a campaign.
 pub fn open<D: Alter>(
-    records: &mut Records<D>,
+    tx: &mut Transaction<'_, D>,
+    catalog: &mut Option<Catalog>,
     alloc: Global,
     at: CommandMoment,
     campaign: &Campaign,
-) -> Result<Answer, Refusal>
-    ensures { (k : Rules) → Carries D.Store k (λ s. decide_open_in s at campaign.now) records.old records.new result }
+) -> Result<Carried, Refusal>
+    ensures carries { (k : Rules) → CarriesIn D.Store k (λ s. decide_open_in s at campaign.now)
+        tx.old.conn tx.new.conn catalog.old catalog.new result }
+    ensures step { WhereInside D.Store tx.old.conn (IsStep D.Store tx.old.conn tx.new.conn) }
 {
-    match decide_opening(records, alloc, at, campaign) {
-        Ok(Decision::Already) => Ok(Answer::Already),
-        Ok(Decision::New(row)) => done_of(records.write_campaign(alloc, &row)),
+    campaigns_are_written();
+    match decide_opening(tx, alloc, at, campaign) {
+        Ok(Decision::Already) => Ok(Carried::Unchanged(Answer::Already)),
+        Ok(Decision::New(row)) => {
+            forget(catalog); // its campaigns lack the new one
+            put_of(Answer::Done, put_campaign(tx, alloc, &row))
+        }
         Err(refusal) => Err(refusal),
     }
 }
 
-/// Decides on opening a campaign, over rows that are read one after another.
+/// Decides on opening a campaign, over the rows that are read.
 fn decide_opening<D: Alter>(
-    records: &mut Records<D>,
+    tx: &mut Transaction<'_, D>,
     alloc: Global,
     at: CommandMoment,
     campaign: &Campaign,
 ) -> Result<Decision<Campaign>, Refusal>
-    ensures { (k : Rules) → DecidesOpen D.Store k at campaign.now (λ s. ⊤) records.old records.new result }
+    ensures decided { (k : Rules) → DecidesOpen D.Store k at campaign.now tx.old.conn tx.new.conn result }
+    ensures step { WhereInside D.Store tx.old.conn (IsStep D.Store tx.old.conn tx.new.conn) }
 {
-    match records.is_founded(alloc) {
-        Ok(founded) => decide_opening_founded(records, alloc, at, campaign, founded),
-        Err(fault) => Err(refusal_of(fault)),
-    }
-}
-
-/// Decides on it once it is known whether the repositories are founded.
-fn decide_opening_founded<D: Alter>(
-    records: &mut Records<D>,
-    alloc: Global,
-    at: CommandMoment,
-    campaign: &Campaign,
-    founded: bool,
-) -> Result<Decision<Campaign>, Refusal>
-    ensures { (k : Rules)
-        → DecidesOpen D.Store k at campaign.now (λ s. founded ≡ is_some (founding_row s))
-        records.old records.new result }
-{
-    match records.campaign(alloc, &campaign.name) {
-        Ok(old) => decide_opening_named(records, alloc, at, campaign, founded, old.as_ref()),
-        Err(fault) => Err(refusal_of(fault)),
-    }
-}
-
-/// Decides on it once the campaign of that name is known.
-fn decide_opening_named<D: Alter>(
-    records: &mut Records<D>,
-    alloc: Global,
-    at: CommandMoment,
-    campaign: &Campaign,
-    founded: bool,
-    old: Option<&Campaign>,
-) -> Result<Decision<Campaign>, Refusal>
-    ensures { (k : Rules) → DecidesOpen D.Store k at campaign.now (λ s. (founded ≡ is_some (founding_row s))
-        × (option_copied old.entry ≡ table.get s.campaigns campaign.now.name)) records.old records.new result }
-{
-    match known_vehicles(records, alloc, &campaign.reach) {
-        Ok(known) => decide_opening_known(
-            records,
+    match read_opening(tx, alloc, campaign) {
+        Ok(rows) => decide_open(
             alloc,
-            at,
+            at.moment(),
             campaign,
-            founded,
-            old,
-            known.as_slice(),
+            rows.founded,
+            rows.old.as_ref(),
+            rows.known.as_slice(),
+            &rows.images,
         ),
         Err(fault) => Err(refusal_of(fault)),
     }
 }
 
-/// Decides on it once its vehicles are known, with the images that its items name.
-fn decide_opening_known<D: Alter>(
-    records: &mut Records<D>,
+/// Reads the rows of the rule, in the order in which its refusals need them.
+fn read_opening<D: Alter>(
+    tx: &mut Transaction<'_, D>,
     alloc: Global,
-    at: CommandMoment,
     campaign: &Campaign,
-    founded: bool,
-    old: Option<&Campaign>,
-    known: &[bool],
-) -> Result<Decision<Campaign>, Refusal>
-    ensures { (k : Rules) → DecidesOpen D.Store k at campaign.now (λ s. (founded ≡ is_some (founding_row s))
-        × (option_copied old.entry ≡ table.get s.campaigns campaign.now.name)
-        × (known.now ≡ map (table.contains_key s.vehicles) (named_in campaign.now.reach)))
-        records.old records.new result }
+) -> Result<OpeningRows, StoreFault>
+    ensures { FindsIn D.Store (λ _ s rows. AreOpeningRows s campaign.now rows) tx.old.conn tx.new.conn result }
 {
-    match images_of(records, alloc, campaign.items.as_slice()) {
-        Ok(images) => decide_open(alloc, at.moment(), campaign, founded, old, known, &images),
-        Err(fault) => Err(refusal_of(fault)),
-    }
+    let founded = find_whether_founded(tx, alloc)?;
+    let old = find_campaign(tx, alloc, &campaign.name)?;
+    let known = known_vehicles(tx, alloc, &campaign.reach)?;
+    let images = images_of(tx, alloc, campaign.items.as_slice())?;
+    Ok(OpeningRows {
+        founded,
+        old,
+        known,
+        images,
+    })
 }
 
 /// Marks for each vehicle that a campaign names whether it is in the inventory.
 fn known_vehicles<D: Alter>(
-    records: &mut Records<D>,
+    tx: &mut Transaction<'_, D>,
     alloc: Global,
     reach: &Reach,
 ) -> Result<Vec<bool>, StoreFault>
-    ensures { FindsSuch D.Store (λ s known. known.items ≡ map (table.contains_key s.vehicles) (named_in reach.now))
-        records.old records.new result }
+    ensures { FindsIn D.Store (λ _ s known. known.items ≡ map (table.contains_key s.vehicles) (named_in reach.now))
+        tx.old.conn tx.new.conn result }
 {
     let names = names_in(reach);
     let mut known = Vec::with_capacity(alloc, names.len())?;
     for name in names {
-        match records.is_known(alloc, name) {
+        match is_known(tx, alloc, name) {
             Ok(is_known) => known.push(is_known)?,
             Err(fault) => return Err(fault),
         }
@@ -152,34 +138,42 @@ fn names_in(reach: &Reach) -> &[Ident]
 
 /// Closes the campaign of this name.
 pub fn close<D: Alter>(
-    records: &mut Records<D>,
+    tx: &mut Transaction<'_, D>,
+    catalog: &mut Option<Catalog>,
     alloc: Global,
     at: CommandMoment,
     name: &Ident,
-) -> Result<Answer, Refusal>
-    ensures { (k : Rules) → Carries D.Store k (λ s. decide_close_in s at name.now) records.old records.new result }
+) -> Result<Carried, Refusal>
+    ensures carries { (k : Rules) → CarriesIn D.Store k (λ s. decide_close_in s at name.now)
+        tx.old.conn tx.new.conn catalog.old catalog.new result }
+    ensures step { WhereInside D.Store tx.old.conn (IsStep D.Store tx.old.conn tx.new.conn) }
 {
-    match decide_closing(records, alloc, at, name) {
-        Ok(Decision::Already) => Ok(Answer::Already),
-        Ok(Decision::New(row)) => done_of(records.write_close(&row)),
+    campaigns_are_written();
+    match decide_closing(tx, alloc, at, name) {
+        Ok(Decision::Already) => Ok(Carried::Unchanged(Answer::Already)),
+        Ok(Decision::New(row)) => {
+            forget(catalog); // its campaigns have the closed one
+            put_of(Answer::Done, put_closed(tx, &row))
+        }
         Err(refusal) => Err(refusal),
     }
 }
 
 /// Decides on closing a campaign, over the rows that are read.
 fn decide_closing<D: Alter>(
-    records: &mut Records<D>,
+    tx: &mut Transaction<'_, D>,
     alloc: Global,
     at: CommandMoment,
     name: &Ident,
 ) -> Result<Decision<Campaign>, Refusal>
-    ensures { (k : Rules) → DecidesClose D.Store k at name.now (λ s. ⊤) records.old records.new result }
+    ensures decided { (k : Rules) → DecidesClose D.Store k at name.now tx.old.conn tx.new.conn result }
+    ensures step { WhereInside D.Store tx.old.conn (IsStep D.Store tx.old.conn tx.new.conn) }
 {
-    let founded = match records.is_founded(alloc) {
+    let founded = match find_whether_founded(tx, alloc) {
         Ok(founded) => founded,
         Err(fault) => return Err(refusal_of(fault)),
     };
-    let campaign = match records.campaign(alloc, name) {
+    let campaign = match find_campaign(tx, alloc, name) {
         Ok(campaign) => campaign,
         Err(fault) => return Err(refusal_of(fault)),
     };

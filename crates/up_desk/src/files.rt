@@ -1,16 +1,15 @@
 //! Files of the repositories.
-ghost use Rattle.std.specs.Prelude.{◌≡◌, None};
-ghost use Rattle.up_canon.specs.Names.{Name};
 ghost use Rattle.up_sign.specs.Schemes.{Rules};
-ghost use Rattle.up_roles.specs.declared.repository.Repository.{Repository as RepositoryName};
-ghost use Rattle.up_machine.specs.Files.{file};
 ghost use Rattle.up_machine.specs.Repositories.{decide_fetch as decide_fetch_in};
+ghost use Rattle.up_desk.specs.Carrying.{CarriesIn};
 ghost use Rattle.up_desk.specs.Deciding.{DecidesFile};
-ghost use Rattle.up_desk.specs.Serving.{Carries};
-ghost use Rattle.std.specs.Prelude.{⊤};
+ghost use Rattle.up_records.specs.declared.catalog.Catalog.{Catalog};
+ghost use Rattle.up_tables.specs.Statements.{IsStep, WhereInside};
+ghost use Rattle.std.specs.Prelude.{Option};
 
+use crate::carried::Carried;
 use crate::command_moment::CommandMoment;
-use sqlite::Alter;
+use sqlite::{Alter, Transaction};
 use std::alloc::Global;
 use up_canon::file_name::FileName;
 use up_canon::refusal::Refusal;
@@ -18,57 +17,47 @@ use up_canon::text::Text;
 use up_machine::answer::Answer;
 use up_machine::decide_fetch::decide_fetch;
 use up_records::faults::refusal_of;
-use up_records::records::Records;
 use up_roles::repository::Repository;
 use up_rows::laws::rows_are_found;
+use up_store::roots::{find_file, find_whether_founded};
 
 /// The text of a file.
 pub fn fetch<D: Alter>(
-    records: &mut Records<D>,
+    tx: &mut Transaction<'_, D>,
     alloc: Global,
     at: CommandMoment,
     repository: Repository,
     name: &FileName,
-) -> Result<Answer, Refusal>
-    ensures { (k : Rules)
-        → Carries D.Store k (λ s. decide_fetch_in k s at repository name.now) records.old records.new result }
+) -> Result<Carried, Refusal>
+    ensures carries { (k : Rules) (kept : Option Catalog) → CarriesIn D.Store k
+        (λ s. decide_fetch_in k s at repository name.now) tx.old.conn tx.new.conn kept kept result }
+    ensures step { WhereInside D.Store tx.old.conn (IsStep D.Store tx.old.conn tx.new.conn) }
 {
-    match read_file(records, alloc, at, repository, name) {
-        Ok(text) => Ok(Answer::File(text)),
+    match read_file(tx, alloc, at, repository, name) {
+        Ok(text) => Ok(Carried::Unchanged(Answer::File(text))),
         Err(refusal) => Err(refusal),
     }
 }
 
-/// Decides on the file, over the rows that are read.
+/// Decides on the file, over the rows that are read. Where there is no such file, whether the repositories are founded is read for the
+/// refusal alone.
 fn read_file<D: Alter>(
-    records: &mut Records<D>,
+    tx: &mut Transaction<'_, D>,
     alloc: Global,
     at: CommandMoment,
     repository: Repository,
     name: &FileName,
 ) -> Result<Text, Refusal>
-    ensures { (k : Rules) → DecidesFile D.Store k at repository name.now (λ s. ⊤) records.old records.new result }
+    ensures decided { (k : Rules) → DecidesFile D.Store k at repository name.now tx.old.conn tx.new.conn result }
+    ensures step { WhereInside D.Store tx.old.conn (IsStep D.Store tx.old.conn tx.new.conn) }
 {
     rows_are_found();
-    match records.file(alloc, repository, name) {
+    match find_file(tx, alloc, repository, name) {
         Ok(Some(text)) => decide_fetch(at.moment(), true, Some(text)),
-        Ok(None) => decide_missing(records, alloc, at),
-        Err(fault) => Err(refusal_of(fault)),
-    }
-}
-
-/// Decides where there is no such file: whether the repositories are founded is read for the refusal alone.
-fn decide_missing<D: Alter>(
-    records: &mut Records<D>,
-    alloc: Global,
-    at: CommandMoment,
-) -> Result<Text, Refusal>
-    ensures { (k : Rules) (repository : RepositoryName) (name : Name)
-        → DecidesFile D.Store k at repository name (λ s. None ≡ file k s repository name)
-        records.old records.new result }
-{
-    match records.is_founded(alloc) {
-        Ok(founded) => decide_fetch(at.moment(), founded, None),
+        Ok(None) => match find_whether_founded(tx, alloc) {
+            Ok(founded) => decide_fetch(at.moment(), founded, None),
+            Err(fault) => Err(refusal_of(fault)),
+        },
         Err(fault) => Err(refusal_of(fault)),
     }
 }

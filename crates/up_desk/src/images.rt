@@ -3,68 +3,49 @@ ghost use Rattle.std.specs.Prelude.{◌≡◌, IfErr, IfOk, OnOk};
 ghost use Rattle.std.specs.FinMap as table;
 ghost use Rattle.up_tables.specs.declared.values.StoreFault.TheVariants as faults;
 ghost use Rattle.up_desk.specs.Gathered.{IsPart, with_found, gathered, item_files};
-ghost use Rattle.up_records.specs.Reads.{Finds, FindsSuch};
+ghost use Rattle.up_records.specs.Sessions.{FindsIn};
 
-use sqlite::Alter;
+use sqlite::{Alter, Transaction};
 use std::alloc::{AllocError, Global};
 use up_canon::file_name::FileName;
 use up_canon::table::Table;
 use up_canon::text::Text;
 use up_plan::campaign::Item;
 use up_plan::image::Image;
-use up_records::records::Records;
+use up_store::images::find_image;
 use up_store::store::StoreFault;
 
 /// The images of these items' files, each under its filename.
 pub fn images_of<D: Alter>(
-    records: &mut Records<D>,
+    tx: &mut Transaction<'_, D>,
     alloc: Global,
     items: &[Item],
 ) -> Result<Table<Image>, StoreFault>
-    ensures { Finds D.Store (λ k s. gathered s.images (item_files items.now) table.empty)
-        records.old records.new result }
+    ensures { FindsIn D.Store (λ _ s found. found ≡ gathered s.images (item_files items.now) table.empty)
+        tx.old.conn tx.new.conn result }
 {
     let mut images = Table::new(alloc);
-    match add_items(records, alloc, &mut images, items) {
-        Ok(()) => Ok(images),
-        Err(fault) => Err(fault),
-    }
-}
-
-fn add_items<D: Alter>(
-    records: &mut Records<D>,
-    alloc: Global,
-    images: &mut Table<Image>,
-    items: &[Item],
-) -> Result<(), StoreFault>
-    ensures { FindsSuch D.Store
-        (λ s _. IsPart s.images images.old → images.new ≡ gathered s.images (item_files items.now) images.old)
-        records.old records.new result }
-{
     for item in items {
-        match add_file(records, alloc, images, &item.file) {
-            Ok(()) => {}
-            Err(fault) => return Err(fault),
-        }
+        add_file(tx, alloc, &mut images, &item.file)?;
     }
-    Ok(())
+    Ok(images)
 }
 
 /// Puts the image of this filename among the others, where one is registered. One that is there is not read again.
 fn add_file<D: Alter>(
-    records: &mut Records<D>,
+    tx: &mut Transaction<'_, D>,
     alloc: Global,
     images: &mut Table<Image>,
     file: &FileName,
 ) -> Result<(), StoreFault>
-    ensures { FindsSuch D.Store
-        (λ s _. IsPart s.images images.old → images.new ≡ with_found s.images images.old file.now)
-        records.old records.new result }
+    ensures { FindsIn D.Store
+        (λ _ s _. IsPart s.images images.old → images.new ≡ with_found s.images images.old file.now)
+        tx.old.conn tx.new.conn result }
 {
     if images.contains(file.text()) {
         return Ok(());
     }
-    match records.image(alloc, file) {
+    match find_image(tx, alloc, file) {
         Ok(Some(image)) => put_image(alloc, images, file, image),
         Ok(None) => Ok(()),
         Err(fault) => Err(fault),

@@ -2,6 +2,7 @@
 #![tactic(auto)]
 
 mod campaigns;
+pub mod carried;
 mod command_moment;
 mod deliveries;
 pub mod desk;

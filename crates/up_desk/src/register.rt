@@ -1,20 +1,17 @@
 //! The register of images.
-ghost use Rattle.std.specs.Prelude.{◌≡◌, IfSome, IsTrue, None, option_copied};
-ghost use Rattle.std.specs.FinMap as table;
+ghost use Rattle.std.specs.Prelude.{◌≡◌};
 ghost use Rattle.up_machine.specs.Repositories.{decide_image as decide_image_in};
 ghost use Rattle.up_machine.specs.Repositories.{decide_refresh as decide_refresh_in};
 ghost use Rattle.up_machine.specs.Decisions.{HasRegisterRows};
 ghost use Rattle.up_machine.specs.Due.{CanMakeFiles, HasFounding};
-ghost use Rattle.up_machine.specs.Rows.{founding_row};
-ghost use Rattle.up_machine.specs.RowsFit.{founding_fits};
-ghost use Rattle.up_desk.specs.Deciding.{DecidesImage, DecidesNewImage, DecidesRefresh, Makes};
-ghost use Rattle.up_desk.specs.Serving.{Carries};
-ghost use Rattle.up_records.specs.Standing.{state};
-ghost use Rattle.std.specs.Prelude.{⊤};
+ghost use Rattle.up_machine.specs.State.{State};
+ghost use Rattle.up_desk.specs.Carrying.{CarriesIn};
+ghost use Rattle.up_desk.specs.Deciding.{DecidesImage, DecidesRefresh};
+ghost use Rattle.up_records.specs.Sessions.{FindsUnder};
 
+use crate::carried::{Carried, put_of};
 use crate::command_moment::CommandMoment;
-use crate::faults::done_of;
-use sqlite::Alter;
+use sqlite::{Alter, Transaction};
 use std::alloc::Global;
 use up_canon::count::Count;
 use up_canon::refusal::Refusal;
@@ -24,170 +21,128 @@ use up_machine::decision::{Decision, RegisterRows};
 use up_machine::new_files::register_rows;
 use up_machine::rows::Founding;
 use up_plan::image::Image;
+use up_records::catalog::{Catalog, forget};
 use up_records::faults::refusal_of;
-use up_records::records::Records;
+use up_records::session::read_founding;
+use up_rows::laws::images_are_added;
 use up_sign::scheme::Scheme;
+use up_store::images::{find_image, find_images, put_image};
+use up_store::roots::put_register;
+use up_store::store::StoreFault;
 
 /// Registers an image.
 pub fn add_image<K: Scheme, D: Alter>(
-    records: &mut Records<D>,
+    tx: &mut Transaction<'_, D>,
+    catalog: &mut Option<Catalog>,
     alloc: Global,
     scheme: &K,
     at: CommandMoment,
     image: &Image,
-) -> Result<Answer, Refusal>
-    ensures { Carries D.Store (K.rules scheme.now) (λ s. decide_image_in s at image.now)
-        records.old records.new result }
+) -> Result<Carried, Refusal>
+    ensures { CarriesIn D.Store (K.rules scheme.now) (λ s. decide_image_in s at image.now)
+        tx.old.conn tx.new.conn catalog.old catalog.new result }
 {
-    match decide_adding(records, alloc, scheme, at, image) {
-        Ok(Decision::Already) => Ok(Answer::Already),
-        Ok(Decision::New(rows)) => done_of(records.write_image(alloc, image, &rows)),
+    images_are_added();
+    match decide_adding(tx, alloc, scheme, at, image) {
+        Ok(Decision::Already) => Ok(Carried::Unchanged(Answer::Already)),
+        Ok(Decision::New(rows)) => {
+            forget(catalog); // its images lack the new one
+            put_of(Answer::Done, put_image(tx, alloc, image, &rows))
+        }
         Err(refusal) => Err(refusal),
     }
 }
 
-/// Decides on an image, over rows that are read one after another.
+/// Decides on an image, over the rows that are read: all images only where its filename is new.
 fn decide_adding<K: Scheme, D: Alter>(
-    records: &mut Records<D>,
+    tx: &mut Transaction<'_, D>,
     alloc: Global,
     scheme: &K,
     at: CommandMoment,
     image: &Image,
 ) -> Result<Decision<RegisterRows>, Refusal>
-    ensures { DecidesImage D.Store (K.rules scheme.now) at image.now (λ s. ⊤) records.old records.new result }
+    ensures { DecidesImage D.Store (K.rules scheme.now) at image.now tx.old.conn tx.new.conn result }
 {
-    match records.founding(alloc, scheme) {
-        Ok(founding) => decide_adding_founded(records, alloc, scheme, at, image, founding),
-        Err(fault) => Err(refusal_of(fault)),
-    }
-}
-
-/// Decides on it once the founding's row is known.
-fn decide_adding_founded<K: Scheme, D: Alter>(
-    records: &mut Records<D>,
-    alloc: Global,
-    scheme: &K,
-    at: CommandMoment,
-    image: &Image,
-    founding: Option<Founding>,
-) -> Result<Decision<RegisterRows>, Refusal>
-    requires keys { IfSome founding (λ f. IsTrue (founding_fits (K.rules scheme.now) f)) }
-    ensures { DecidesImage D.Store (K.rules scheme.now) at image.now (λ s. founding ≡ founding_row s)
-        records.old records.new result }
-{
-    match records.image(alloc, &image.file) {
-        Ok(old) => decide_adding_named(records, alloc, scheme, at, image, founding, old.as_ref()),
-        Err(fault) => Err(refusal_of(fault)),
-    }
-}
-
-/// Decides on it once the image of that filename is known.
-fn decide_adding_named<K: Scheme, D: Alter>(
-    records: &mut Records<D>,
-    alloc: Global,
-    scheme: &K,
-    at: CommandMoment,
-    image: &Image,
-    founding: Option<Founding>,
-    old: Option<&Image>,
-) -> Result<Decision<RegisterRows>, Refusal>
-    requires keys { IfSome founding (λ f. IsTrue (founding_fits (K.rules scheme.now) f)) }
-    ensures { DecidesImage D.Store (K.rules scheme.now) at image.now (λ s. (founding ≡ founding_row s)
-        × (option_copied old.entry ≡ table.get s.images image.now.file)) records.old records.new result }
-{
-    match decide_image(at.moment(), image, founding, old) {
-        Ok(Decision::Already) => Ok(Decision::Already),
-        Ok(Decision::New(founding)) => Ok(Decision::New(decide_adding_new(
-            records, alloc, scheme, at, image, founding,
+    let founding = match read_founding(tx, alloc, scheme) {
+        Ok(founding) => founding,
+        Err(fault) => return Err(refusal_of(fault)),
+    };
+    let old = match find_image(tx, alloc, &image.file) {
+        Ok(old) => old,
+        Err(fault) => return Err(refusal_of(fault)),
+    };
+    let at = at.moment();
+    let founding = match decide_image(at, image, founding, old.as_ref()) {
+        Ok(Decision::Already) => return Ok(Decision::Already),
+        Ok(Decision::New(founding)) => founding,
+        Err(refusal) => return Err(refusal),
+    };
+    match find_images(tx, alloc) {
+        Ok(images) => Ok(Decision::New(decide_new_image(
+            alloc, scheme, at, image, founding, &images,
         )?)),
-        Err(refusal) => Err(refusal),
-    }
-}
-
-/// Decides on an image whose filename is new, over all images, which are read here.
-fn decide_adding_new<K: Scheme, D: Alter>(
-    records: &mut Records<D>,
-    alloc: Global,
-    scheme: &K,
-    at: CommandMoment,
-    image: &Image,
-    founding: Founding,
-) -> Result<RegisterRows, Refusal>
-    requires keys { IsTrue (founding_fits (K.rules scheme.now) founding) }
-    ensures { DecidesNewImage D.Store (K.rules scheme.now) at image.now (λ s. HasFounding s founding
-        × (table.get s.images image.now.file ≡ None)) records.old records.new result }
-{
-    match records.images(alloc) {
-        Ok(images) => decide_new_image(alloc, scheme, at.moment(), image, founding, &images),
         Err(fault) => Err(refusal_of(fault)),
     }
 }
 
 /// Makes the image repository's files anew, with this version.
 pub fn refresh<K: Scheme, D: Alter>(
-    records: &mut Records<D>,
+    tx: &mut Transaction<'_, D>,
+    catalog: &mut Option<Catalog>,
     alloc: Global,
     scheme: &K,
     at: CommandMoment,
     version: Count,
-) -> Result<Answer, Refusal>
-    ensures { Carries D.Store (K.rules scheme.now) (λ s. decide_refresh_in s at version)
-        records.old records.new result }
+) -> Result<Carried, Refusal>
+    ensures { CarriesIn D.Store (K.rules scheme.now) (λ s. decide_refresh_in s at version)
+        tx.old.conn tx.new.conn catalog.old catalog.new result }
 {
-    match decide_refreshing(records, alloc, scheme, at, version) {
-        Ok(rows) => done_of(records.write_refresh(&rows)),
+    images_are_added();
+    match decide_refreshing(tx, alloc, scheme, at, version) {
+        Ok(rows) => {
+            forget(catalog); // its numbers are those before the refresh
+            put_of(Answer::Done, put_register(tx, &rows))
+        }
         Err(refusal) => Err(refusal),
     }
 }
 
 /// Decides on new files, and makes their rows.
 fn decide_refreshing<K: Scheme, D: Alter>(
-    records: &mut Records<D>,
+    tx: &mut Transaction<'_, D>,
     alloc: Global,
     scheme: &K,
     at: CommandMoment,
     version: Count,
 ) -> Result<RegisterRows, Refusal>
-    ensures { DecidesRefresh D.Store (K.rules scheme.now) at version (λ s. ⊤) records.old records.new result }
+    ensures { DecidesRefresh D.Store (K.rules scheme.now) at version tx.old.conn tx.new.conn result }
 {
-    match records.founding(alloc, scheme) {
-        Ok(founding) => decide_refreshing_founded(records, alloc, scheme, at, version, founding),
-        Err(fault) => Err(refusal_of(fault)),
-    }
-}
-
-/// Decides on it once the founding's row is known.
-fn decide_refreshing_founded<K: Scheme, D: Alter>(
-    records: &mut Records<D>,
-    alloc: Global,
-    scheme: &K,
-    at: CommandMoment,
-    version: Count,
-    founding: Option<Founding>,
-) -> Result<RegisterRows, Refusal>
-    requires keys { IfSome founding (λ f. IsTrue (founding_fits (K.rules scheme.now) f)) }
-    ensures { DecidesRefresh D.Store (K.rules scheme.now) at version (λ s. founding ≡ founding_row s)
-        records.old records.new result }
-{
+    let founding = match read_founding(tx, alloc, scheme) {
+        Ok(founding) => founding,
+        Err(fault) => return Err(refusal_of(fault)),
+    };
     match decide_refresh(at.moment(), version, founding) {
-        Ok(founding) => make_register_rows(records, alloc, scheme, founding),
+        Ok(founding) => match make_register_rows(tx, alloc, scheme, founding) {
+            Ok(rows) => Ok(rows),
+            Err(fault) => Err(refusal_of(fault)),
+        },
         Err(refusal) => Err(refusal),
     }
 }
 
 /// Makes the rows of new files that are due, with all images, which are read here, after every refusal.
 fn make_register_rows<K: Scheme, D: Alter>(
-    records: &mut Records<D>,
+    tx: &mut Transaction<'_, D>,
     alloc: Global,
     scheme: &K,
     founding: Founding,
-) -> Result<RegisterRows, Refusal>
+) -> Result<RegisterRows, StoreFault>
     requires { CanMakeFiles (K.rules scheme.now) founding }
-    ensures { Makes (K.rules scheme.now) (λ s. HasFounding s founding) (HasRegisterRows (K.rules scheme.now))
-        (state D.Store records.old) (state D.Store records.new) result }
+    ensures { FindsUnder D.Store (K.rules scheme.now) (λ s rows. (next : State) → HasFounding next founding
+        → next.images ≡ s.images → HasRegisterRows (K.rules scheme.now) next rows) tx.old.conn tx.new.conn result }
 {
-    match records.images(alloc) {
+    match find_images(tx, alloc) {
         Ok(images) => Ok(register_rows(alloc, scheme, founding, &images)?),
-        Err(fault) => Err(refusal_of(fault)),
+        Err(fault) => Err(fault),
     }
 }

@@ -1,123 +1,85 @@
 //! ECUs that replace others.
-ghost use Rattle.std.specs.Prelude.{◌≡◌, is_some, option_copied, codes, false};
-ghost use Rattle.up_canon.specs.declared.refusal.Refusal.TheVariants.{BadShape};
+ghost use Rattle.std.specs.Prelude.{◌≡◌};
 ghost use Rattle.up_machine.specs.Vehicles.{public_fits as public_fits_in};
 ghost use Rattle.up_machine.specs.Inventory.{decide_replace as decide_replace_in};
-ghost use Rattle.up_machine.specs.Rows.{founding_row, vehicle_rows};
+ghost use Rattle.up_desk.specs.Carrying.{CarriesIn};
 ghost use Rattle.up_desk.specs.Deciding.{DecidesReplace};
-ghost use Rattle.up_desk.specs.Serving.{Carries};
-ghost use Rattle.up_records.specs.Senders.{RefusesUnread};
-ghost use Rattle.std.specs.Prelude.{⊤};
 
+use crate::carried::{Carried, put_of};
 use crate::command_moment::CommandMoment;
-use crate::faults::done_of;
-use sqlite::Alter;
+use sqlite::{Alter, Transaction};
 use std::alloc::Global;
 use up_canon::refusal::Refusal;
 use up_machine::answer::Answer;
 use up_machine::decide_replace::decide_replace;
 use up_machine::public_keys::public_fits;
-use up_machine::rows::VehicleRows;
 use up_machine::vehicle::Replacement;
+use up_records::catalog::{Catalog, forget};
 use up_records::faults::refusal_of;
-use up_records::records::Records;
+use up_records::session::{is_taken, read_vehicle};
+use up_rows::laws::{ecus_are_replaced, rows_are_found};
 use up_sign::scheme::Scheme;
+use up_store::replaced::put_replaced;
+use up_store::roots::find_whether_founded;
 
-/// Replaces an ECU. The new one's key is tested before anything is read.
-pub fn replace_ecu<K: Scheme, D: Alter>(
-    records: &mut Records<D>,
-    alloc: Global,
-    scheme: &K,
-    at: CommandMoment,
-    new: &Replacement,
-) -> Result<Answer, Refusal>
-    ensures key { public_fits_in (K.rules scheme.now) new.now.ecu.public ≡ false
-        → RefusesUnread records.old records.new result (BadShape (codes "key")) }
-    ensures carries { Carries D.Store (K.rules scheme.now) (λ s. decide_replace_in (K.rules scheme.now) s at new.now)
-        records.old records.new result }
+/// Whether the key of the ECU that replaces another fits.
+pub fn key_fits<K: Scheme>(scheme: &K, new: &Replacement) -> bool
+    ensures { result ≡ public_fits_in (K.rules scheme.now) new.now.ecu.public }
 {
-    let _ = at.moment();
-    if public_fits(scheme, new.ecu.public.as_slice()) {
-        replace_fitting(records, alloc, scheme, at, new)
-    } else {
-        Err(Refusal::from("key"))
-    }
+    public_fits(scheme, new.ecu.public.as_slice())
 }
 
-/// Replaces an ECU by one whose key fits.
-fn replace_fitting<K: Scheme, D: Alter>(
-    records: &mut Records<D>,
+/// Replaces an ECU.
+pub fn replace_ecu<K: Scheme, D: Alter>(
+    tx: &mut Transaction<'_, D>,
+    catalog: &mut Option<Catalog>,
     alloc: Global,
     scheme: &K,
     at: CommandMoment,
     new: &Replacement,
-) -> Result<Answer, Refusal>
-    ensures { Carries D.Store (K.rules scheme.now) (λ s. decide_replace_in (K.rules scheme.now) s at new.now)
-        records.old records.new result }
+) -> Result<Carried, Refusal>
+    ensures { CarriesIn D.Store (K.rules scheme.now) (λ s. decide_replace_in (K.rules scheme.now) s at new.now)
+        tx.old.conn tx.new.conn catalog.old catalog.new result }
 {
-    match decide_replacing(records, alloc, scheme, at, new) {
-        Ok(()) => done_of(records.write_replace(new)),
+    rows_are_found();
+    ecus_are_replaced();
+    match decide_replacing(tx, alloc, scheme, at, new) {
+        Ok(()) => {
+            forget(catalog); // the Primary of the vehicle may change
+            put_of(Answer::Done, put_replaced(tx, new))
+        }
         Err(refusal) => Err(refusal),
     }
 }
 
-/// Decides on a replacement, over rows that are read one after another.
+/// Decides on a replacement, over the rows that are read.
 fn decide_replacing<K: Scheme, D: Alter>(
-    records: &mut Records<D>,
+    tx: &mut Transaction<'_, D>,
     alloc: Global,
     scheme: &K,
     at: CommandMoment,
     new: &Replacement,
 ) -> Result<(), Refusal>
-    ensures { DecidesReplace D.Store (K.rules scheme.now) at new.now (λ s. ⊤) records.old records.new result }
+    ensures { DecidesReplace D.Store (K.rules scheme.now) at new.now tx.old.conn tx.new.conn result }
 {
-    match records.is_founded(alloc) {
-        Ok(founded) => decide_replacing_founded(records, alloc, scheme, at, new, founded),
-        Err(fault) => Err(refusal_of(fault)),
-    }
-}
-
-/// Decides on it once it is known whether the repositories are founded.
-fn decide_replacing_founded<K: Scheme, D: Alter>(
-    records: &mut Records<D>,
-    alloc: Global,
-    scheme: &K,
-    at: CommandMoment,
-    new: &Replacement,
-    founded: bool,
-) -> Result<(), Refusal>
-    ensures { DecidesReplace D.Store (K.rules scheme.now) at new.now (λ s. founded ≡ is_some (founding_row s))
-        records.old records.new result }
-{
-    match records.vehicle(alloc, &new.vehicle) {
-        Ok(vehicle) => decide_replacing_in(
-            records,
+    let founded = match find_whether_founded(tx, alloc) {
+        Ok(founded) => founded,
+        Err(fault) => return Err(refusal_of(fault)),
+    };
+    let vehicle = match read_vehicle(tx, alloc, &new.vehicle) {
+        Ok(vehicle) => vehicle,
+        Err(fault) => return Err(refusal_of(fault)),
+    };
+    match is_taken(tx, &new.ecu.ecu) {
+        Ok(taken) => decide_replace(
             alloc,
             scheme,
-            at,
+            at.moment(),
             new,
             founded,
             vehicle.as_ref(),
+            taken,
         ),
-        Err(fault) => Err(refusal_of(fault)),
-    }
-}
-
-/// Decides on it once its vehicle is known, and whether the new identifier is taken.
-fn decide_replacing_in<K: Scheme, D: Alter>(
-    records: &mut Records<D>,
-    alloc: Global,
-    scheme: &K,
-    at: CommandMoment,
-    new: &Replacement,
-    founded: bool,
-    vehicle: Option<&VehicleRows>,
-) -> Result<(), Refusal>
-    ensures { DecidesReplace D.Store (K.rules scheme.now) at new.now (λ s. (founded ≡ is_some (founding_row s))
-        × (option_copied vehicle.entry ≡ vehicle_rows s new.now.vehicle)) records.old records.new result }
-{
-    match records.is_taken(&new.ecu.ecu) {
-        Ok(taken) => decide_replace(alloc, scheme, at.moment(), new, founded, vehicle, taken),
         Err(fault) => Err(refusal_of(fault)),
     }
 }

@@ -7,9 +7,9 @@ use Rattle.hex.proofs.HexLemmas.{length-encode_with}
 use Rattle.up_canon.specs.Names.{is_short_text, is_from_to}
 use Rattle.up_canon.proofs.Printable.{printable-hex}
 use Rattle.up_sign.specs.Schemes.{IsScheme, is_byte}
-use Rattle.up_curve.specs.Signatures.{public_of}
 use Rattle.up_ed25519.specs.Scheme.{ed25519, is_key}
 use Rattle.up_curve.proofs.Signatures.{sized, valid_when_signed}
+use Rattle.up_curve.proofs.Order.{public_is}
 
 parts : (a b : Bool) → (a && b) ≡ true → (a ≡ true) × (b ≡ true)
 parts true true e = (refl, refl)
@@ -34,7 +34,7 @@ pub ed25519_lawful : IsScheme ed25519
 ed25519_lawful = record {
   method = refl;
   shown = shown_fits;
-  public_fits = λ s h. eq-eqb (length (public_of s)) 32 (sized.public_length s);
+  public_fits = λ s h. public_is s;
   tag_length = λ s m h. (omega (arith, sized.signature_length s m), omega (arith, sized.signature_length s m));
   tag_bytes = λ s m h. sized.signature_bytes s m;
   tag_is_valid = λ s m h. valid_when_signed s m;

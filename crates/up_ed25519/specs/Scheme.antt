@@ -3,6 +3,7 @@ use Rattle.std.specs.Prelude.{ℕ, ◌==◌, ◌&&◌, Bool, List, [], length, c
 use Rattle.std.specs.List.{list_all}
 use Rattle.hex.specs.Hex.{encode_lower}
 use Rattle.up_sign.specs.Schemes.{Rules, is_byte}
+use Rattle.up_curve.specs.Keys.{is_public}
 use Rattle.up_curve.specs.Signatures.{public_of, signature_of, is_valid}
 
 -- 32 bytes
@@ -18,7 +19,7 @@ abbrev pub ed25519 : Rules
 ed25519 = record {
   method = codes "ed25519";
   secret_fits = λ s. length s == 32;
-  public_fits = λ p. length p == 32;
+  public_fits = is_public;
   public_of = public_of;
   shown = shown_of;
   tag = signature_of;

@@ -1,21 +1,16 @@
 -- The public key that a Root shows.
 use Rattle.std.proofs.Common.{refl, ap, sym, subst, ◌∙◌}
-use Rattle.std.specs.Prelude.{◌≡◌, ℕ, ◌&&◌, Bool, true, false, List, Option, Some, None, Result, Ok, Err, is_some, bytes_eq, if◌then◌else◌}
+use Rattle.std.specs.Prelude.{◌≡◌, ℕ, ◌&&◌, Bool, true, false, List, Option, Some, None, Result, Ok, Err, bytes_eq, if◌then◌else◌}
 use Rattle.std.specs.Cmp.Lexicographic.{bytes_decides}
 use Rattle.hex.specs.Hex.{decode_of}
 use Rattle.hex.specs.declared.error.FromHexError.{FromHexError}
 use Rattle.up_shown.specs.Showing.{ReadsShown, showing}
-use Rattle.up_curve.specs.Encoding.{decode}
 use Rattle.up_ed25519.specs.Scheme.{ed25519}
-
--- a public key of this scheme that is a point of the curve (RFC 8032, section 5.1.3)
-unfoldable pub is_point : List ℕ → Bool
-is_point p = ed25519.public_fits p && is_some (decode p)
 
 -- the bytes that the digits write, where they are a key that is shown by just these digits
 abbrev pub shown_by : List ℕ → Result (List ℕ) FromHexError → Option (List ℕ)
 shown_by digits (Err e) = None
-shown_by digits (Ok p) = if is_point p && bytes_eq (ed25519.shown p) digits then Some p else None
+shown_by digits (Ok p) = if ed25519.public_fits p && bytes_eq (ed25519.shown p) digits then Some p else None
 
 -- the key whose hex text this is, in lower case
 unfoldable pub read_shown : List ℕ → Option (List ℕ)
@@ -27,17 +22,16 @@ both true false e = (refl, e)
 both false b e = (e, absurd (let k : false ≡ true = e in cc))
 
 shown_by_is : (digits : List ℕ) (r : Result (List ℕ) FromHexError) (p : List ℕ) → shown_by digits r ≡ Some p → (ed25519.shown p ≡ digits) × (ed25519.public_fits p ≡ true)
-unfolding is_point
 shown_by_is digits (Err e) p h = absurd (let k : None ≡ Some p = h in cc)
 shown_by_is digits (Ok q) p h = from _ refl
   where
-    from : (t : Bool) → (is_point q && bytes_eq (ed25519.shown q) digits) ≡ t → (ed25519.shown p ≡ digits) × (ed25519.public_fits p ≡ true)
+    from : (t : Bool) → (ed25519.public_fits q && bytes_eq (ed25519.shown q) digits) ≡ t → (ed25519.shown p ≡ digits) × (ed25519.public_fits p ≡ true)
     from true e =
         let is : Some q ≡ Some p = ap (λ b. if b then Some q else None) (sym e) ∙ h in
-        let parts = both (is_point q) (bytes_eq (ed25519.shown q) digits) e in
+        let parts = both (ed25519.public_fits q) (bytes_eq (ed25519.shown q) digits) e in
         let same : q ≡ p = cc in
         subst (λ z. (ed25519.shown z ≡ digits) × (ed25519.public_fits z ≡ true)) same
-        ((bytes_decides (ed25519.shown q) digits).0 parts.1, (both (ed25519.public_fits q) (is_some (decode q)) parts.0).0)
+        ((bytes_decides (ed25519.shown q) digits).0 parts.1, parts.0)
     from false e = absurd (let k : None ≡ Some p = ap (λ b. if b then Some q else None) (sym e) ∙ h in cc)
 
 -- what is read is a key that is shown so

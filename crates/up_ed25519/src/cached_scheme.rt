@@ -44,10 +44,13 @@ impl Scheme for CachedEd25519 {
         Ed25519.secret_fits(secret)
     }
 
-    // Whoever registers a key asks this first. So it is decoded then, and not when a vehicle waits.
+    // Whoever registers a key asks this first. So its multiples are made then, and not when a vehicle waits.
     fn public_fits(&self, public: &[u8]) -> bool {
-        self.keys.prepare(public);
-        Ed25519.public_fits(public)
+        let fits = Ed25519.public_fits(public);
+        if fits {
+            self.keys.prepare(public);
+        }
+        fits
     }
 
     fn public(&self, alloc: Global, secret: &[u8]) -> Result<Vec<u8>, AllocError> {

@@ -1,4 +1,5 @@
 //! The scheme, as the rest of the product names it.
+use crate::public_keys::is_public;
 use crate::signing::{public_of, sign, sign_with};
 use crate::verification::verify;
 use std::alloc::{AllocError, Global};
@@ -24,7 +25,7 @@ impl Scheme for Ed25519 {
     }
 
     fn public_fits(&self, public: &[u8]) -> bool {
-        public.len() == 32
+        is_public(public)
     }
 
     fn public(&self, alloc: Global, secret: &[u8]) -> Result<Vec<u8>, AllocError> {

@@ -2,13 +2,12 @@
 ghost use Rattle.std.specs.Prelude.{◌≡◌, IfOk, Ok};
 ghost use Rattle.up_shown.specs.Showing.{ShowsKeys, showing};
 ghost use Rattle.up_ed25519.specs.Scheme.{ed25519};
-ghost use Rattle.up_ed25519.specs.Shows.{is_point as is_point_of, read_shown as read_shown_of, shown_by as shown_by_of};
+ghost use Rattle.up_ed25519.specs.Shows.{read_shown as read_shown_of, shown_by as shown_by_of};
 
 use crate::scheme::Ed25519;
 use hex::FromHexError;
 use std::alloc::{AllocError, Global};
 use up_canon::bytes::Bytes;
-use up_field::decode::decode;
 use up_shown::shows::Shows;
 use up_sign::scheme::Scheme;
 
@@ -40,19 +39,11 @@ fn read_key(alloc: Global, shown: &str) -> Result<Option<Bytes>, AllocError>
 fn if_shown(alloc: Global, key: Vec<u8>, shown: &str) -> Result<Option<Bytes>, AllocError>
     ensures { IfOk result (λ p. p ≡ shown_by_of shown.now (Ok key.items)) }
 {
-    if is_point(&key) && Ed25519.shown(alloc, &key)?.as_str() == shown {
+    if Ed25519.public_fits(&key) && Ed25519.shown(alloc, &key)?.as_str() == shown {
         Ok(Some(Bytes::new(key)))
     } else {
         Ok(None)
     }
-}
-
-/// Whether the bytes are a public key that is a point of the curve.
-#[tactic(auto, unfolding(crate::specs::Shows::is_point))]
-fn is_point(key: &[u8]) -> bool
-    ensures { result ≡ is_point_of key.now }
-{
-    Ed25519.public_fits(key) && decode(key).is_some()
 }
 
 /// The public key of each secret is shown so that it is read.

@@ -1,3 +1,4 @@
+pub mod Parts
 pub mod FieldLaws
 pub mod RoutedLaws
 pub mod RouteLaws

@@ -8,7 +8,8 @@ use Rattle.matchit.specs.Router.{RouteOf}
 use Rattle.up_heads.specs.declared.routes.Kind.{Kind}
 use Rattle.up_heads.specs.declared.routes.Kind.TheVariants.{Manifest, Director, Image}
 use Rattle.up_heads.specs.Routes.{strip, is_segment, kind, kind_from}
-use Rattle.up_heads.specs.Rows.{manifest_row, director_row, image_row, known_routes, row_from, row}
+use Rattle.up_heads.specs.Rows.{manifest_row, director_row, image_row, known_routes}
+use Rattle.up_heads.proofs.Parts.{row, row_from}
 
 abbrev pub AreBytes : List ℕ → Type 0
 AreBytes [] = Unit {0}

@@ -5,7 +5,7 @@ use Rattle.std.specs.Str.{is_utf8, IsUtf8}
 use Rattle.std.proofs.lemmas.Bool.{eq-eqb, eqb-true}
 use Rattle.std.proofs.lemmas.Str.{IsUtf8-from_is_utf8, is_utf8-from_IsUtf8}
 use Rattle.up_canon.specs.Names.{is_file_name}
-use Rattle.up_heads.specs.Routed.{named, path_of, routed_at, routed_by}
+use Rattle.up_heads.specs.Routed.{named_file, path_of, routed_at, routed_by}
 use Rattle.up_heads.specs.Routes.{kind, strip}
 use Rattle.up_heads.specs.declared.check.Check.TheVariants.{NotFound}
 use Rattle.up_heads.specs.declared.methods.Verb.{Verb}
@@ -31,7 +31,7 @@ strip_missing (x ∷ text) (b ∷ path) lacks = by_test (x == b) refl (λ other.
     by_test false is step = refl
 
 -- a filename that was made of a text, or not
-pub named_made : (made : Option (List ℕ)) (name : List ℕ) → MatchOption made (is_file_name name ≡ false) (λ m. (is_file_name name ≡ true) × (m ≡ name)) → made ≡ named (Some name)
+pub named_made : (made : Option (List ℕ)) (name : List ℕ) → MatchOption made (is_file_name name ≡ false) (λ m. (is_file_name name ≡ true) × (m ≡ name)) → made ≡ named_file (Some name)
 named_made None name is = ap (λ t. cond t (Some name) None) (sym is)
 named_made (Some m) name is = ap Some is.1 ∙ ap (λ t. cond t (Some name) None) (sym is.0)
 

@@ -19,17 +19,17 @@ abbrev pub path_of : List ℕ → List ℕ
 path_of target = before_first (λ byte. byte == 63) target
 
 -- a filename, where the bytes are one
-abbrev pub named : Option (List ℕ) → Option (List ℕ)
-named (Some name) = if is_file_name name then Some name else None
-named None = None
+abbrev pub named_file : Option (List ℕ) → Option (List ℕ)
+named_file (Some name) = if is_file_name name then Some name else None
+named_file None = None
 
 -- a manifest is posted, and states its length
-abbrev pub posted : Verb → Option ℕ → Routed
-posted Post (Some size) = Deliver
-posted Post None = Fixed LengthRequired
-posted Get stated = Fixed AllowPost
-posted Head stated = Fixed AllowPost
-posted Other stated = Fixed AllowPost
+abbrev pub post_route : Verb → Option ℕ → Routed
+post_route Post (Some size) = Deliver
+post_route Post None = Fixed LengthRequired
+post_route Get stated = Fixed AllowPost
+post_route Head stated = Fixed AllowPost
+post_route Other stated = Fixed AllowPost
 
 -- a file is got
 abbrev pub got : (List ℕ → Routed) → Option (List ℕ) → Verb → Routed
@@ -41,9 +41,9 @@ got fetch None verb = Fixed NotFound
 
 -- by the route of the path
 abbrev pub routed_by : Option Kind → List ℕ → Verb → Option ℕ → Routed
-routed_by (Some Manifest) path verb stated = posted verb stated
-routed_by (Some Director) path verb stated = got FetchDirector (named (strip (codes "/director/") path)) verb
-routed_by (Some Image) path verb stated = got FetchImage (named (strip (codes "/image/") path)) verb
+routed_by (Some Manifest) path verb stated = post_route verb stated
+routed_by (Some Director) path verb stated = got FetchDirector (named_file (strip (codes "/director/") path)) verb
+routed_by (Some Image) path verb stated = got FetchImage (named_file (strip (codes "/image/") path)) verb
 routed_by None path verb stated = Fixed NotFound
 
 -- by the path; what isn't UTF-8 has no route
@@ -52,5 +52,5 @@ routed_at target verb stated =
     if is_utf8 target then routed_by (kind (path_of target)) (path_of target) verb stated else Fixed NotFound
 
 -- what the request of this head asks, which states a body of this length or none
-unfoldable pub routed : RequestHead → Option ℕ → Routed
-routed head stated = routed_at head.target (verb_of head.method) stated
+unfoldable pub request_route : RequestHead → Option ℕ → Routed
+request_route head stated = routed_at head.target (verb_of head.method) stated

@@ -1,8 +1,7 @@
 -- The routes as the router keeps them.
-use Rattle.std.specs.Prelude.{ℕ, List, [], ◌∷◌, ◌++◌, Option, Some, None, codes, bytes_eq, cond}
+use Rattle.std.specs.Prelude.{[], ◌∷◌, ◌++◌, codes}
 use Rattle.matchit.specs.Rows.{RowsOf}
 use Rattle.matchit.specs.Router.{RouteOf}
-use Rattle.up_heads.specs.Routes.{strip, is_segment}
 use Rattle.up_heads.specs.declared.routes.Kind.{Kind}
 use Rattle.up_heads.specs.declared.routes.Kind.TheVariants.{Manifest, Director, Image}
 
@@ -18,13 +17,3 @@ image_row = record { pattern = codes "/image/" ++ 256 ∷ []; text = codes "/ima
 
 abbrev pub known_routes : RowsOf (RouteOf Kind)
 known_routes = (manifest_row.pattern, manifest_row) ∷ (director_row.pattern, director_row) ∷ (image_row.pattern, image_row) ∷ []
-
--- the row by what stands behind `/director/`, or else behind `/image/`
-abbrev pub row_from : Option (List ℕ) → Option (List ℕ) → Option (RouteOf Kind)
-row_from (Some rest) other = cond (bytes_eq rest (codes "manifest")) (Some manifest_row) (cond (is_segment rest) (Some director_row) None)
-row_from None (Some rest) = cond (is_segment rest) (Some image_row) None
-row_from None None = None
-
--- the row of a path
-abbrev pub row : List ℕ → Option (RouteOf Kind)
-row path = row_from (strip (codes "/director/") path) (strip (codes "/image/") path)

@@ -2,7 +2,7 @@
 ghost use Rattle.std.specs.Prelude.{◌≡◌, IfOk, codes};
 ghost use Rattle.httparse.specs.Grammar.{RequestHead};
 ghost use Rattle.up_heads.specs.Fronts.{IsFactsOf};
-ghost use Rattle.up_heads.specs.Routed.{routed, routed_at, routed_by, got, named, path_of as path_before, posted as posted_by};
+ghost use Rattle.up_heads.specs.Routed.{request_route, routed_at, routed_by, got, named_file, path_of as path_before, post_route as posted_by};
 ghost use Rattle.up_heads.specs.Routes.{kind, strip};
 
 use crate::check::Check;
@@ -27,7 +27,7 @@ pub enum Routed {
 }
 
 /// What the request of the head at the front of bytes asks, but for its body, whose length is the stated one or none.
-#[tactic(auto, unfolding(crate::specs::Routed::routed))]
+#[tactic(auto, unfolding(crate::specs::Routed::request_route))]
 pub fn route_of(
     alloc: Global,
     routes: &mut Routes,
@@ -37,7 +37,7 @@ pub fn route_of(
 ) -> Result<Routed, AllocError>
     requires { (head : RequestHead) × IsFactsOf bytes.now head facts.now }
     ensures { IfOk result (λ route. (head : RequestHead) → IsFactsOf bytes.now head facts.now
-        → route ≡ routed head stated) }
+        → route ≡ request_route head stated) }
 {
     route_at(alloc, routes, facts.target.of(bytes), facts.verb, stated)
 }
@@ -101,7 +101,7 @@ fn posted(verb: Verb, stated: Option<usize>) -> Routed
 /// What is asked of a file of the Director repository.
 fn director_file(alloc: Global, path: &str, verb: Verb) -> Result<Routed, AllocError>
     ensures { IfOk result
-        (λ route. route ≡ got (λ name. Routed.FetchDirector name) (named (strip (codes "/director/") path.now)) verb) }
+        (λ route. route ≡ got (λ name. Routed.FetchDirector name) (named_file (strip (codes "/director/") path.now)) verb) }
 {
     match file_behind(alloc, path, "/director/")? {
         Some(file) if verb == Verb::Get => Ok(Routed::FetchDirector(file)),
@@ -113,7 +113,7 @@ fn director_file(alloc: Global, path: &str, verb: Verb) -> Result<Routed, AllocE
 /// What is asked of a file of the Image repository.
 fn image_file(alloc: Global, path: &str, verb: Verb) -> Result<Routed, AllocError>
     ensures { IfOk result
-        (λ route. route ≡ got (λ name. Routed.FetchImage name) (named (strip (codes "/image/") path.now)) verb) }
+        (λ route. route ≡ got (λ name. Routed.FetchImage name) (named_file (strip (codes "/image/") path.now)) verb) }
 {
     match file_behind(alloc, path, "/image/")? {
         Some(file) if verb == Verb::Get => Ok(Routed::FetchImage(file)),
@@ -124,7 +124,7 @@ fn image_file(alloc: Global, path: &str, verb: Verb) -> Result<Routed, AllocErro
 
 /// The filename behind a text at the front of a path, none where what stands there isn't one.
 fn file_behind(alloc: Global, path: &str, text: &str) -> Result<Option<FileName>, AllocError>
-    ensures { IfOk result (λ file. file ≡ named (strip text.now path.now)) }
+    ensures { IfOk result (λ file. file ≡ named_file (strip text.now path.now)) }
 {
     match path.strip_prefix(text) {
         Some(name) => Ok(FileName::new(name.to_string(alloc)?)),

@@ -7,7 +7,7 @@ use Rattle.httparse.specs.Grammar.{RequestHead}
 use Rattle.up_heads.specs.Heads.{Heads, NeverHasHead}
 use Rattle.std.specs.Prelude.{MatchOption, IsSome}
 use Rattle.up_manifest.specs.Manifests.{largest_body}
-use Rattle.up_heads.specs.Routed.{routed}
+use Rattle.up_heads.specs.Routed.{request_route}
 use Rattle.up_heads.specs.Framing.{framing}
 use Rattle.up_http.specs.Requests.{is_head, size_of, most_requests, First, Framed, asked, refused, bad_request}
 use Rattle.up_manifest.specs.Bodies.{Coming}
@@ -248,7 +248,7 @@ size_small bytes facts stated (head, heads, said) framed = framing_small head st
 
 -- what is kept of it
 pub begins_body : (bytes : List ℕ) (facts : Facts) (stated : Option ℕ) (waiting : Waiting) → IsWhole bytes facts → facts.framing ≡ Ok stated
-    → waiting.body.size ≡ size_of stated → ((head : RequestHead) → IsFactsOf bytes head facts → waiting.intent.asks ≡ routed head stated)
+    → waiting.body.size ≡ size_of stated → ((head : RequestHead) → IsFactsOf bytes head facts → waiting.intent.asks ≡ request_route head stated)
     → waiting.intent.head ≡ is_head_verb facts.verb → waiting.intent.closes ≡ facts.closes → IsWaiting bytes waiting
 begins_body bytes facts stated waiting (head, heads, said) framed size asks verb closes = record {
   head = head;

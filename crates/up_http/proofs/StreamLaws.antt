@@ -8,7 +8,7 @@ use Rattle.httparse.specs.Grammar.{RequestHead, print_request, ReadsRequest, lf,
 use Rattle.up_heads.specs.Heads.{NeverHasHead}
 use Rattle.up_heads.specs.Framing.{framing}
 use Rattle.up_heads.specs.Closing.{closes}
-use Rattle.up_heads.specs.Routed.{routed}
+use Rattle.up_heads.specs.Routed.{request_route}
 use Rattle.up_heads.specs.declared.routed.Routed.{Routed}
 use Rattle.up_heads.specs.declared.routed.Routed.TheVariants as routed_as
 use Rattle.up_http.specs.Requests.{First, Firsts, Requests, Framed, asked, asks_running, with_body, refused, ends_with, most_requests, most_request, size_of}
@@ -68,7 +68,7 @@ below_framed given head after (Err check) next rest p goes_on = absurd (cc (ap (
 below_framed given head after (Ok stated) next rest p goes_on = by_size (nat_le (size_of stated) (length after)) p
   where
     by_size : (b : Bool) → MatchBool b ((next ≡ asked given head stated (take (size_of stated) after)) × (rest ≡ drop (size_of stated) after)) (next ≡ refused head BadRequest) → given + 1 < most_requests
-    by_size true x = leb-false most_requests (given + 1) (or_false (ends_with (routed head stated)) (nat_le most_requests (given + 1)) (or_false (closes head) (ends_with (routed head stated) || nat_le most_requests (given + 1)) (sym (ap (λ n. n.last) x.0) ∙ goes_on)))
+    by_size true x = leb-false most_requests (given + 1) (or_false (ends_with (request_route head stated)) (nat_le most_requests (given + 1)) (or_false (closes head) (ends_with (request_route head stated) || nat_le most_requests (given + 1)) (sym (ap (λ n. n.last) x.0) ∙ goes_on)))
     by_size false x = absurd (cc (ap (λ n. n.last) x))
 
 pub first_below : (given : ℕ) (bytes : List ℕ) (next : Next) (rest : List ℕ) → First given bytes next rest → next.last ≡ false → given + 1 < most_requests
@@ -96,7 +96,7 @@ framed_runs given head after (Err check) next rest p = runs_as next _ p (fixed_r
 framed_runs given head after (Ok stated) next rest p = by_size (nat_le (size_of stated) (length after)) p
   where
     by_size : (b : Bool) → MatchBool b ((next ≡ asked given head stated (take (size_of stated) after)) × (rest ≡ drop (size_of stated) after)) (next ≡ refused head BadRequest) → asks_running next.what ≡ true
-    by_size true x = runs_as next _ x.0 (with_body_runs (routed head stated) (take (size_of stated) after))
+    by_size true x = runs_as next _ x.0 (with_body_runs (request_route head stated) (take (size_of stated) after))
     by_size false x = runs_as next _ x (fixed_runs BadRequest)
 
 pub first_runs : (given : ℕ) (bytes : List ℕ) (next : Next) (rest : List ℕ) → First given bytes next rest → asks_running next.what ≡ true

@@ -5,7 +5,7 @@ use Rattle.httparse.specs.Grammar.{RequestHead, HasNoRequest}
 use Rattle.up_heads.specs.Heads.{Heads, NeverHasHead, most_head}
 use Rattle.up_heads.specs.Framing.{framing}
 use Rattle.up_heads.specs.Closing.{closes}
-use Rattle.up_heads.specs.Routed.{routed}
+use Rattle.up_heads.specs.Routed.{request_route}
 use Rattle.up_http.specs.Requests.{asked, is_head, most_requests, size_of}
 use Rattle.up_heads.specs.Fronts.{IsFactsOf}
 use Rattle.up_http.specs.Feeding.{Fed}
@@ -53,7 +53,7 @@ pub record TakesHead (old piece : List ℕ) (taken : Taken) (new : List ℕ) : T
 
 -- what is kept of a head that states this length of its body
 pub record IsIntentOf (head : RequestHead) (stated : Option ℕ) (intent : Intent) : Type 0 where
-  pub asks_is : intent.asks ≡ routed head stated
+  pub asks_is : intent.asks ≡ request_route head stated
   pub head_is : intent.head ≡ is_head head
   pub closes_is : intent.closes ≡ closes head
 

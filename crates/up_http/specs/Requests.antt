@@ -6,7 +6,7 @@ use Rattle.up_manifest.specs.Manifests.{largest_body}
 use Rattle.up_heads.specs.Framing.{framing}
 use Rattle.up_heads.specs.Closing.{closes}
 use Rattle.up_heads.specs.Methods.{verb_of, is_head_verb}
-use Rattle.up_heads.specs.Routed.{routed}
+use Rattle.up_heads.specs.Routed.{request_route}
 use Rattle.up_heads.specs.declared.check.Check.{Check}
 use Rattle.up_heads.specs.declared.check.Check.TheVariants.{BadRequest, NotFound, AllowGet, AllowPost, LengthRequired, TooLarge, NotImplemented}
 use Rattle.up_heads.specs.declared.routed.Routed.{Routed}
@@ -73,9 +73,9 @@ refused head check = record { what = Fixed check; head = is_head head; last = tr
 -- a whole request, of which so many stood before it, with the length that it states and its body
 abbrev pub asked : ℕ → RequestHead → Option ℕ → List ℕ → Next
 asked before head stated body = record {
-  what = with_body (routed head stated) body;
+  what = with_body (request_route head stated) body;
   head = is_head head;
-  last = closes head || (ends_with (routed head stated) || nat_le most_requests (before + 1));
+  last = closes head || (ends_with (request_route head stated) || nat_le most_requests (before + 1));
 }
 
 -- a whole head, what comes after it, the request that its framing makes of them, and what is left behind the request

@@ -11,7 +11,7 @@ use Rattle.up_canon.specs.HexText.{is_hash, is_second_hash}
 use Rattle.up_canon.specs.Names.{Name, is_ident, is_file_name}
 use Rattle.up_canon.proofs.Printable.{both}
 use Rattle.up_sign.specs.Laws.{SealedFits}
-use Rattle.up_sign.specs.Envelopes.{sealed}
+use Rattle.up_sign.specs.Envelopes.{sealed_envelope}
 use Rattle.up_sign.specs.Formats.{envelope_fits}
 use Rattle.up_sign.specs.Schemes.{Rules, IsScheme}
 use Rattle.up_roles.specs.declared.repository.Repository.TheVariants.{Director}
@@ -102,7 +102,7 @@ signers_of k role law fits =
     let few = secrets_are_few k role signs in
     record { scheme = law; fit = secrets_fit k role signs; some = few.0; few = few.1 }
 
-sealed_by : SealedFits → (k : Rules) (secrets : List (List ℕ)) (signed : List ℕ) → AreSigners k secrets → envelope_fits (sealed k secrets signed) ≡ true
+sealed_by : SealedFits → (k : Rules) (secrets : List (List ℕ)) (signed : List ℕ) → AreSigners k secrets → envelope_fits (sealed_envelope k secrets signed) ≡ true
 sealed_by seals k secrets signed signers = (seals k secrets signed signers.scheme signers.fit signers.some signers.few).0
 
 pub read_again : MomentTextIsPlain → SealedFits → TargetsAreRead → SnapshotsAreRead → TimestampsAreRead → RepliesAreReadAgain

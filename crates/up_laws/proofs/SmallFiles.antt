@@ -8,18 +8,18 @@ use Rattle.std.proofs.lemmas.Bool.Decides.{nat_tests}
 use Rattle.std.proofs.lemmas.List.{length-map}
 use Rattle.serde_json.specs.Data.{Data, string}
 use Rattle.up_canon.specs.Build.{list_with, hashes_value}
-use Rattle.up_canon.specs.Canon.{max_count, quoted, text}
+use Rattle.up_canon.specs.Canon.{max_count, json_string, text}
 use Rattle.up_canon.specs.HexText.{is_hash, is_second_hash}
 use Rattle.up_canon.specs.Moments.{last_moment, moment_text, MomentTextIsPlain}
 use Rattle.up_canon.specs.Names.{Name, is_from_to, is_ident, is_ident_byte, is_file_name, is_file_byte, hardware_fits, are_distinct}
 use Rattle.up_canon.proofs.Joined.{listed_text}
 use Rattle.up_canon.proofs.Members.{within}
-use Rattle.up_sign.specs.Envelopes.{sealed}
+use Rattle.up_sign.specs.Envelopes.{sealed_envelope}
 use Rattle.up_sign.specs.Formats.{signature_fits, envelope_fits, signature_value, envelope_text}
 use Rattle.up_sign.specs.Schemes.{Rules}
 use Rattle.up_sign.specs.declared.envelope.Signature.{Signature}
 use Rattle.up_sign.specs.declared.envelope.Envelope.{Envelope}
-use Rattle.up_manifest.proofs.Lengths.{quoted-length, count-length, short-length, signature-length, hashes-length, sum-five, sum-nested, sum-eleven}
+use Rattle.up_manifest.proofs.Lengths.{json_string-length, count-length, short-length, signature-length, hashes-length, sum-five, sum-nested, sum-eleven}
 use Rattle.up_roles.specs.declared.repository.Repository.{Repository}
 use Rattle.up_roles.specs.declared.repository.Repository.TheVariants.{Director, Image}
 use Rattle.up_roles.specs.declared.targets.Target.{Target}
@@ -60,11 +60,11 @@ list-length f p n small xs h =
 
 -- ---- names
 
-ident-length : (name : Name) → is_ident name ≡ true → length (quoted name) ≤ 130
-ident-length name h = quoted-length name 64 (within 1 64 (length name) (and_parts (is_from_to 1 64 (length name)) _ h).0).1
+ident-length : (name : Name) → is_ident name ≡ true → length (json_string name) ≤ 130
+ident-length name h = json_string-length name 64 (within 1 64 (length name) (and_parts (is_from_to 1 64 (length name)) _ h).0).1
 
-file-length : (name : Name) → is_file_name name ≡ true → length (quoted name) ≤ 258
-file-length name h = quoted-length name 128 (within 1 128 (length name) (and_parts (is_from_to 1 128 (length name)) _ h).0).1
+file-length : (name : Name) → is_file_name name ≡ true → length (json_string name) ≤ 258
+file-length name h = json_string-length name 128 (within 1 128 (length name) (and_parts (is_from_to 1 128 (length name)) _ h).0).1
 
 hardware-length : (names : List Name) → hardware_fits names ≡ true → list_all is_ident names ≡ true → length (text (list_with (map string names))) ≤ 2098
 hardware-length names fits h =
@@ -76,8 +76,8 @@ ecu-length : (ecu : Option Name) → is_named ecu ≡ true → length (ecu_text 
 ecu-length None h = omega arith
 ecu-length (Some name) h =
     let q = ident-length name h in
-    let sum = length-append (quoted name) (codes ",") in
-    let all = length-append (codes "\"ecu\":") (quoted name ++ codes ",") in
+    let sum = length-append (json_string name) (codes ",") in
+    let all = length-append (codes "\"ecu\":") (json_string name ++ codes ",") in
     omega (arith, q, sum, all)
 
 -- ---- a target
@@ -120,7 +120,7 @@ target-length repository t h =
     let r = count-length t.release late in
     let spelled = ap length (sym (target_text t)) ∙ length-append (codes "{" ++ ecu_text t.ecu) (image_text t) in
     let head = length-append (codes "{") (ecu_text t.ecu) in
-    let sum = sum-eleven (codes "\"file\":") (quoted t.file) (codes ",\"hardware\":") (text (list_with (map string t.hardware))) (codes ",\"hashes\":") (text (hashes_value t.sha256 t.sha512))
+    let sum = sum-eleven (codes "\"file\":") (json_string t.file) (codes ",\"hardware\":") (text (list_with (map string t.hardware))) (codes ",\"hashes\":") (text (hashes_value t.sha256 t.sha512))
     (codes ",\"length\":") (decimal t.length) (codes ",\"release\":") (decimal t.release) (codes "}") in
     omega (arith, e, f, w, s, l, r, spelled, head, sum)
 
@@ -133,7 +133,7 @@ all-small repository (t ∷ ts) fits typed =
     let y = and_parts (target_is_typed t) _ typed in
     rw (f.0, y.0, all-small repository ts f.1 y.1)
 
-pub repository-length : (r : Repository) → length (quoted (repository_text r)) ≤ 10
+pub repository-length : (r : Repository) → length (json_string (repository_text r)) ≤ 10
 repository-length Director = lit≤ tt
 repository-length Image = lit≤ tt
 
@@ -141,7 +141,7 @@ vehicle-length : (vehicle : Option Name) → is_named vehicle ≡ true → lengt
 vehicle-length None h = omega arith
 vehicle-length (Some name) h =
     let q = ident-length name h in
-    let sum = length-append (codes ",\"vehicle\":") (quoted name) in
+    let sum = length-append (codes ",\"vehicle\":") (json_string name) in
     omega (arith, q, sum)
 
 pub end-length : (vehicle : Option Name) (version : ℕ) → is_named vehicle ≡ true → version ≤ max_count → length (end_text vehicle version) ≤ 169
@@ -163,17 +163,17 @@ payload-length law file fits typed few =
     let g = and_parts _ _ f.0 in
     let v = within 1 max_count file.version g.0 in
     let moment : file.expires ≤ last_moment = moment_count file.expires s.0 in
-    let expires = quoted-length (moment_text file.expires) 20 (short-length 20 20 (moment_text file.expires) (law file.expires moment).0) in
+    let expires = json_string-length (moment_text file.expires) 20 (short-length 20 20 (moment_text file.expires) (law file.expires moment).0) in
     let repository = repository-length file.repository in
     let targets = list-length target_value (IsSmall file.repository) 2950 (target-length file.repository) file.targets (all-small file.repository file.targets f.1 t.1) in
     let end = end-length file.vehicle file.version s.1 v.1 in
     let spelled = ap length (sym (targets_text file.repository file.version file.expires file.vehicle file.targets)) in
-    let head = length-append (codes "{\"expires\":") (quoted (moment_text file.expires)) in
-    let middle = length-append (codes ",\"repository\":") (quoted (repository_text file.repository)) in
+    let head = length-append (codes "{\"expires\":") (json_string (moment_text file.expires)) in
+    let middle = length-append (codes ",\"repository\":") (json_string (repository_text file.repository)) in
     let tail = sum-four (codes ",\"targets\":") (text (list_with (map target_value file.targets))) (codes ",\"type\":\"targets\"") (end_text file.vehicle file.version) in
-    let joined = length-append (codes "{\"expires\":" ++ quoted (moment_text file.expires)) ((codes ",\"repository\":" ++ quoted (repository_text file.repository))
+    let joined = length-append (codes "{\"expires\":" ++ json_string (moment_text file.expires)) ((codes ",\"repository\":" ++ json_string (repository_text file.repository))
     ++ (codes ",\"targets\":" ++ (text (list_with (map target_value file.targets)) ++ (codes ",\"type\":\"targets\"" ++ end_text file.vehicle file.version)))) in
-    let rest = length-append (codes ",\"repository\":" ++ quoted (repository_text file.repository))
+    let rest = length-append (codes ",\"repository\":" ++ json_string (repository_text file.repository))
     (codes ",\"targets\":" ++ (text (list_with (map target_value file.targets)) ++ (codes ",\"type\":\"targets\"" ++ end_text file.vehicle file.version))) in
     omega (arith, expires, repository, targets, end, spelled, head, middle, tail, joined, rest, few)
   where
@@ -192,35 +192,35 @@ envelope-length e n h small =
     omega (arith, sum, signatures, few, small)
 
 -- at most 115,100 bytes
-pub targets-length : MomentTextIsPlain → (k : Rules) (secrets : List (List ℕ)) (file : TargetsFile) → envelope_fits (sealed k secrets (text (targets_payload file))) ≡ true
+pub targets-length : MomentTextIsPlain → (k : Rules) (secrets : List (List ℕ)) (file : TargetsFile) → envelope_fits (sealed_envelope k secrets (text (targets_payload file))) ≡ true
     → targets_fits file ≡ true → targets_is_typed file ≡ true → length file.targets ≤ 32 → length (targets_text_of k secrets file) ≤ 115_100
 unfolding targets_text_of sealed_text
 targets-length law k secrets file sealed_fits fits typed few =
-    envelope-length (sealed k secrets (text (targets_payload file))) 95_000 sealed_fits (payload-length law file fits typed few)
+    envelope-length (sealed_envelope k secrets (text (targets_payload file))) 95_000 sealed_fits (payload-length law file fits typed few)
 
 -- ---- files that list another one
 
 -- of what is said of the other file
-listing-length : MomentTextIsPlain → (kind : List ℕ) (r : Repository) (version expires : ℕ) (vehicle : Option Name) (meta : Data) → length (quoted kind) ≤ 20
+listing-length : MomentTextIsPlain → (kind : List ℕ) (r : Repository) (version expires : ℕ) (vehicle : Option Name) (meta : Data) → length (json_string kind) ≤ 20
     → expires ≤ last_moment → is_named vehicle ≡ true → version ≤ max_count → length (codes ",\"meta\":" ++ text meta) ≤ 400
     → length (text (payload kind r version expires vehicle ((codes "meta", meta) ∷ []))) ≤ 1000
 listing-length law kind r version expires vehicle meta type moment named small said =
-    let e = quoted-length (moment_text expires) 20 (short-length 20 20 (moment_text expires) (law expires moment).0) in
+    let e = json_string-length (moment_text expires) 20 (short-length 20 20 (moment_text expires) (law expires moment).0) in
     let repository = repository-length r in
     let end = end-length vehicle version named small in
     let spelled = ap length (sym (listing_text kind r version expires vehicle meta)) in
-    let head = length-append (codes "{\"expires\":") (quoted (moment_text expires)) in
-    let middle = length-append (codes ",\"repository\":") (quoted (repository_text r)) in
-    let typed = length-append (codes ",\"type\":") (quoted kind) in
-    let tail = length-append (codes ",\"type\":" ++ quoted kind) (end_text vehicle version) in
-    let rest = length-append (codes ",\"repository\":" ++ quoted (repository_text r)) ((codes ",\"type\":" ++ quoted kind) ++ end_text vehicle version) in
-    let more = length-append (codes ",\"meta\":" ++ text meta) ((codes ",\"repository\":" ++ quoted (repository_text r)) ++ ((codes ",\"type\":" ++ quoted kind) ++ end_text vehicle version)) in
-    let all = length-append (codes "{\"expires\":" ++ quoted (moment_text expires))
-    ((codes ",\"meta\":" ++ text meta) ++ ((codes ",\"repository\":" ++ quoted (repository_text r)) ++ ((codes ",\"type\":" ++ quoted kind) ++ end_text vehicle version))) in
+    let head = length-append (codes "{\"expires\":") (json_string (moment_text expires)) in
+    let middle = length-append (codes ",\"repository\":") (json_string (repository_text r)) in
+    let typed = length-append (codes ",\"type\":") (json_string kind) in
+    let tail = length-append (codes ",\"type\":" ++ json_string kind) (end_text vehicle version) in
+    let rest = length-append (codes ",\"repository\":" ++ json_string (repository_text r)) ((codes ",\"type\":" ++ json_string kind) ++ end_text vehicle version) in
+    let more = length-append (codes ",\"meta\":" ++ text meta) ((codes ",\"repository\":" ++ json_string (repository_text r)) ++ ((codes ",\"type\":" ++ json_string kind) ++ end_text vehicle version)) in
+    let all = length-append (codes "{\"expires\":" ++ json_string (moment_text expires))
+    ((codes ",\"meta\":" ++ text meta) ++ ((codes ",\"repository\":" ++ json_string (repository_text r)) ++ ((codes ",\"type\":" ++ json_string kind) ++ end_text vehicle version))) in
     omega (arith, e, repository, end, spelled, head, middle, typed, tail, rest, more, all, type, said)
 
 -- at most 21,100 bytes
-pub snapshot-length : MomentTextIsPlain → (k : Rules) (secrets : List (List ℕ)) (file : SnapshotFile) → envelope_fits (sealed k secrets (text (snapshot_payload file))) ≡ true
+pub snapshot-length : MomentTextIsPlain → (k : Rules) (secrets : List (List ℕ)) (file : SnapshotFile) → envelope_fits (sealed_envelope k secrets (text (snapshot_payload file))) ≡ true
     → snapshot_fits file ≡ true → snapshot_is_typed file ≡ true → length (snapshot_text_of k secrets file) ≤ 21_100
 unfolding snapshot_text_of sealed_text snapshot_payload
 snapshot-length law k secrets file sealed_fits fits typed =
@@ -230,12 +230,12 @@ snapshot-length law k secrets file sealed_fits fits typed =
     let v = count-length file.targets_version (within 1 max_count file.targets_version f.1).1 in
     let said = ap length (sym (snapshot_meta_text file)) ∙ length-append (codes ",\"meta\":{\"targets.json\":{\"version\":") (decimal file.targets_version ++ codes "}}") in
     let rest = length-append (decimal file.targets_version) (codes "}}") in
-    envelope-length (sealed k secrets (text (snapshot_payload file))) 1000 sealed_fits
+    envelope-length (sealed_envelope k secrets (text (snapshot_payload file))) 1000 sealed_fits
     (listing-length law (codes "snapshot") file.repository file.version file.expires file.vehicle (snapshot_meta file) (lit≤ tt) (moment_count file.expires t.0) t.1 (within 1 max_count file.version g.0).1
     (omega (arith, v, said, rest)))
 
 -- at most 21,100 bytes
-pub timestamp-length : MomentTextIsPlain → (k : Rules) (secrets : List (List ℕ)) (file : TimestampFile) → envelope_fits (sealed k secrets (text (timestamp_payload file))) ≡ true
+pub timestamp-length : MomentTextIsPlain → (k : Rules) (secrets : List (List ℕ)) (file : TimestampFile) → envelope_fits (sealed_envelope k secrets (text (timestamp_payload file))) ≡ true
     → timestamp_fits file ≡ true → timestamp_is_typed file ≡ true → length (timestamp_text_of k secrets file) ≤ 21_100
 unfolding timestamp_text_of sealed_text timestamp_payload
 timestamp-length law k secrets file sealed_fits fits typed =
@@ -248,6 +248,6 @@ timestamp-length law k secrets file sealed_fits fits typed =
     let v = count-length file.snapshot_version (within 1 max_count file.snapshot_version f.1).1 in
     let said = ap length (sym (timestamp_meta_text file))
     ∙ sum-nested (codes ",\"meta\":{\"snapshot.json\":{\"hashes\":") (text (hashes_value file.snapshot_sha256 None)) (codes ",\"version\":") (decimal file.snapshot_version) (codes "}}") in
-    envelope-length (sealed k secrets (text (timestamp_payload file))) 1000 sealed_fits
+    envelope-length (sealed_envelope k secrets (text (timestamp_payload file))) 1000 sealed_fits
     (listing-length law (codes "timestamp") file.repository file.version file.expires file.vehicle (timestamp_meta file) (lit≤ tt) (moment_count file.expires t.0) t.1 (within 1 max_count file.version g.0).1
     (omega (arith, v, said, hashes)))

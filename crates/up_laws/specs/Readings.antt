@@ -5,7 +5,7 @@ use Rattle.serde_json.specs.Data.{Data}
 use Rattle.up_canon.specs.Canon.{text}
 use Rattle.up_canon.specs.Names.{Name}
 use Rattle.up_canon.specs.declared.refusal.Refusal.{Refusal}
-use Rattle.up_sign.specs.Envelopes.{sealed}
+use Rattle.up_sign.specs.Envelopes.{sealed_envelope}
 use Rattle.up_sign.specs.Schemes.{Rules, IsScheme}
 use Rattle.up_sign.specs.declared.envelope.Envelope.{Envelope}
 use Rattle.up_roles.specs.Payload.{IsCanonical, largest_file}
@@ -23,7 +23,7 @@ use Rattle.up_laws.specs.Typed.{IsTyped}
 pub record IsReadAgain {F : Type 0} (reading : List ℕ → Result (F × Envelope) Refusal) (k : Rules) (secrets : List (List ℕ)) (payload : Data) (file : F) (file_text : List ℕ) : Type 0 where
   pub canonical : IsCanonical payload
   pub small : length file_text ≤ largest_file
-  pub read : reading file_text ≡ Ok (file, sealed k secrets (text payload))
+  pub read : reading file_text ≡ Ok (file, sealed_envelope k secrets (text payload))
 
 -- each of the three files of a set
 pub record AreReadAgain (k : Rules) (m : MetadataSet) : Type 0 where

@@ -11,7 +11,7 @@ use Rattle.up_lines.specs.declared.fault.ScriptCause.TheVariants.{Read}
 use Rattle.up_lines.specs.Lines.{newline, most_lines, most_bytes, piece_bytes, lines_of, is_short, fits, has_bytes, asked}
 use Rattle.up_lines.specs.Runs.{At, LastRead}
 use Rattle.up_lines.specs.LineRuns.{Gives, FinishedLines, Stopped, WantsMore, RanLines}
-use Rattle.up_lines.specs.Progress.{Sofar, Closes, Fails, Stops, Completes, IsFresh, told, is_inside}
+use Rattle.up_lines.specs.Progress.{Sofar, Closes, Fails, Stops, Completes, IsFresh, run_result, is_inside}
 use Rattle.up_lines.proofs.Cuts.{lines-line, lines-last_one, lines-begun}
 use Rattle.up_lines.proofs.RunLaws.{not_full, fits_begun, asked-append, asked_among-none, as_many}
 use Rattle.up_lines.proofs.Steps.{takes_end}
@@ -152,16 +152,16 @@ module _ {S : Type 0} (gives : Gives S) where
   pub ran_stop : (r : Result (Unit {0}) ScriptCause) (cause : ScriptCause) (first now : At S) (had has : Option (List ℕ)) (came : List ℕ) (answered : ℕ)
       → IsErrAnd r (λ x. x ≡ cause) → Consumes had has came → length came ≤ most_bytes
       → Stopped gives came false (record { cause = cause; lines = answered }) first now → LastRead piece_bytes (WantsMore answered) came false
-      → RanLines gives had has first now (told r answered)
+      → RanLines gives had has first now (run_result r answered)
   ran_stop r cause first now had has came answered failed read bounded stopped last =
       let (x, is, same) = err_from_is_err_and r failed in
-      subst (λ s. RanLines gives had has first now (told s answered)) (sym (is ∙ ap Err same)) (ran_err cause first now had has came answered read bounded stopped last)
+      subst (λ s. RanLines gives had has first now (run_result s answered)) (sym (is ∙ ap Err same)) (ran_err cause first now had has came answered read bounded stopped last)
 
   -- a run to the input's end
   pub ran_on : (r : Result (Unit {0}) ScriptCause) (first now : At S) (had has : Option (List ℕ)) (came : List ℕ) (old : Progress) (before : At S) (new : Progress)
       → Consumes had has came → length came ≤ most_bytes → IsAtEnd has → Sofar gives first came old before
       → OnOk r (Completes gives old before new now) → IfErr r (λ cause. Stops gives cause true [] old before new now)
-      → old.answered ≤ new.answered → RanLines gives had has first now (told r new.answered)
+      → old.answered ≤ new.answered → RanLines gives had has first now (run_result r new.answered)
   ran_on (Ok _) first now had has came old before new read bounded end so ok err grows =
       record { came = came; ended = true; read = read; bounded = bounded; at_end = λ _. end; leaves = (refl, ok first came so) }
   ran_on (Err cause) first now had has came old before new read bounded end so ok err grows = record {

@@ -89,9 +89,9 @@ pub record IsFresh (at : Progress) : Type 0 where
   pub none_answered : at.answered ≡ 0
 
 -- the result of a run, told with how many lines were answered
-abbrev pub told : Result (Unit {0}) ScriptCause → ℕ → Result ℕ ScriptFault
-told (Ok _) answered = Ok answered
-told (Err cause) answered = Err (record { cause = cause; lines = answered })
+abbrev pub run_result : Result (Unit {0}) ScriptCause → ℕ → Result ℕ ScriptFault
+run_result (Ok _) answered = Ok answered
+run_result (Err cause) answered = Err (record { cause = cause; lines = answered })
 
 -- A step that writes is done, or the run stops at it. Of the writer it is given what says that it failed, and that it may be written.
 pub record Step {S : Type 0} (Done : Progress → At S → Progress → At S → Type 0) (StopsFor : ScriptCause → Progress → At S → Progress → At S → Type 0)

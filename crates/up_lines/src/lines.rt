@@ -1,7 +1,7 @@
 //! Lines cut from a reader, and their answers written to a writer.
 ghost use Rattle.std.specs.Prelude.{◌⊎◌, [], false, true};
 ghost use Rattle.up_lines.specs.LineRuns.{RanLines, RunsLines};
-ghost use Rattle.up_lines.specs.Progress.{Takes, Stops, Completes, Step, IsFresh, told};
+ghost use Rattle.up_lines.specs.Progress.{Takes, Stops, Completes, Step, IsFresh, run_result};
 ghost use Rattle.up_lines.specs.Runs.{EndsRun};
 
 use crate::cut::cut_line;
@@ -74,7 +74,7 @@ fn read_lines<S, I: Interpret<S>, R: Source, W: Sink>(
     requires can_write { W.can_write writer.old }
     ensures ran { RanLines I.gives (R.remaining reader.old) (R.remaining reader.new)
         (record { state = state.old; held = W.contents writer.old })
-        (record { state = state.new; held = W.contents writer.new }) (told result progress.new.answered) }
+        (record { state = state.new; held = W.contents writer.new }) (run_result result progress.new.answered) }
     ensures ends { EndsRun (λ cause. cause) (R.has_ended reader.new)
         (R.has_failed reader.new) (R.can_read reader.new ⊎ R.has_ended reader.new)
         (W.has_failed writer.new) (W.can_write writer.new) result }

@@ -21,7 +21,8 @@ use Rattle.up_machine.specs.State.{Vehicle, State, last_counter, last_report}
 use Rattle.up_machine.specs.Deciding.{check_founded}
 use Rattle.up_machine.specs.Deliveries.{Received, receive_manifest, is_signed_by, report_name, report_names, is_in_order, check_reports, check_new}
 use Rattle.up_machine.specs.Rows.{ecu_row, rows_of}
-use Rattle.up_machine.specs.ManifestRows.{row_of, is_signed_by_row, check_primary, has_row, is_reported_in, follows, follows_its_row, check_reports_of, check_new_of}
+use Rattle.up_machine.specs.ManifestRows.{row_of, is_signed_by_row, check_primary, has_row, is_reported_in, follows, follows_its_row, check_reports_of}
+use Rattle.up_machine.proofs.Parts.{check_new_of}
 use Rattle.up_machine.proofs.Lists.{none_passes, find_alike}
 use Rattle.up_canon.proofs.Steps.{bind-ok, refuse_first_ok}
 

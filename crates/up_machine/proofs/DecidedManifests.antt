@@ -29,7 +29,8 @@ use Rattle.up_machine.specs.Rows.{founding_row, rows_of, vehicle_rows, reply_kep
 use Rattle.up_machine.specs.Sound.{IsSound}
 use Rattle.up_machine.specs.Senders.{ArePlanned}
 use Rattle.up_machine.specs.Decisions.{IsRead, DeliveryData, AreRowsFor, resolve, decide_incoming, GivesDelivered}
-use Rattle.up_machine.specs.ManifestRows.{check_primary, repeated, check_new_of, accepted_rows}
+use Rattle.up_machine.specs.ManifestRows.{check_primary, repeated, accepted_rows}
+use Rattle.up_machine.proofs.Parts.{check_new_of}
 use Rattle.up_canon.proofs.Steps.{bind-ok, bind-err, map_some}
 use Rattle.up_machine.proofs.FoundedRow.{founded_by_row, check_by_row}
 use Rattle.up_machine.proofs.CheckedRows.{bind_same, bind_assoc, received_same, new_same}

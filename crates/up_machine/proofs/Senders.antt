@@ -28,7 +28,8 @@ use Rattle.up_machine.specs.Sound.{IsSound}
 use Rattle.up_machine.specs.Deciding.{check_founded}
 use Rattle.up_machine.specs.Deliveries.{receive_manifest}
 use Rattle.up_machine.specs.Decisions.{IsRead, DeliveryData, decide_incoming, files_named, GivesDelivered}
-use Rattle.up_machine.specs.ManifestRows.{accepted_rows, check_primary, check_new_of, check_reports_of, is_signed_by_row, repeated}
+use Rattle.up_machine.specs.ManifestRows.{accepted_rows, check_primary, check_reports_of, is_signed_by_row, repeated}
+use Rattle.up_machine.proofs.Parts.{check_new_of}
 use Rattle.up_machine.specs.Rows.{founding_row, kept_at, kept_row, reply_kept, rows_of, vehicle_rows}
 use Rattle.up_machine.specs.Senders.{ArePlanned, GivesSender, IsSenderOf, SenderData, TakesMemory}
 use Rattle.up_canon.proofs.Steps.{bind-ok, bind-err, first_ok, map_some}

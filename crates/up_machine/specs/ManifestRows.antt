@@ -1,17 +1,16 @@
 -- What the decision on a manifest computes over the rows of its vehicle. Public contracts speak of two of these alone, to say who sent it and
 -- where memory is taken: of `check_primary` and `repeated`.
-use Rattle.std.specs.Prelude.{ℕ, ◌+◌, ◌||◌, ◌&&◌, ◌==◌, List, [], ◌∷◌, Bool, true, false, not, nat_le, nat_lt, Option, Some, option_map, unwrap_or, map, filter_map, find, bytes_eq, ⊤, Result}
+use Rattle.std.specs.Prelude.{ℕ, ◌+◌, ◌||◌, ◌&&◌, ◌==◌, List, [], ◌∷◌, Bool, true, false, not, nat_lt, Option, Some, option_map, unwrap_or, map, filter_map, find, bytes_eq, ⊤, Result}
 use Rattle.std.specs.List.{list_any}
 use Rattle.std.specs.FinMap as table
 use Rattle.up_canon.specs.Names.{Name, Table, first_repeated}
-use Rattle.up_canon.specs.Steps.{◌>>=◌, unless, refuse_if, refuse_first, if_passes}
+use Rattle.up_canon.specs.Steps.{◌>>=◌, unless, refuse_first, if_passes}
 use Rattle.up_canon.specs.declared.refusal.Refusal.{Refusal}
-use Rattle.up_canon.specs.declared.refusal.Refusal.TheVariants.{WrongPrimary, BadManifestSignature, Stale, UnknownEcu, DuplicateEcu, MissingEcu, BadReportSignature, ReportReplayed}
+use Rattle.up_canon.specs.declared.refusal.Refusal.TheVariants.{WrongPrimary, BadManifestSignature, UnknownEcu, DuplicateEcu, MissingEcu, BadReportSignature, ReportReplayed}
 use Rattle.up_sign.specs.Schemes.{Rules}
 use Rattle.up_sign.specs.Envelopes.{is_accepted}
 use Rattle.up_sign.specs.declared.envelope.Envelope.{Envelope}
 use Rattle.up_manifest.specs.declared.report.SignedReport.{SignedReport}
-use Rattle.up_manifest.specs.declared.manifest.Manifest.{Manifest}
 use Rattle.up_manifest.specs.declared.manifest.Incoming.{Incoming}
 use Rattle.up_roles.specs.declared.repository.Repository.TheVariants.{Director}
 use Rattle.up_roles.specs.declared.targets.Target.{Target}
@@ -37,10 +36,6 @@ use Rattle.up_machine.specs.Replies.{reply_json}
 
 abbrev pub row_of : List EcuRow → Name → Option EcuRow
 row_of rows name = find (λ row. bytes_eq row.ecu name) rows
-
--- the public part of the key of the ECU of the name, no bytes where there is no such ECU
-abbrev pub public_of_row : List EcuRow → Name → List ℕ
-public_of_row rows name = unwrap_or (option_map (λ row. row.public) (row_of rows name)) []
 
 -- the ECU of the name signed it
 abbrev pub is_signed_by_row : Rules → List EcuRow → Name → Envelope → Bool
@@ -79,11 +74,6 @@ check_reports_of k rows reports = do
   missing_ecu ← refuse_first (λ row. MissingEcu row.ecu) (find (λ row. not (is_reported_in reports row)) rows)
   bad_report_signature ← refuse_first (λ r. BadReportSignature (report_name r)) (find (λ r. not (is_signed_by_row k rows (report_name r) r.envelope)) reports)
   refuse_first (λ r. ReportReplayed (report_name r)) (find (λ r. not (follows_its_row rows r)) reports)
-
-unfoldable pub check_new_of : Rules → VehicleRows → Manifest → Result ⊤ Refusal
-check_new_of k rows manifest = do
-  stale ← refuse_if (nat_le manifest.counter rows.vehicle.last) (Stale rows.vehicle.last)
-  check_reports_of k rows.ecus manifest.reports
 
 -- ---- acceptance
 

@@ -7,7 +7,7 @@ use Rattle.serde_json.specs.Read.{read}
 use Rattle.up_canon.specs.Canon.{max_count, canon}
 use Rattle.up_canon.specs.Moments.{MomentTextIsPlain, MomentsAreRead}
 use Rattle.up_canon.specs.Names.{is_ident}
-use Rattle.up_sign.specs.Envelopes.{sealed}
+use Rattle.up_sign.specs.Envelopes.{sealed_envelope}
 use Rattle.up_sign.specs.Formats.{envelope_fits, has_bytes, envelope_text, IsSigned}
 use Rattle.up_sign.specs.Laws.{envelope_value, TextsAreRead, SealedFits}
 use Rattle.up_sign.specs.Schemes.{Rules, IsScheme}
@@ -25,7 +25,7 @@ use Rattle.up_manifest.proofs.Lengths.{envelope-length, manifest-length}
 one_fits : (k : Rules) (secret : List ℕ) → IsTrue (k.secret_fits secret) → IsTrue (list_all k.secret_fits (secret ∷ []))
 one_fits k secret h = ap (λ b. b && true) h
 
-pub report_envelope : SealedFits → (k : Rules) → IsScheme k → (secret : List ℕ) (r : Report) → IsTrue (k.secret_fits secret) → ReportFits r → IsReportEnvelope (sealed k (secret ∷ []) (report_text r)) r
+pub report_envelope : SealedFits → (k : Rules) → IsScheme k → (secret : List ℕ) (r : Report) → IsTrue (k.secret_fits secret) → ReportFits r → IsReportEnvelope (sealed_envelope k (secret ∷ []) (report_text r)) r
 report_envelope sealing k scheme secret r fits limits =
     let sealed_limits = sealing k (secret ∷ []) (report_text r) scheme (one_fits k secret fits) (lit≤ tt) (lit≤ tt) in
     record {
@@ -73,4 +73,4 @@ pub built_means : TextsAreRead → SealedFits → MomentTextIsPlain → MomentsA
 built_means texts sealing plain moments k scheme secret vehicle primary counter es rs fits v p low high few h body utf8 same =
     let signed = manifest_text vehicle primary counter es in
     let limits = sealing k (secret ∷ []) signed scheme (one_fits k secret fits) (lit≤ tt) (lit≤ tt) in
-    body_means texts plain moments vehicle primary counter es rs v p low high few h (sealed k (secret ∷ []) signed) refl limits.0 limits.1 refl body utf8 same
+    body_means texts plain moments vehicle primary counter es rs v p low high few h (sealed_envelope k (secret ∷ []) signed) refl limits.0 limits.1 refl body utf8 same

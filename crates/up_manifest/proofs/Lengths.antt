@@ -7,7 +7,7 @@ use Rattle.std.proofs.lemmas.Fmt.{length-decimal-le}
 use Rattle.hex.specs.Hex.{encode_lower, lower_digits}
 use Rattle.hex.proofs.HexLemmas.{length-encode_with}
 use Rattle.up_canon.specs.Build.{list_with, hashes_value}
-use Rattle.up_canon.specs.Canon.{max_count, text, quoted, escaped}
+use Rattle.up_canon.specs.Canon.{max_count, text, json_string, escape_of}
 use Rattle.up_canon.specs.Moments.{moment_text, MomentTextIsPlain}
 use Rattle.up_canon.specs.Names.{is_from_to, is_short_text, is_ident}
 use Rattle.up_canon.specs.HexText.{is_second_hash}
@@ -17,26 +17,26 @@ use Rattle.up_canon.proofs.Printable.{all-hex}
 use Rattle.up_sign.specs.Formats.{signature_fits, envelope_fits, signature_value, envelope_text}
 use Rattle.up_sign.specs.declared.envelope.Signature.{Signature}
 use Rattle.up_sign.specs.declared.envelope.Envelope.{Envelope}
-use Rattle.up_manifest.specs.Building.{installed_value, report_text, ReportFits, IsReportEnvelope, AreReportEnvelopes, listed, manifest_text}
+use Rattle.up_manifest.specs.Building.{installed_value, report_text, ReportFits, IsReportEnvelope, AreReportEnvelopes, list_text, manifest_text}
 use Rattle.up_manifest.specs.Manifests.{most_reports}
 use Rattle.up_manifest.specs.declared.report.Report.{Report}
 
-escaped-length : (x : ℕ) → length (escaped x) ≤ 2
-escaped-length x = by_test ((x == 34) || (x == 92))
+escape_of-length : (x : ℕ) → length (escape_of x) ≤ 2
+escape_of-length x = by_test ((x == 34) || (x == 92))
   where
     by_test : (b : Bool) → length (cond b (92 ∷ x ∷ []) (x ∷ [])) ≤ 2
     by_test true = lit≤ tt
     by_test false = lit≤ tt
 
-escapes-length : (t : List ℕ) → length (flat_map escaped t) ≤ 2 * length t
+escapes-length : (t : List ℕ) → length (flat_map escape_of t) ≤ 2 * length t
 escapes-length [] = omega arith
-escapes-length (x ∷ t) = omega (arith, length-append (escaped x) (flat_map escaped t), escaped-length x, escapes-length t)
+escapes-length (x ∷ t) = omega (arith, length-append (escape_of x) (flat_map escape_of t), escape_of-length x, escapes-length t)
 
-pub quoted-length : (t : List ℕ) (n : ℕ) → length t ≤ n → length (quoted t) ≤ 2 * n + 2
-quoted-length t n h = omega (arith, length-append (flat_map escaped t) (34 ∷ []), escapes-length t)
+pub json_string-length : (t : List ℕ) (n : ℕ) → length t ≤ n → length (json_string t) ≤ 2 * n + 2
+json_string-length t n h = omega (arith, length-append (flat_map escape_of t) (34 ∷ []), escapes-length t)
 
-hex-length : (xs : List ℕ) (n : ℕ) → length xs ≤ n → length (quoted (encode_lower xs)) ≤ 4 * n + 2
-hex-length xs n h = let size = length-encode_with lower_digits xs in let q = quoted-length (encode_lower xs) (2 * n) (omega arith) in omega (arith, q)
+hex-length : (xs : List ℕ) (n : ℕ) → length xs ≤ n → length (json_string (encode_lower xs)) ≤ 4 * n + 2
+hex-length xs n h = let size = length-encode_with lower_digits xs in let q = json_string-length (encode_lower xs) (2 * n) (omega arith) in omega (arith, q)
 
 pub count-length : (n : ℕ) → n ≤ max_count → length (decimal n) ≤ 16
 count-length n h = length-decimal-le 16 n (lit< tt) (omega arith) (omega arith)
@@ -48,7 +48,7 @@ short-length least most t h =
 
 -- ---- signatures
 
-signature-spelled : (s : Signature) → text (signature_value s) ≡ codes "{\"keyid\":" ++ (quoted s.keyid ++ (codes ",\"method\":" ++ (quoted s.method ++ (codes ",\"sig\":" ++ (quoted (encode_lower s.sig) ++ codes "}")))))
+signature-spelled : (s : Signature) → text (signature_value s) ≡ codes "{\"keyid\":" ++ (json_string s.keyid ++ (codes ",\"method\":" ++ (json_string s.method ++ (codes ",\"sig\":" ++ (json_string (encode_lower s.sig) ++ codes "}")))))
 unfolding signature_value
 signature-spelled s = refl
 
@@ -59,10 +59,10 @@ pub signature-length : (s : Signature) → signature_fits s ≡ true → length 
 signature-length s h =
     let p = and_parts (is_short_text 1 128 s.keyid) _ h in
     let q = and_parts (is_short_text 1 64 s.method) _ p.1 in
-    let k = quoted-length s.keyid 128 (short-length 1 128 s.keyid p.0) in
-    let m = quoted-length s.method 64 (short-length 1 64 s.method q.0) in
+    let k = json_string-length s.keyid 128 (short-length 1 128 s.keyid p.0) in
+    let m = json_string-length s.method 64 (short-length 1 64 s.method q.0) in
     let g = hex-length s.sig 512 (within 1 512 (length s.sig) q.1).1 in
-    let sum = ap length (signature-spelled s) ∙ sum-seven (codes "{\"keyid\":") (quoted s.keyid) (codes ",\"method\":") (quoted s.method) (codes ",\"sig\":") (quoted (encode_lower s.sig)) (codes "}") in
+    let sum = ap length (signature-spelled s) ∙ sum-seven (codes "{\"keyid\":") (json_string s.keyid) (codes ",\"method\":") (json_string s.method) (codes ",\"sig\":") (json_string (encode_lower s.sig)) (codes "}") in
     omega (arith, sum, k, m, g)
 
 -- ---- envelopes of one signature
@@ -91,22 +91,22 @@ envelope-length e n one h small =
 abbrev needs_none : ℕ → Bool
 needs_none x = not ((x == 34) || (x == 92))
 
-unescaped : (t : List ℕ) → list_all needs_none t ≡ true → length (flat_map escaped t) ≡ length t
+unescaped : (t : List ℕ) → list_all needs_none t ≡ true → length (flat_map escape_of t) ≡ length t
 unescaped [] h = refl
 unescaped (x ∷ t) h =
     let p = and_parts (needs_none x) _ h in
     let one = by_test ((x == 34) || (x == 92)) p.0 in
-    omega (arith, length-append (escaped x) (flat_map escaped t), one, unescaped t p.1)
+    omega (arith, length-append (escape_of x) (flat_map escape_of t), one, unescaped t p.1)
   where
     by_test : (b : Bool) → not b ≡ true → length (cond b (92 ∷ x ∷ []) (x ∷ [])) ≡ 1
     by_test true e = cc
     by_test false e = refl
 
-hash-length : (xs : List ℕ) → list_all (λ x. nat_lt x 256) xs ≡ true → length (quoted (encode_lower xs)) ≡ 2 * length xs + 2
+hash-length : (xs : List ℕ) → list_all (λ x. nat_lt x 256) xs ≡ true → length (json_string (encode_lower xs)) ≡ 2 * length xs + 2
 hash-length xs h =
     let size = length-encode_with lower_digits xs in
     let plain = unescaped (encode_lower xs) (all-hex needs_none refl xs h) in
-    omega (arith, length-append (flat_map escaped (encode_lower xs)) (34 ∷ []), plain, size)
+    omega (arith, length-append (flat_map escape_of (encode_lower xs)) (34 ∷ []), plain, size)
 
 pub sum-nested : (a b c d e : List ℕ) → length (a ++ (b ++ (c ++ (d ++ e)))) ≡ length a + (length b + (length c + (length d + length e)))
 sum-nested a b c d e = simp length-append
@@ -114,29 +114,29 @@ sum-nested a b c d e = simp length-append
 pub hashes-length : (xs : List ℕ) (o : Option (List ℕ)) → length xs ≡ 32 → list_all (λ x. nat_lt x 256) xs ≡ true → is_second_hash o ≡ true → length (text (hashes_value xs o)) ≤ 220
 hashes-length xs None size bytes h =
     let hash = hash-length xs bytes in
-    let spelled : text (hashes_value xs None) ≡ codes "{\"sha256\":" ++ (quoted (encode_lower xs) ++ codes "}") = refl in
-    omega (arith, ap length spelled, length-append (codes "{\"sha256\":") (quoted (encode_lower xs) ++ codes "}"), length-append (quoted (encode_lower xs)) (codes "}"), hash)
+    let spelled : text (hashes_value xs None) ≡ codes "{\"sha256\":" ++ (json_string (encode_lower xs) ++ codes "}") = refl in
+    omega (arith, ap length spelled, length-append (codes "{\"sha256\":") (json_string (encode_lower xs) ++ codes "}"), length-append (json_string (encode_lower xs)) (codes "}"), hash)
 hashes-length xs (Some ys) size bytes h =
     let first = hash-length xs bytes in
     let whole = sha512_size ys h in
     let second = hash-length ys (and_parts (length ys == 64) _ h).1 in
-    let spelled : text (hashes_value xs (Some ys)) ≡ codes "{\"sha256\":" ++ (quoted (encode_lower xs) ++ (codes ",\"sha512\":" ++ (quoted (encode_lower ys) ++ codes "}"))) = refl in
-    omega (arith, ap length spelled ∙ sum-nested (codes "{\"sha256\":") (quoted (encode_lower xs)) (codes ",\"sha512\":") (quoted (encode_lower ys)) (codes "}"), first, second)
+    let spelled : text (hashes_value xs (Some ys)) ≡ codes "{\"sha256\":" ++ (json_string (encode_lower xs) ++ (codes ",\"sha512\":" ++ (json_string (encode_lower ys) ++ codes "}"))) = refl in
+    omega (arith, ap length spelled ∙ sum-nested (codes "{\"sha256\":") (json_string (encode_lower xs)) (codes ",\"sha512\":") (json_string (encode_lower ys)) (codes "}"), first, second)
 
-installed-spelled : (r : Report) → text (installed_value r.image) ≡ codes "{\"file\":" ++ (quoted r.image.file ++ (codes ",\"hashes\":" ++ (text (hashes_value r.image.sha256 r.image.sha512) ++ (codes ",\"length\":" ++ (decimal r.image.length ++ codes "}")))))
+installed-spelled : (r : Report) → text (installed_value r.image) ≡ codes "{\"file\":" ++ (json_string r.image.file ++ (codes ",\"hashes\":" ++ (text (hashes_value r.image.sha256 r.image.sha512) ++ (codes ",\"length\":" ++ (decimal r.image.length ++ codes "}")))))
 installed-spelled r = refl
 
 installed-length : (r : Report) → ReportFits r → length (text (installed_value r.image)) ≤ 540
 installed-length r h =
     let size = h.sha256 in
-    let file = quoted-length r.image.file 128 (within 1 128 (length r.image.file) (and_parts (is_from_to 1 128 (length r.image.file)) _ h.file).0).1 in
+    let file = json_string-length r.image.file 128 (within 1 128 (length r.image.file) (and_parts (is_from_to 1 128 (length r.image.file)) _ h.file).0).1 in
     let hash = hashes-length r.image.sha256 r.image.sha512 size h.bytes h.sha512 in
     let number = count-length r.image.length h.size in
-    let sum = ap length (installed-spelled r) ∙ sum-seven (codes "{\"file\":") (quoted r.image.file) (codes ",\"hashes\":") (text (hashes_value r.image.sha256 r.image.sha512)) (codes ",\"length\":") (decimal r.image.length) (codes "}") in
+    let sum = ap length (installed-spelled r) ∙ sum-seven (codes "{\"file\":") (json_string r.image.file) (codes ",\"hashes\":") (text (hashes_value r.image.sha256 r.image.sha512)) (codes ",\"length\":") (decimal r.image.length) (codes "}") in
     omega (arith, sum, file, hash, number)
 
-pub report-spelled : (r : Report) → report_text r ≡ codes "{\"attack\":" ++ (quoted r.attack ++ (codes ",\"counter\":" ++ (decimal r.counter ++ (codes ",\"ecu\":" ++ (quoted r.ecu ++ (codes ",\"image\":" ++
-    (text (installed_value r.image) ++ (codes ",\"time\":" ++ (quoted (moment_text r.time) ++ codes ",\"type\":\"report\"}")))))))))
+pub report-spelled : (r : Report) → report_text r ≡ codes "{\"attack\":" ++ (json_string r.attack ++ (codes ",\"counter\":" ++ (decimal r.counter ++ (codes ",\"ecu\":" ++ (json_string r.ecu ++ (codes ",\"image\":" ++
+    (text (installed_value r.image) ++ (codes ",\"time\":" ++ (json_string (moment_text r.time) ++ codes ",\"type\":\"report\"}")))))))))
 unfolding report_text
 report-spelled r = refl
 
@@ -146,12 +146,12 @@ sum-eleven a b c d e f g h i j k = simp length-append
 
 pub report-length : MomentTextIsPlain → (r : Report) → ReportFits r → length (report_text r) ≤ 1350
 report-length law r h =
-    let attack = quoted-length r.attack 256 (within 0 256 (length r.attack) (and_parts (is_from_to 0 256 (length r.attack)) _ h.attack).0).1 in
+    let attack = json_string-length r.attack 256 (within 0 256 (length r.attack) (and_parts (is_from_to 0 256 (length r.attack)) _ h.attack).0).1 in
     let number = count-length r.counter h.counter in
-    let ecu = quoted-length r.ecu 64 (within 1 64 (length r.ecu) (and_parts (is_from_to 1 64 (length r.ecu)) _ h.ecu).0).1 in
+    let ecu = json_string-length r.ecu 64 (within 1 64 (length r.ecu) (and_parts (is_from_to 1 64 (length r.ecu)) _ h.ecu).0).1 in
     let image = installed-length r h in
-    let time = quoted-length (moment_text r.time) 20 (short-length 20 20 (moment_text r.time) (law r.time h.time).0) in
-    let sum = ap length (report-spelled r) ∙ sum-eleven (codes "{\"attack\":") (quoted r.attack) (codes ",\"counter\":") (decimal r.counter) (codes ",\"ecu\":") (quoted r.ecu) (codes ",\"image\":") (text (installed_value r.image)) (codes ",\"time\":") (quoted (moment_text r.time)) (codes ",\"type\":\"report\"}") in
+    let time = json_string-length (moment_text r.time) 20 (short-length 20 20 (moment_text r.time) (law r.time h.time).0) in
+    let sum = ap length (report-spelled r) ∙ sum-eleven (codes "{\"attack\":") (json_string r.attack) (codes ",\"counter\":") (decimal r.counter) (codes ",\"ecu\":") (json_string r.ecu) (codes ",\"image\":") (text (installed_value r.image)) (codes ",\"time\":") (json_string (moment_text r.time)) (codes ",\"type\":\"report\"}") in
     omega (arith, sum, attack, number, ecu, image, time)
 
 -- ---- manifests
@@ -170,18 +170,18 @@ joined-length law (e ∷ []) (r ∷ rs) h = omega (arith, report_envelope-length
 joined-length law (e ∷ f ∷ es) (r ∷ rs) h =
     omega (arith, length-append (envelope_text e) (44 ∷ join_with_byte 44 (map envelope_text (f ∷ es))), report_envelope-length law e r h.0, joined-length law (f ∷ es) rs h.1)
 
-listed-length : (ts : List (List ℕ)) (n : ℕ) → length (join_with_byte 44 ts) ≤ n → length (listed ts) ≤ n + 2
-listed-length ts n h = omega (arith, length-append (join_with_byte 44 ts) (93 ∷ []))
+list_text-length : (ts : List (List ℕ)) (n : ℕ) → length (join_with_byte 44 ts) ≤ n → length (list_text ts) ≤ n + 2
+list_text-length ts n h = omega (arith, length-append (join_with_byte 44 ts) (93 ∷ []))
 
 pub manifest-length : MomentTextIsPlain → (vehicle primary : List ℕ) (counter : ℕ) (es : List Envelope) (rs : List Report) → AreReportEnvelopes es rs
     → is_ident vehicle ≡ true → is_ident primary ≡ true → counter ≤ max_count → length es ≤ most_reports → length (manifest_text vehicle primary counter es) ≤ 250_000
 unfolding manifest_text
 manifest-length law vehicle primary counter es rs h v p n few =
-    let name = quoted-length vehicle 64 (within 1 64 (length vehicle) (and_parts (is_from_to 1 64 (length vehicle)) _ v).0).1 in
-    let other = quoted-length primary 64 (within 1 64 (length primary) (and_parts (is_from_to 1 64 (length primary)) _ p).0).1 in
+    let name = json_string-length vehicle 64 (within 1 64 (length vehicle) (and_parts (is_from_to 1 64 (length vehicle)) _ v).0).1 in
+    let other = json_string-length primary 64 (within 1 64 (length primary) (and_parts (is_from_to 1 64 (length primary)) _ p).0).1 in
     let number = count-length counter n in
-    let reports = listed-length (map envelope_text es) (3886 * length es) (joined-length law es rs h) in
-    let sum = sum-nine (codes "{\"counter\":") (decimal counter) (codes ",\"primary\":") (quoted primary) (codes ",\"reports\":") (listed (map envelope_text es)) (codes ",\"type\":\"manifest\",\"vehicle\":") (quoted vehicle) (codes "}") in
+    let reports = list_text-length (map envelope_text es) (3886 * length es) (joined-length law es rs h) in
+    let sum = sum-nine (codes "{\"counter\":") (decimal counter) (codes ",\"primary\":") (json_string primary) (codes ",\"reports\":") (list_text (map envelope_text es)) (codes ",\"type\":\"manifest\",\"vehicle\":") (json_string vehicle) (codes "}") in
     omega (arith, sum, name, other, number, reports)
   where
     sum-nine : (a b c d e f g h i : List ℕ) → length (a ++ b ++ c ++ d ++ e ++ f ++ g ++ h ++ i)

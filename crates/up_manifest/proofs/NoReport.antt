@@ -5,7 +5,7 @@ use Rattle.std.specs.Cmp.Lexicographic.{bytes_decides}
 use Rattle.std.specs.Str.Pattern.{LacksTextAt}
 use Rattle.serde_json.specs.Data.{Data, null, boolean, number, string, array, object}
 use Rattle.serde_json.specs.Find as json
-use Rattle.up_canon.specs.Canon.{has_canon, text, quoted}
+use Rattle.up_canon.specs.Canon.{has_canon, text, json_string}
 use Rattle.up_canon.specs.Meaning.{HasObject, HasHex, MeansIfAny}
 use Rattle.up_canon.specs.Members.{text_in, member_in}
 use Rattle.up_canon.specs.Readers.{word_in}
@@ -47,7 +47,7 @@ name_stands signed r hash is has =
     let hashes = in_text (codes "hashes") m.image.hashes m.image_value (object_is m.image_value m.image.hashes (codes "hashes") m.image.has_hashes) in
     let second : HasHex 128 128 m.image.hashes (codes "sha512") hash = subst (MeansIfAny (HasHex 128 128 m.image.hashes (codes "sha512"))) has m.image.sha512 in
     let name = in_text (codes "sha512") (string second.digits) m.image.hashes second.has_digits in
-    let bare : IsPart (codes "sha512") (quoted (codes "sha512")) = record { before = 34 ∷ []; behind = 34 ∷ []; at = refl } in
+    let bare : IsPart (codes "sha512") (json_string (codes "sha512")) = record { before = 34 ∷ []; behind = 34 ∷ []; at = refl } in
     let in_hashes = part_of_part _ _ _ bare name.key in
     let in_image = part_of_part _ _ _ in_hashes hashes.value in
     let in_report = part_of_part _ _ _ in_image image.value in

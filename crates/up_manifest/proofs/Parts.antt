@@ -7,7 +7,7 @@ use Rattle.std.proofs.lemmas.List.{drop_at}
 use Rattle.std.proofs.lemmas.Map.Lookups.{exact_bytes}
 use Rattle.serde_json.specs.Data.{Data, null, boolean, number, string, array, object, Members, no_members, member}
 use Rattle.serde_json.specs.Find.{get, get_member}
-use Rattle.up_canon.specs.Canon.{text, quoted, members_text, more_members_text}
+use Rattle.up_canon.specs.Canon.{text, json_string, members_text, more_members_text}
 
 -- the part, with what stands before and behind it
 pub record IsPart (part whole : List ℕ) : Type 0 where
@@ -38,23 +38,23 @@ lacks part whole none s =
 
 -- the quoted key and the text of its value
 pub record HoldsMember (k : List ℕ) (v : Data) (whole : List ℕ) : Type 0 where
-  pub key : IsPart (quoted k) whole
+  pub key : IsPart (json_string k) whole
   pub value : IsPart (text v) whole
 
 behind_front : (k : List ℕ) (v : Data) (front rest : List ℕ) → HoldsMember k v rest → HoldsMember k v (front ++ rest)
-behind_front k v front rest h = record { key = later (quoted k) front rest h.key; value = later (text v) front rest h.value }
+behind_front k v front rest h = record { key = later (json_string k) front rest h.key; value = later (text v) front rest h.value }
 
-here : (k l : List ℕ) (v e : Data) (rest : List ℕ) → k ≡ l → e ≡ v → HoldsMember k v (quoted l ++ 58 ∷ (text e ++ rest))
+here : (k l : List ℕ) (v e : Data) (rest : List ℕ) → k ≡ l → e ≡ v → HoldsMember k v (json_string l ++ 58 ∷ (text e ++ rest))
 here k l v e rest same is = record {
-  key = record { before = []; behind = 58 ∷ (text e ++ rest); at = ap (λ n. quoted n ++ 58 ∷ (text e ++ rest)) (sym same) };
-  value = record { before = quoted l ++ 58 ∷ []; behind = rest; at = ap (λ d. quoted l ++ 58 ∷ (text d ++ rest)) is ∙ sym (append_assoc (quoted l) (58 ∷ []) (text v ++ rest)) };
+  key = record { before = []; behind = 58 ∷ (text e ++ rest); at = ap (λ n. json_string n ++ 58 ∷ (text e ++ rest)) (sym same) };
+  value = record { before = json_string l ++ 58 ∷ []; behind = rest; at = ap (λ d. json_string l ++ 58 ∷ (text d ++ rest)) is ∙ sym (append_assoc (json_string l) (58 ∷ []) (text v ++ rest)) };
 }
 
-there : (k l : List ℕ) (v e : Data) (rest : List ℕ) → HoldsMember k v rest → HoldsMember k v (quoted l ++ 58 ∷ (text e ++ rest))
-there k l v e rest h = behind_front k v (quoted l) (58 ∷ (text e ++ rest)) (behind_front k v (58 ∷ []) (text e ++ rest) (behind_front k v (text e) rest h))
+there : (k l : List ℕ) (v e : Data) (rest : List ℕ) → HoldsMember k v rest → HoldsMember k v (json_string l ++ 58 ∷ (text e ++ rest))
+there k l v e rest h = behind_front k v (json_string l) (58 ∷ (text e ++ rest)) (behind_front k v (58 ∷ []) (text e ++ rest) (behind_front k v (text e) rest h))
 
 by_order : (k l : List ℕ) (v e : Data) (ms : Members) (o : Ordering) → slice_cmp nat_cmp k l ≡ o → match_ordering o (get_member k ms) (Some e) (get_member k ms) ≡ Some v
-    → (get_member k ms ≡ Some v → HoldsMember k v (more_members_text ms)) → HoldsMember k v (quoted l ++ 58 ∷ (text e ++ more_members_text ms))
+    → (get_member k ms ≡ Some v → HoldsMember k v (more_members_text ms)) → HoldsMember k v (json_string l ++ 58 ∷ (text e ++ more_members_text ms))
 by_order k l v e ms Less is h more = there k l v e (more_members_text ms) (more h)
 by_order k l v e ms Equal is h more = let same : e ≡ v = cc in here k l v e (more_members_text ms) (exact_bytes k l is) same
 by_order k l v e ms Greater is h more = there k l v e (more_members_text ms) (more h)
@@ -62,7 +62,7 @@ by_order k l v e ms Greater is h more = there k l v e (more_members_text ms) (mo
 among_more : (k : List ℕ) (v : Data) (ms : Members) → get_member k ms ≡ Some v → HoldsMember k v (more_members_text ms)
 among_more k v no_members h = cc
 among_more k v (member l e ms) h =
-    behind_front k v (44 ∷ []) (quoted l ++ 58 ∷ (text e ++ more_members_text ms)) (by_order k l v e ms (slice_cmp nat_cmp k l) refl h (λ q. among_more k v ms q))
+    behind_front k v (44 ∷ []) (json_string l ++ 58 ∷ (text e ++ more_members_text ms)) (by_order k l v e ms (slice_cmp nat_cmp k l) refl h (λ q. among_more k v ms q))
 
 among : (k : List ℕ) (v : Data) (ms : Members) → get_member k ms ≡ Some v → HoldsMember k v (members_text ms)
 among k v no_members h = cc

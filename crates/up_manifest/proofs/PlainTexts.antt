@@ -10,24 +10,24 @@ use Rattle.std.proofs.lemmas.Fmt.{decimal-digits_value}
 use Rattle.std.proofs.lemmas.List.Folds.{list_all-append}
 use Rattle.std.proofs.lemmas.Grind.{flat_map-append}
 use Rattle.std.proofs.lemmas.Str.Parse.{IsNumeralModel}
-use Rattle.up_canon.specs.Canon.{is_printable, is_printable_text, escaped, quoted}
+use Rattle.up_canon.specs.Canon.{is_printable, is_printable_text, escape_of, json_string}
 use Rattle.up_canon.proofs.Printable.{all-more}
 use Rattle.up_manifest.specs.Plain.{is_direct}
 
 -- ---- texts in quotes
 
-direct-escaped : (x : ℕ) → is_direct x ≡ true → escaped x ≡ x ∷ []
-direct-escaped x h = by_test ((x == 34) || (x == 92)) (and_parts (is_printable x) _ h).1
+direct-escape_of : (x : ℕ) → is_direct x ≡ true → escape_of x ≡ x ∷ []
+direct-escape_of x h = by_test ((x == 34) || (x == 92)) (and_parts (is_printable x) _ h).1
   where
     by_test : (b : Bool) → not b ≡ true → cond b (92 ∷ x ∷ []) (x ∷ []) ≡ x ∷ []
     by_test true e = cc
     by_test false e = refl
 
-unescaped : (t : List ℕ) → list_all is_direct t ≡ true → flat_map escaped t ≡ t
+unescaped : (t : List ℕ) → list_all is_direct t ≡ true → flat_map escape_of t ≡ t
 unescaped [] h = refl
 unescaped (x ∷ t) h =
     let p = and_parts (is_direct x) _ h in
-    ap₂ (λ (a b : List ℕ). a ++ b) (direct-escaped x p.0) (unescaped t p.1)
+    ap₂ (λ (a b : List ℕ). a ++ b) (direct-escape_of x p.0) (unescaped t p.1)
 
 pub direct-prints : (t : List ℕ) → list_all is_direct t ≡ true → is_printable_text t ≡ true
 direct-prints t h = all-more is_direct is_printable t (λ x k. (and_parts (is_printable x) _ k).0) h
@@ -36,22 +36,22 @@ pub printable-more : (before t : List ℕ) → is_printable_text before ≡ true
 printable-more before t b h = list_all-append is_printable before t ∙ ap₂ (λ x y. x && y) b h
 
 -- a text between its quotes, with what stands behind them
-pub direct-quoted : (t rest : List ℕ) → list_all is_direct t ≡ true → 34 ∷ (t ++ 34 ∷ rest) ≡ quoted t ++ rest
-direct-quoted t rest h = ap (λ (l : List ℕ). 34 ∷ l) (ap (λ (s : List ℕ). s ++ 34 ∷ rest) (sym (unescaped t h)) ∙ sym (append_assoc (flat_map escaped t) (34 ∷ []) rest))
+pub direct-json_string : (t rest : List ℕ) → list_all is_direct t ≡ true → 34 ∷ (t ++ 34 ∷ rest) ≡ json_string t ++ rest
+direct-json_string t rest h = ap (λ (l : List ℕ). 34 ∷ l) (ap (λ (s : List ℕ). s ++ 34 ∷ rest) (sym (unescaped t h)) ∙ sym (append_assoc (flat_map escape_of t) (34 ∷ []) rest))
 
 -- a piece behind a text that was read: as it stands escaped, or of bytes that stand for themselves
-pub escaped-more : (before t rest : List ℕ) → flat_map escaped before ++ (flat_map escaped t ++ rest) ≡ flat_map escaped (before ++ t) ++ rest
-escaped-more before t rest =
-    sym (append_assoc (flat_map escaped before) (flat_map escaped t) rest) ∙ ap (λ (s : List ℕ). s ++ rest) (sym (flat_map-append escaped before t))
+pub escape_of-more : (before t rest : List ℕ) → flat_map escape_of before ++ (flat_map escape_of t ++ rest) ≡ flat_map escape_of (before ++ t) ++ rest
+escape_of-more before t rest =
+    sym (append_assoc (flat_map escape_of before) (flat_map escape_of t) rest) ∙ ap (λ (s : List ℕ). s ++ rest) (sym (flat_map-append escape_of before t))
 
-pub direct-more : (before t rest : List ℕ) → list_all is_direct t ≡ true → flat_map escaped before ++ (t ++ rest) ≡ flat_map escaped (before ++ t) ++ rest
+pub direct-more : (before t rest : List ℕ) → list_all is_direct t ≡ true → flat_map escape_of before ++ (t ++ rest) ≡ flat_map escape_of (before ++ t) ++ rest
 direct-more before t rest h =
-    let front = flat_map escaped before in
-    ap (λ (s : List ℕ). front ++ (s ++ rest)) (sym (unescaped t h)) ∙ escaped-more before t rest
+    let front = flat_map escape_of before in
+    ap (λ (s : List ℕ). front ++ (s ++ rest)) (sym (unescaped t h)) ∙ escape_of-more before t rest
 
 -- the closing quote
-pub escaped-ends : (t rest : List ℕ) → 34 ∷ (flat_map escaped t ++ 34 ∷ rest) ≡ quoted t ++ rest
-escaped-ends t rest = ap (λ (l : List ℕ). 34 ∷ l) (sym (append_assoc (flat_map escaped t) (34 ∷ []) rest))
+pub escape_of-ends : (t rest : List ℕ) → 34 ∷ (flat_map escape_of t ++ 34 ∷ rest) ≡ json_string t ++ rest
+escape_of-ends t rest = ap (λ (l : List ℕ). 34 ∷ l) (sym (append_assoc (flat_map escape_of t) (34 ∷ []) rest))
 
 -- what stands in front of the first that fails
 pub front-passes : (p : ℕ → Bool) (xs : List ℕ) → list_all p (take (prefix_len p xs) xs) ≡ true

@@ -6,7 +6,7 @@ use Rattle.std.proofs.lemmas.Bool.Decides.{nat_tests}
 use Rattle.serde_json.specs.Data.{Data, string, depth, items_depth}
 use Rattle.serde_json.specs.View.{items_of}
 use Rattle.up_canon.specs.Build.{object_with, list_with, count_value, hashes_value}
-use Rattle.up_canon.specs.Canon.{max_count, max_nesting, is_printable, is_plain, items_are_plain, has_canon, canon, text, quoted}
+use Rattle.up_canon.specs.Canon.{max_count, max_nesting, is_printable, is_plain, items_are_plain, has_canon, canon, text, json_string}
 use Rattle.up_canon.specs.Moments.{moment_text, MomentTextIsPlain, MomentsAreRead}
 use Rattle.up_canon.specs.Names.{is_ident}
 use Rattle.up_sign.specs.Formats.{envelope_fits, has_bytes, IsSigned, envelope_text}
@@ -14,7 +14,7 @@ use Rattle.up_sign.specs.Laws.{envelope_value, TextsAreRead}
 use Rattle.up_canon.specs.Meaning.{EachMeans}
 use Rattle.up_sign.specs.Meaning.{MeansEnvelope}
 use Rattle.up_sign.specs.declared.envelope.Envelope.{Envelope}
-use Rattle.up_manifest.specs.Building.{installed_value, report_value, report_text, ReportFits, IsReportEnvelope, AreReportEnvelopes, listed, manifest_text, signed_reports}
+use Rattle.up_manifest.specs.Building.{installed_value, report_value, report_text, ReportFits, IsReportEnvelope, AreReportEnvelopes, list_text, manifest_text, signed_reports}
 use Rattle.up_manifest.specs.Manifests.{most_reports}
 use Rattle.up_manifest.specs.Meaning.{MeansInstalled, MeansReport, MeansSignedReport, MeansManifest}
 use Rattle.up_manifest.specs.declared.report.Report.{Report}
@@ -178,9 +178,9 @@ pub manifest_value-text : (vehicle primary : List ℕ) (counter : ℕ) (es : Lis
     → text (manifest_value vehicle primary counter (zipped es rs)) ≡ manifest_text vehicle primary counter es
 unfolding manifest_text
 manifest_value-text vehicle primary counter es rs h =
-    ap (λ (t : List ℕ). codes "{\"counter\":" ++ (decimal counter ++ (codes ",\"primary\":" ++ (quoted primary ++ (codes ",\"reports\":" ++ ((91 ∷ t) ++ (codes ",\"type\":\"manifest\",\"vehicle\":" ++ (quoted vehicle ++ codes "}"))))))))
+    ap (λ (t : List ℕ). codes "{\"counter\":" ++ (decimal counter ++ (codes ",\"primary\":" ++ (json_string primary ++ (codes ",\"reports\":" ++ ((91 ∷ t) ++ (codes ",\"type\":\"manifest\",\"vehicle\":" ++ (json_string vehicle ++ codes "}"))))))))
     (listed_text pair_value (zipped es rs) ∙ ap (λ (ts : List (List ℕ)). join_with_byte 44 ts ++ 93 ∷ []) (pairs_texts es rs h))
-    ∙ sym (right-nine (codes "{\"counter\":") (decimal counter) (codes ",\"primary\":") (quoted primary) (codes ",\"reports\":") (listed (map envelope_text es)) (codes ",\"type\":\"manifest\",\"vehicle\":") (quoted vehicle) (codes "}"))
+    ∙ sym (right-nine (codes "{\"counter\":") (decimal counter) (codes ",\"primary\":") (json_string primary) (codes ",\"reports\":") (list_text (map envelope_text es)) (codes ",\"type\":\"manifest\",\"vehicle\":") (json_string vehicle) (codes "}"))
 
 pub manifest_plain : MomentTextIsPlain → (vehicle primary : List ℕ) (counter : ℕ) (es : List Envelope) (rs : List Report) → AreReportEnvelopes es rs
     → list_all is_printable vehicle ≡ true → list_all is_printable primary ≡ true → counter ≤ max_count → is_plain (manifest_value vehicle primary counter (zipped es rs)) ≡ true

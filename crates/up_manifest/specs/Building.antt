@@ -4,11 +4,11 @@ use Rattle.std.specs.List.{list_all, join_with_byte}
 use Rattle.serde_json.specs.Data.{Data, string}
 use Rattle.serde_json.specs.Read.{read}
 use Rattle.up_canon.specs.Build.{object_with, count_value, hashes_value}
-use Rattle.up_canon.specs.Canon.{max_count, text, quoted}
+use Rattle.up_canon.specs.Canon.{max_count, text, json_string}
 use Rattle.up_canon.specs.HexText.{is_second_hash}
 use Rattle.up_canon.specs.Moments.{last_moment, moment_text}
 use Rattle.up_canon.specs.Names.{is_ident, is_file_name, is_note}
-use Rattle.up_sign.specs.Envelopes.{sealed}
+use Rattle.up_sign.specs.Envelopes.{sealed_envelope}
 use Rattle.up_sign.specs.Formats.{envelope_fits, has_bytes, envelope_text}
 use Rattle.up_sign.specs.Schemes.{Rules, is_byte}
 use Rattle.up_sign.specs.declared.envelope.Envelope.{Envelope}
@@ -62,7 +62,7 @@ AreReportEnvelopes (e ∷ es) (r ∷ rs) = IsReportEnvelope e r × AreReportEnve
 
 -- what builds a report answers: an envelope over the report's text, which is read again and means that report
 pub record BuildsReport {E : Type 0} (k : Rules) (secret : List ℕ) (report : Report) (r : Result Envelope E) : Type 0 where
-  pub value : IfOk r (λ e. e ≡ sealed k (secret ∷ []) (report_text report))
+  pub value : IfOk r (λ e. e ≡ sealed_envelope k (secret ∷ []) (report_text report))
   pub envelope : IfOk r (λ e. IsReportEnvelope e report)
   pub limits : IfOk r (λ e. IsTrue (envelope_fits e))
   pub means : IfOk r (λ e. (d : Data) × (read (envelope_text e) ≡ Some d) × MeansSignedReport d (record { report = report; envelope = e }))
@@ -70,18 +70,18 @@ pub record BuildsReport {E : Type 0} (k : Rules) (secret : List ℕ) (report : R
 -- ---- manifests
 
 -- texts in a list, with commas between
-abbrev pub listed : List (List ℕ) → List ℕ
-listed ts = 91 ∷ join_with_byte 44 ts ++ 93 ∷ []
+abbrev pub list_text : List (List ℕ) → List ℕ
+list_text ts = 91 ∷ join_with_byte 44 ts ++ 93 ∷ []
 
 -- the first two members
 abbrev pub primary_text : List ℕ → ℕ → List ℕ
-primary_text primary counter = codes "{\"counter\":" ++ decimal counter ++ codes ",\"primary\":" ++ quoted primary
+primary_text primary counter = codes "{\"counter\":" ++ decimal counter ++ codes ",\"primary\":" ++ json_string primary
 
 -- the text that a Primary signs, in which the reports' envelopes stand as they are
 unfoldable pub manifest_text : List ℕ → List ℕ → ℕ → List Envelope → List ℕ
 manifest_text vehicle primary counter reports =
-    codes "{\"counter\":" ++ decimal counter ++ codes ",\"primary\":" ++ quoted primary ++ codes ",\"reports\":" ++ listed (map envelope_text reports)
-    ++ codes ",\"type\":\"manifest\",\"vehicle\":" ++ quoted vehicle ++ codes "}"
+    codes "{\"counter\":" ++ decimal counter ++ codes ",\"primary\":" ++ json_string primary ++ codes ",\"reports\":" ++ list_text (map envelope_text reports)
+    ++ codes ",\"type\":\"manifest\",\"vehicle\":" ++ json_string vehicle ++ codes "}"
 
 -- the reports with their envelopes
 abbrev pub signed_reports : List Report → List Envelope → List SignedReport
@@ -91,7 +91,7 @@ signed_reports (r ∷ rs) (e ∷ es) = record { report = r; envelope = e } ∷ s
 
 -- the manifest in the envelope that its Primary signs
 abbrev pub sealed_manifest : Rules → List ℕ → List ℕ → List ℕ → ℕ → List Envelope → Envelope
-sealed_manifest k secret vehicle primary counter reports = sealed k (secret ∷ []) (manifest_text vehicle primary counter reports)
+sealed_manifest k secret vehicle primary counter reports = sealed_envelope k (secret ∷ []) (manifest_text vehicle primary counter reports)
 
 -- what was built of these
 abbrev pub built : Rules → List ℕ → List ℕ → List ℕ → ℕ → List Report → List Envelope → Incoming

@@ -2,7 +2,7 @@
 ghost use Rattle.std.specs.Prelude.{◌≡◌, ◌++◌, IsTrue, IfSome, IfOk, OnOk, MatchBool, true, not, decimal, flat_map, length, string_bytes, take, slice_index, position};
 ghost use Rattle.std.specs.List.{list_all};
 ghost use Rattle.hex.specs.Hex.{encode_lower};
-ghost use Rattle.up_canon.specs.Canon.{is_printable_text, escaped as escaped_of, quoted};
+ghost use Rattle.up_canon.specs.Canon.{is_printable_text, escape_of as escaped_of, json_string};
 ghost use Rattle.up_canon.specs.HexText.{is_lower_digit as is_lower_digit_of};
 ghost use Rattle.up_manifest.specs.Plain.{is_direct as is_direct_of};
 ghost use Rattle.up_sign.specs.Schemes.{is_byte};
@@ -83,7 +83,7 @@ impl<'a> Cursor<'a> {
 
     /// Takes a text in quotes in which each byte stands for itself: printable ASCII but quotes and backslashes.
     pub fn quoted(&mut self) -> Result<&'a str, Unread>
-        ensures value { IfOk result (λ t. self.old.rest.now ≡ quoted t.now ++ self.new.rest.now) }
+        ensures value { IfOk result (λ t. self.old.rest.now ≡ json_string t.now ++ self.new.rest.now) }
         ensures printable { IfOk result (λ t. IsTrue (is_printable_text t.now)) }
     {
         self.pass("\"")?;
@@ -95,7 +95,7 @@ impl<'a> Cursor<'a> {
     /// Takes a text in quotes in which a backslash stands before each quote and each backslash, as in canonical text. It gives
     /// up where more than so many bytes were read.
     pub fn escaped(&mut self, alloc: Global, most: usize) -> Result<String, Unread>
-        ensures value { IfOk result (λ t. self.old.rest.now ≡ quoted (string_bytes t) ++ self.new.rest.now) }
+        ensures value { IfOk result (λ t. self.old.rest.now ≡ json_string (string_bytes t) ++ self.new.rest.now) }
         ensures printable { IfOk result (λ t. IsTrue (is_printable_text (string_bytes t))) }
     {
         self.pass("\"")?;
@@ -143,7 +143,7 @@ impl<'a> Cursor<'a> {
 
     /// Takes so many bytes in hexadecimal digits, in quotes and in lower case. After an error `out` may hold any bytes.
     fn digits_of(&mut self, out: &mut [u8]) -> Result<(), Unread>
-        ensures { OnOk result (self.old.rest.now ≡ quoted (encode_lower out.new) ++ self.new.rest.now) }
+        ensures { OnOk result (self.old.rest.now ≡ json_string (encode_lower out.new) ++ self.new.rest.now) }
     {
         let digits = self.lower_digits()?;
         match hex::decode_to_slice(digits.as_bytes(), out) {
@@ -154,7 +154,7 @@ impl<'a> Cursor<'a> {
 
     /// Takes the digits of a SHA-256 in quotes.
     pub fn sha256(&mut self) -> Result<[u8; 32], Unread>
-        ensures { IfOk result (λ hash. self.old.rest.now ≡ quoted (encode_lower hash) ++ self.new.rest.now) }
+        ensures { IfOk result (λ hash. self.old.rest.now ≡ json_string (encode_lower hash) ++ self.new.rest.now) }
     {
         let mut hash = [0; 32];
         self.digits_of(&mut hash[..])?;
@@ -163,7 +163,7 @@ impl<'a> Cursor<'a> {
 
     /// Takes the digits of a SHA-512 in quotes.
     pub fn sha512(&mut self) -> Result<[u8; 64], Unread>
-        ensures { IfOk result (λ hash. self.old.rest.now ≡ quoted (encode_lower hash) ++ self.new.rest.now) }
+        ensures { IfOk result (λ hash. self.old.rest.now ≡ json_string (encode_lower hash) ++ self.new.rest.now) }
     {
         let mut hash = [0; 64];
         self.digits_of(&mut hash[..])?;
@@ -173,7 +173,7 @@ impl<'a> Cursor<'a> {
     /// Takes bytes in hexadecimal digits, in quotes and in lower case.
     pub fn bytes(&mut self, alloc: Global) -> Result<Vec<u8>, Unread>
         ensures value { IfOk result
-            (λ bytes. self.old.rest.now ≡ quoted (encode_lower bytes.items) ++ self.new.rest.now) }
+            (λ bytes. self.old.rest.now ≡ json_string (encode_lower bytes.items) ++ self.new.rest.now) }
         ensures typed { IfOk result (λ bytes. IsTrue (list_all is_byte bytes.items)) }
     {
         let digits = self.lower_digits()?;
@@ -185,7 +185,7 @@ impl<'a> Cursor<'a> {
 
     /// Takes hexadecimal digits in lower case, in quotes.
     fn lower_digits(&mut self) -> Result<&'a str, Unread>
-        ensures value { IfOk result (λ t. self.old.rest.now ≡ quoted t.now ++ self.new.rest.now) }
+        ensures value { IfOk result (λ t. self.old.rest.now ≡ json_string t.now ++ self.new.rest.now) }
         ensures lower { IfOk result (λ t. list_all is_lower_digit_of t.now ≡ true) }
     {
         self.pass("\"")?;

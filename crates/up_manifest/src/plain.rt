@@ -1,7 +1,7 @@
 //! Manifests in the form in which Primaries write them, read without a tree of their values.
 ghost use Rattle.std.specs.Prelude.{◌≡◌, ◌≤◌, ◌++◌, IfOk, IfSome, length, map};
 ghost use Rattle.up_sign.specs.Formats.{envelope_text};
-ghost use Rattle.up_manifest.specs.Building.{listed, manifest_text};
+ghost use Rattle.up_manifest.specs.Building.{list_text, manifest_text};
 ghost use Rattle.up_manifest.specs.Manifests.{most_reports};
 ghost use Rattle.up_manifest.specs.Meaning.{MeansBody};
 ghost use Rattle.up_manifest.specs.Plain.{AreReports, ManifestFits};
@@ -84,7 +84,7 @@ fn manifest(alloc: Global, cursor: &mut Cursor<'_>) -> Result<Manifest, Unread>
 /// Takes the list of the reports' envelopes.
 fn reports(alloc: Global, cursor: &mut Cursor<'_>) -> Result<Listed<SignedReport>, Unread>
     ensures text { IfOk result
-        (λ rs. cursor.old.rest.now ≡ listed (map (λ r. envelope_text r.envelope) rs) ++ cursor.new.rest.now) }
+        (λ rs. cursor.old.rest.now ≡ list_text (map (λ r. envelope_text r.envelope) rs) ++ cursor.new.rest.now) }
     ensures fits { IfOk result (λ rs. AreReports rs) }
     ensures few { IfOk result (λ rs. length rs ≤ most_reports) }
 {

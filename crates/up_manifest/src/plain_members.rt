@@ -3,7 +3,7 @@
 ghost use Rattle.std.specs.Prelude.{◌≡◌, ◌++◌, IsTrue, IfOk, decimal, length};
 ghost use Rattle.std.specs.List.{list_all};
 ghost use Rattle.hex.specs.Hex.{encode_lower};
-ghost use Rattle.up_canon.specs.Canon.{is_printable_text, quoted};
+ghost use Rattle.up_canon.specs.Canon.{is_printable_text, json_string};
 ghost use Rattle.up_canon.specs.Moments.{moment_text};
 ghost use Rattle.up_canon.specs.Names.{is_from_to, is_short_text};
 ghost use Rattle.up_sign.specs.Schemes.{is_byte};
@@ -32,7 +32,7 @@ pub(crate) fn ident_behind(
     cursor: &mut Cursor<'_>,
     key: &str,
 ) -> Result<Ident, Unread>
-    ensures { IfOk result (λ i. cursor.old.rest.now ≡ key.now ++ (quoted i ++ cursor.new.rest.now)) }
+    ensures { IfOk result (λ i. cursor.old.rest.now ≡ key.now ++ (json_string i ++ cursor.new.rest.now)) }
 {
     let text = text_behind(cursor, key)?.to_string(alloc)?;
     Ident::new(text).ok_or(Unread)
@@ -44,7 +44,7 @@ pub(crate) fn file_name_behind(
     cursor: &mut Cursor<'_>,
     key: &str,
 ) -> Result<FileName, Unread>
-    ensures { IfOk result (λ f. cursor.old.rest.now ≡ key.now ++ (quoted f ++ cursor.new.rest.now)) }
+    ensures { IfOk result (λ f. cursor.old.rest.now ≡ key.now ++ (json_string f ++ cursor.new.rest.now)) }
 {
     let text = text_behind(cursor, key)?.to_string(alloc)?;
     FileName::new(text).ok_or(Unread)
@@ -52,7 +52,7 @@ pub(crate) fn file_name_behind(
 
 /// Takes a note, in which there may be quotes and backslashes.
 pub(crate) fn note_behind(alloc: Global, cursor: &mut Cursor<'_>, key: &str) -> Result<Note, Unread>
-    ensures { IfOk result (λ n. cursor.old.rest.now ≡ key.now ++ (quoted n ++ cursor.new.rest.now)) }
+    ensures { IfOk result (λ n. cursor.old.rest.now ≡ key.now ++ (json_string n ++ cursor.new.rest.now)) }
 {
     cursor.pass(key)?;
     let text = cursor.escaped(alloc, 256)?;
@@ -61,7 +61,7 @@ pub(crate) fn note_behind(alloc: Global, cursor: &mut Cursor<'_>, key: &str) -> 
 
 /// Takes a moment.
 pub(crate) fn moment_behind(cursor: &mut Cursor<'_>, key: &str) -> Result<Moment, Unread>
-    ensures { IfOk result (λ m. cursor.old.rest.now ≡ key.now ++ (quoted (moment_text m) ++ cursor.new.rest.now)) }
+    ensures { IfOk result (λ m. cursor.old.rest.now ≡ key.now ++ (json_string (moment_text m) ++ cursor.new.rest.now)) }
 {
     let text = text_behind(cursor, key)?;
     Moment::read(text).ok_or(Unread)
@@ -74,7 +74,7 @@ pub(crate) fn short_text_behind(
     key: &str,
     most: usize,
 ) -> Result<Text, Unread>
-    ensures value { IfOk result (λ t. cursor.old.rest.now ≡ key.now ++ (quoted t ++ cursor.new.rest.now)) }
+    ensures value { IfOk result (λ t. cursor.old.rest.now ≡ key.now ++ (json_string t ++ cursor.new.rest.now)) }
     ensures fits { IfOk result (λ t. IsTrue (is_short_text 1 most t)) }
 {
     let text = text_behind(cursor, key)?;
@@ -92,7 +92,7 @@ pub(crate) fn bytes_behind(
     most: usize,
 ) -> Result<Bytes, Unread>
     ensures value { IfOk result
-        (λ b. cursor.old.rest.now ≡ key.now ++ (quoted (encode_lower b) ++ cursor.new.rest.now)) }
+        (λ b. cursor.old.rest.now ≡ key.now ++ (json_string (encode_lower b) ++ cursor.new.rest.now)) }
     ensures fits { IfOk result (λ b. IsTrue (is_from_to 1 most (length b))) }
     ensures typed { IfOk result (λ b. IsTrue (list_all is_byte b)) }
 {
@@ -106,7 +106,7 @@ pub(crate) fn bytes_behind(
 
 /// Takes a text in quotes in which each byte stands for itself.
 fn text_behind<'a>(cursor: &mut Cursor<'a>, key: &str) -> Result<&'a str, Unread>
-    ensures value { IfOk result (λ t. cursor.old.rest.now ≡ key.now ++ (quoted t.now ++ cursor.new.rest.now)) }
+    ensures value { IfOk result (λ t. cursor.old.rest.now ≡ key.now ++ (json_string t.now ++ cursor.new.rest.now)) }
     ensures printable { IfOk result (λ t. IsTrue (is_printable_text t.now)) }
 {
     cursor.pass(key)?;

@@ -5,7 +5,7 @@ ghost use Rattle.up_canon.specs.Canon.{text};
 ghost use Rattle.up_canon.specs.HexText.{is_second_hash};
 ghost use Rattle.up_sign.specs.Formats.{envelope_fits, envelope_text};
 ghost use Rattle.up_sign.specs.Schemes.{is_byte};
-ghost use Rattle.up_manifest.specs.Building.{ReportFits, installed_value, primary_text, listed, report_text as report_text_of, manifest_text as manifest_text_of};
+ghost use Rattle.up_manifest.specs.Building.{ReportFits, installed_value, primary_text, list_text, report_text as report_text_of, manifest_text as manifest_text_of};
 
 use crate::report::{Installed, Report};
 use std::alloc::{AllocError, Global};
@@ -96,7 +96,7 @@ fn push_primary(out: &mut String, primary: &Ident, counter: u64) -> Result<(), A
 fn push_envelopes(alloc: Global, out: &mut String, envelopes: &[Envelope]) -> Result<(), AllocError>
     requires { IsTrue (list_all envelope_fits envelopes.now) }
     ensures { IfOk result
-        (λ _. string_bytes out.new ≡ string_bytes out.old ++ listed (map envelope_text envelopes.now)) }
+        (λ _. string_bytes out.new ≡ string_bytes out.old ++ list_text (map envelope_text envelopes.now)) }
 {
     out.push('[')?;
     let mut separator = "";

@@ -9,7 +9,7 @@ use Rattle.serde_json.specs.Data.{Data}
 use Rattle.up_canon.specs.Canon.{text}
 use Rattle.up_canon.specs.Names.{is_from_to}
 use Rattle.up_sign.specs.Schemes.{Rules, IsScheme}
-use Rattle.up_sign.specs.Envelopes.{is_by, is_satisfied, signature_of, sealed}
+use Rattle.up_sign.specs.Envelopes.{is_by, is_satisfied, signature_of, sealed_envelope}
 use Rattle.up_sign.specs.Formats.{envelope_text}
 use Rattle.up_sign.specs.Hmac.{key_id}
 use Rattle.up_sign.proofs.Accepted.{bytes_eq-refl}
@@ -96,7 +96,7 @@ counted_from p n (x ∷ xs) h =
     one_later n m = omega arith
 
 each_satisfied : (k : Rules) → IsScheme k → (signed : List ℕ) (signers keys : List (List ℕ)) → list_all (secret_fits k) keys ≡ true → AllByRecursion (λ x. is_in x signers ≡ true) keys
-    → AllByRecursion (λ p. is_satisfied k (sealed k signers signed) p ≡ true) (map k.public_of keys)
+    → AllByRecursion (λ p. is_satisfied k (sealed_envelope k signers signed) p ≡ true) (map k.public_of keys)
 each_satisfied k law signed signers [] fits h = tt
 each_satisfied k law signed signers (x ∷ keys) fits h = (
   satisfied k law signed x signers (and_right (is_from_to 1 256 (length x)) _ (and_left _ _ fits)) h.0,
@@ -104,10 +104,10 @@ each_satisfied k law signed signers (x ∷ keys) fits h = (
 )
 
 accepted : (k : Rules) → IsScheme k → (signed : List ℕ) (signers : List (List ℕ)) (role : RoleSecrets) → role_fits k role ≡ true → AllByRecursion (λ x. is_in x signers ≡ true) role.keys
-    → IsAcceptedBy k (sealed k signers signed) role
+    → IsAcceptedBy k (sealed_envelope k signers signed) role
 accepted k law signed signers role fits h =
     let fit : list_all (secret_fits k) role.keys ≡ true = and_right (is_from_to 1 4 (length role.keys)) _ (and_left _ (is_none _) (and_left _ (threshold_fits role) fits)) in
-    let counted = counted_from (is_satisfied k (sealed k signers signed)) 0 (map k.public_of role.keys) (each_satisfied k law signed signers role.keys fit h) in
+    let counted = counted_from (is_satisfied k (sealed_envelope k signers signed)) 0 (map k.public_of role.keys) (each_satisfied k law signed signers role.keys fit h) in
     let size : length (map k.public_of role.keys) ≡ length role.keys = length-map role.keys k.public_of in
     let meets : nat_le role.threshold (length role.keys) ≡ true = and_right (nat_le 1 role.threshold) _ (and_right (keys_fit k role) _ fits) in
     ap (nat_le role.threshold) (counted ∙ plain _ ∙ size) ∙ meets
@@ -132,12 +132,12 @@ timestamp_fits k keys h = and_right (role_fits k keys.root && role_fits k keys.t
 -- ---- Root files
 
 root_sealed : (k : Rules) (repository : Repository) (number : ℕ) (root : Root) (before : Option Root)
-    → root_text k repository number root before ≡ envelope_text (sealed k (root_signers repository root before) (text (root_payload (root_file k repository number root))))
+    → root_text k repository number root before ≡ envelope_text (sealed_envelope k (root_signers repository root before) (text (root_payload (root_file k repository number root))))
 unfolding root_text root_text_of sealed_text
 root_sealed k repository number root before = refl
 
 before_signs : (k : Rules) → IsScheme k → (repository : Repository) (root : Root) (signed : List ℕ) (before : Option Root) → IfSome before (HasFittingKeys k repository)
-    → AllByRecursion (IsAcceptedBy k (sealed k (root_signers repository root before) signed)) (option_to_list (option_map (root_role repository) before))
+    → AllByRecursion (IsAcceptedBy k (sealed_envelope k (root_signers repository root before) signed)) (option_to_list (option_map (root_role repository) before))
 before_signs k law repository root signed None fit = tt
 before_signs k law repository root signed (Some before) fit = (
   accepted k law signed (root_signers repository root (Some before)) (root_role repository before) (root_fits k (keys_of repository before.keys) fit)
@@ -151,7 +151,7 @@ root_files_signed k repository number root before law fit fit_before =
     let signed = text (root_payload (root_file k repository number root)) in
     let own = (root_role repository root).keys in
     record {
-      envelope = sealed k (root_signers repository root before) signed;
+      envelope = sealed_envelope k (root_signers repository root before) signed;
       is = root_sealed k repository number root before;
       signed = refl;
       accepted = (
@@ -163,9 +163,9 @@ root_files_signed k repository number root before law fit fit_before =
 
 -- ---- Targets, Snapshot and Timestamp files
 
-one_role : (k : Rules) → IsScheme k → (role : RoleSecrets) (payload : Data) (file_text : List ℕ) → role_fits k role ≡ true → file_text ≡ envelope_text (sealed k role.keys (text payload)) → IsSignedFor k (role ∷ []) payload file_text
+one_role : (k : Rules) → IsScheme k → (role : RoleSecrets) (payload : Data) (file_text : List ℕ) → role_fits k role ≡ true → file_text ≡ envelope_text (sealed_envelope k role.keys (text payload)) → IsSignedFor k (role ∷ []) payload file_text
 one_role k law role payload file_text fits is = record {
-  envelope = sealed k role.keys (text payload);
+  envelope = sealed_envelope k role.keys (text payload);
   is = is;
   signed = refl;
   accepted = (accepted k law (text payload) role.keys role fits (each_in role.keys), tt);

@@ -12,7 +12,7 @@ use Rattle.up_canon.specs.Steps.{◌>>=◌, unless}
 use Rattle.up_canon.proofs.Steps.{first_ok, same_ok, unless_ok, one_value}
 use Rattle.up_sign.specs.Schemes.{IsScheme}
 use Rattle.up_sign.specs.Hmac.{key_id}
-use Rattle.up_sign.specs.Envelopes.{is_accepted, sealed}
+use Rattle.up_sign.specs.Envelopes.{is_accepted, sealed_envelope}
 use Rattle.up_sign.specs.Laws.{SealedIsAccepted}
 use Rattle.up_sign.specs.declared.envelope.Envelope.{Envelope}
 use Rattle.up_sign.proofs.Accepted.{bytes_eq-refl}
@@ -90,19 +90,19 @@ each_in (x ∷ xs) = (
 
 -- a role accepts what its secrets seal
 accepts_made : Lower → (k : Showing) → IsScheme k.rules → ShowsKeys k → (role : RoleSecrets) (listed : RoleKeys) (signed : List ℕ) → Holds k role listed → role_fits listed ≡ true
-    → accepts k listed (sealed k.rules role.keys signed) ≡ true
+    → accepts k listed (sealed_envelope k.rules role.keys signed) ≡ true
 accepts_made lower k law shows role listed signed holds fits =
-    let one : (r : RoleKeys) → role_keys k.rules role ≡ r → role_fits r ≡ true → accepts k r (sealed k.rules role.keys signed) ≡ true =
-    λ r same fit. subst (λ (r : RoleKeys). accepts k r (sealed k.rules role.keys signed) ≡ true) same (own (subst (λ (r : RoleKeys). role_fits r ≡ true) (sym same) fit)) in
+    let one : (r : RoleKeys) → role_keys k.rules role ≡ r → role_fits r ≡ true → accepts k r (sealed_envelope k.rules role.keys signed) ≡ true =
+    λ r same fit. subst (λ (r : RoleKeys). accepts k r (sealed_envelope k.rules role.keys signed) ≡ true) same (own (subst (λ (r : RoleKeys). role_fits r ≡ true) (sym same) fit)) in
     one listed holds.same fits
   where
-    own : role_fits (role_keys k.rules role) ≡ true → accepts k (role_keys k.rules role) (sealed k.rules role.keys signed) ≡ true
+    own : role_fits (role_keys k.rules role) ≡ true → accepts k (role_keys k.rules role) (sealed_envelope k.rules role.keys signed) ≡ true
     own fit =
         let met : role_is_met (role_keys k.rules role) ≡ true = and_right (is_from_to 1 4 (length (map (root_key k.rules) role.keys))) (role_is_met (role_keys k.rules role))
         (and_left (is_from_to 1 4 (length (map (root_key k.rules) role.keys)) && role_is_met (role_keys k.rules role)) (list_all key_fits (map (root_key k.rules) role.keys)) fit) in
         let range : is_from_to 1 (length (map (root_key k.rules) role.keys)) role.threshold ≡ true = and_right (are_distinct (map (λ (key : RootKey). key.keyid) (map (root_key k.rules) role.keys))) (is_from_to 1 (length (map (root_key k.rules) role.keys)) role.threshold) met in
         let few : role.threshold ≤ length (map (root_key k.rules) role.keys) = leb-true role.threshold (length (map (root_key k.rules) role.keys)) (and_right (nat_le 1 role.threshold) (nat_le role.threshold (length (map (root_key k.rules) role.keys))) range) in
-        ap (λ (ps : List (List ℕ)). is_accepted k.rules ps role.threshold (sealed k.rules role.keys signed)) (shown_publics k shows role.keys holds.fit)
+        ap (λ (ps : List (List ℕ)). is_accepted k.rules ps role.threshold (sealed_envelope k.rules role.keys signed)) (shown_publics k shows role.keys holds.fit)
         ∙ lower.accepted k.rules role.keys role.keys signed role.threshold law
         (all_weaker (secret_fits k.rules) k.rules.secret_fits (λ s h. and_right (is_from_to 1 256 (length s)) _ h) role.keys holds.fit)
         (all_pass (λ x. list_any (bytes_eq x) role.keys) role.keys (each_in role.keys)) (subst (λ (n : ℕ). role.threshold ≤ n) (length-map role.keys (root_key k.rules)) few)
@@ -307,7 +307,7 @@ snapshot_made : Lower → (k : Showing) → IsScheme k.rules → ShowsKeys k →
     → IsSigned k listed (snapshot_payload (snapshot_file m number)) (snapshot_text k.rules m number)
 unfolding snapshot_text snapshot_text_of sealed_text
 snapshot_made lower k law shows m number listed holds fits = record {
-  envelope = sealed k.rules m.keys.snapshot.keys (text (snapshot_payload (snapshot_file m number)));
+  envelope = sealed_envelope k.rules m.keys.snapshot.keys (text (snapshot_payload (snapshot_file m number)));
   is = refl;
   signed = refl;
   accepted = accepts_made lower k law shows m.keys.snapshot listed _ holds fits;
@@ -317,7 +317,7 @@ timestamp_made : Lower → (k : Showing) → IsScheme k.rules → ShowsKeys k �
     → IsSigned k listed (timestamp_payload (timestamp_file k.rules m number)) (timestamp_text k.rules m number)
 unfolding timestamp_text timestamp_text_of sealed_text
 timestamp_made lower k law shows m number listed holds fits = record {
-  envelope = sealed k.rules m.keys.timestamp.keys (text (timestamp_payload (timestamp_file k.rules m number)));
+  envelope = sealed_envelope k.rules m.keys.timestamp.keys (text (timestamp_payload (timestamp_file k.rules m number)));
   is = refl;
   signed = refl;
   accepted = accepts_made lower k law shows m.keys.timestamp listed _ holds fits;

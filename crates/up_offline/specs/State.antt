@@ -1,28 +1,19 @@
 -- The state: what was published is kept as it was published. No part of it depends on the scheme.
-use Rattle.std.specs.Prelude.{ℕ, ◌==◌, ◌++◌, List, [], Bool, Option, None, is_some, option_map, option_to_list, length, map, find, bytes_eq, codes}
-use Rattle.std.specs.List.{enumerate_from}
-use Rattle.std.specs.FinMap as table
+use Rattle.std.specs.Prelude.{ℕ, ◌==◌, List, Bool, Option, is_some, length}
 use Rattle.up_canon.specs.Names.{Name, Table}
-use Rattle.up_roles.specs.declared.repository.Repository.{Repository}
-use Rattle.up_roles.specs.declared.repository.Repository.TheVariants.{Director, Image}
 use Rattle.up_plan.specs.declared.assigned.Plan.{Plan}
 use Rattle.up_plan.specs.Campaigns.{CampaignData}
 use Rattle.up_plan.specs.Images.{ImageData}
 use Rattle.up_metadata.specs.declared.keys.RoleSecrets.{RoleSecrets}
 use Rattle.up_metadata.specs.declared.keys.RepoKeys.{RepoKeys}
 use Rattle.up_metadata.specs.declared.role_files.RoleTexts.{RoleTexts}
-use Rattle.up_brought.specs.Brought.{offline}
 use Rattle.up_machine.specs.declared.vehicle.NewEcu.{NewEcu}
-use Rattle.up_machine.specs.Files.{File, numbered_root_name, texts_in}
 use Rattle.up_machine.specs.State.{nth}
 
 -- ---- keys
 
 abbrev pub is_offline : RoleSecrets → Bool
 is_offline role = length role.keys == 0
-
-abbrev pub no_keys : RepoKeys
-no_keys = record { root = offline; targets = offline; snapshot = offline; timestamp = offline }
 
 -- ---- the state
 
@@ -58,22 +49,6 @@ pub record State : Type 0 where
   pub campaigns : Table CampaignData
   pub vehicles : Table Vehicle
 
-abbrev pub no_chain : Chain
-no_chain = record { texts = []; keys = no_keys }
-
-abbrev pub empty_state : State
-empty_state = record {
-  director = no_chain;
-  image = no_chain;
-  files = None;
-  images = table.empty;
-  image_version = 0;
-  targets_version = 0;
-  stamp = 0;
-  campaigns = table.empty;
-  vehicles = table.empty;
-}
-
 -- both repositories are founded at once
 abbrev pub is_founded : State → Bool
 is_founded s = is_some s.files
@@ -85,19 +60,3 @@ root_number chain = length chain.texts
 -- the text of the last one; none before founding
 abbrev pub last_root : Chain → Option (List ℕ)
 last_root chain = nth chain.texts (root_number chain)
-
--- ---- what is served
-
--- `root.json` is the latest; `1.root.json`, `2.root.json` and so on
-abbrev pub root_files : Chain → List File
-root_files chain =
-    option_to_list (option_map (λ text. (codes "root.json", text)) (last_root chain))
-    ++ map (λ r. (numbered_root_name r.0, r.1)) (enumerate_from 1 chain.texts)
-
-abbrev pub files : State → Repository → List File
-files s Director = root_files s.director
-files s Image = root_files s.image ++ texts_in s.files
-
--- the text of the file of this name
-abbrev pub file : State → Repository → Name → Option (List ℕ)
-file s repository name = option_map (λ f. f.1) (find (λ f. bytes_eq f.0 name) (files s repository))

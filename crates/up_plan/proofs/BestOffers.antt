@@ -9,7 +9,7 @@ use Rattle.up_canon.specs.Steps.{if_passes}
 use Rattle.up_plan.specs.Images.{ImageData}
 use Rattle.up_plan.specs.ByOffers.{resulting_by, with_wanted_by}
 use Rattle.up_plan.specs.Offers.{OfferData, greatest_of_file, greatest_offer, offer_of, offers_of}
-use Rattle.up_plan.specs.Planning.{greatest, is_offered, level, offered, registered, resulting, wanted, with_wanted}
+use Rattle.up_plan.specs.Planning.{greatest, is_offered, level, offered, reported_image, resulting, wanted, with_wanted}
 use Rattle.up_plan.specs.declared.assigned.Fitted.{Fitted}
 use Rattle.up_plan.specs.declared.campaign.Item.{Item}
 use Rattle.up_plan.proofs.Above.{greatest_in, greatest_none_above, greatest_of_none, same_file}
@@ -108,18 +108,18 @@ module _ (images : List ImageData) (items : List Item) (hardware : Name) where
   pub best_offer : greatest_offer (offers_of images items) hardware ≡ greatest (offered images items hardware)
   best_offer = by_greatest (greatest listed_offers) (greatest (offered images items hardware)) refl refl
 
-with_same : (images : List ImageData) (e : Fitted) (wish : Option ImageData) → with_wanted_by e (registered images e) wish ≡ with_wanted images e wish
+with_same : (images : List ImageData) (e : Fitted) (wish : Option ImageData) → with_wanted_by e (reported_image images e) wish ≡ with_wanted images e wish
 with_same images e None = refl
 with_same images e (Some image) = refl
 
 module _ (images : List ImageData) (items : List Item) where
   -- an ECU by what the items offer
-  pub resulting_offer : (e : Fitted) (offers : List OfferData) (known : Option ImageData) → offers ≡ offers_of images items → known ≡ registered images e
+  pub resulting_offer : (e : Fitted) (offers : List OfferData) (known : Option ImageData) → offers ≡ offers_of images items → known ≡ reported_image images e
       → resulting_by offers e known ≡ with_wanted images e (wanted images items e)
   resulting_offer e offers known is same =
       ap (λ os. resulting_by os e known) is
       ∙ ap (resulting_by (offers_of images items) e) same
-      ∙ ap (λ best. with_wanted_by e (registered images e) (if_passes (λ image. nat_lt (level images e) image.release) best)) (best_offer images items e.hardware)
+      ∙ ap (λ best. with_wanted_by e (reported_image images e) (if_passes (λ image. nat_lt (level images e) image.release) best)) (best_offer images items e.hardware)
       ∙ with_same images e (wanted images items e)
 
   -- one more ECU

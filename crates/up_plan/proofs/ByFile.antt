@@ -19,7 +19,7 @@ use Rattle.up_plan.specs.ByFile.{AreByFile, offers_at, registered_at, resulting_
 use Rattle.up_plan.specs.ByOffers.{resulting_by}
 use Rattle.up_plan.specs.Images.{ImageData}
 use Rattle.up_plan.specs.Offers.{OfferData, greatest_of_file, offers_of}
-use Rattle.up_plan.specs.Planning.{greatest, is_reported, registered, resulting, wanted, with_wanted}
+use Rattle.up_plan.specs.Planning.{greatest, is_reported, reported_image, resulting, wanted, with_wanted}
 use Rattle.up_plan.proofs.BestOffers.{resulting_offer}
 use Rattle.up_plan.proofs.Orders.{file_of, map_same}
 use Rattle.up_plan.proofs.OtherImages.{find_within}
@@ -119,7 +119,7 @@ module _ (images : Table ImageData) (named : AreByFile images) where
   greatest_at : (file : Name) → greatest_of_file (table.values images) file ≡ table.get images file
   greatest_at file = ap greatest (at_file file) ∙ greatest_of_one (table.get images file)
 
-  registered_found : (e : Fitted) → registered_at images e ≡ registered (table.values images) e
+  registered_found : (e : Fitted) → registered_at images e ≡ reported_image (table.values images) e
   registered_found e =
       sym (find_of_one (is_reported e.hardware e.image) (table.get images e.image.file))
       ∙ ap (find (is_reported e.hardware e.image)) (sym (at_file e.image.file))

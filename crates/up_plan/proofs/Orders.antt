@@ -6,7 +6,7 @@ use Rattle.std.proofs.lemmas.List.Elements.{filter-append}
 use Rattle.up_canon.specs.Names.{Name}
 use Rattle.up_plan.specs.Campaigns.{CampaignData}
 use Rattle.up_plan.specs.Images.{ImageData}
-use Rattle.up_plan.specs.Planning.{agrees, greatest, is_for, is_offered, is_reported, items_for, reaches, registered, resulting, wanted, with_wanted}
+use Rattle.up_plan.specs.Planning.{agrees, greatest, is_for, is_offered, is_reported, items_for, reaches, reported_image, resulting, wanted, with_wanted}
 use Rattle.up_manifest.specs.declared.report.Installed.{Installed}
 use Rattle.up_plan.specs.declared.assigned.Fitted.{Fitted}
 use Rattle.up_plan.specs.declared.campaign.Item.{Item}
@@ -80,7 +80,7 @@ file_of hardware installed x h =
 
 module _ (images others : List ImageData) (to : (x : ImageData) → In images x → In others x) (back : (x : ImageData) → In others x → In images x)
     (distinct : (a b : ImageData) → In images a → In images b → a.file ≡ b.file → a ≡ b) where
-  same_registered : (e : Fitted) → registered images e ≡ registered others e
+  same_registered : (e : Fitted) → reported_image images e ≡ reported_image others e
   same_registered e =
       find_same (is_reported e.hardware e.image) images others to back
       (λ x y h k p q. distinct x y h k ((bytes_decides x.file e.image.file).0 (file_of e.hardware e.image x p) ∙ sym ((bytes_decides y.file e.image.file).0 (file_of e.hardware e.image y q))))

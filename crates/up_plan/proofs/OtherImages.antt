@@ -7,7 +7,7 @@ use Rattle.up_canon.specs.Names.{Name}
 use Rattle.up_plan.specs.declared.assigned.Fitted.{Fitted}
 use Rattle.up_plan.specs.declared.campaign.Item.{Item}
 use Rattle.up_plan.specs.Images.{ImageData}
-use Rattle.up_plan.specs.Planning.{is_offered, is_reported, items_for, offered, plan_from, plan_of, registered, resulting, wanted, with_wanted}
+use Rattle.up_plan.specs.Planning.{is_offered, is_reported, items_for, offered, plan_from, plan_of, reported_image, resulting, wanted, with_wanted}
 use Rattle.up_plan.specs.Laws.{OtherImagesChangeNothing}
 use Rattle.up_plan.proofs.Members.{both_of}
 use Rattle.up_plan.proofs.Orders.{file_of}
@@ -58,7 +58,7 @@ module _ (p : Name → Bool) where
   report_passes : (e : Fitted) → p e.image.file ≡ true → (image : ImageData) → is_reported e.hardware e.image image ≡ true → p image.file ≡ true
   report_passes e pass image h = ap p ((bytes_decides image.file e.image.file).0 (file_of e.hardware e.image image h)) ∙ pass
 
-  registered_within : (images : List ImageData) (e : Fitted) → p e.image.file ≡ true → registered (passing images) e ≡ registered images e
+  registered_within : (images : List ImageData) (e : Fitted) → p e.image.file ≡ true → reported_image (passing images) e ≡ reported_image images e
   registered_within images e pass = find_within (λ image. p image.file) (is_reported e.hardware e.image) (report_passes e pass) images
 
   with_within : (images : List ImageData) (e : Fitted) (w : Option ImageData) → p e.image.file ≡ true → with_wanted (passing images) e w ≡ with_wanted images e w

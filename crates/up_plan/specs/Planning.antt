@@ -37,12 +37,12 @@ is_reported hardware installed image =
     && agrees image.sha512 installed.sha512 && is_for hardware image
 
 -- the registered image of what the ECU reports
-abbrev pub registered : List ImageData → Fitted → Option ImageData
-registered images e = find (is_reported e.hardware e.image) images
+abbrev pub reported_image : List ImageData → Fitted → Option ImageData
+reported_image images e = find (is_reported e.hardware e.image) images
 
 -- its release counter; 0 where the report is of no registered image
 abbrev pub level : List ImageData → Fitted → ℕ
-level images e = unwrap_or (option_map (λ image. image.release) (registered images e)) 0
+level images e = unwrap_or (option_map (λ image. image.release) (reported_image images e)) 0
 
 -- ---- wanted image
 
@@ -93,7 +93,7 @@ abbrev pub with_wanted : List ImageData → Fitted → Option ImageData → Resu
 with_wanted images e (Some image) =
     record { ecu = e.ecu; hardware = e.hardware; updated = true; file = image.file; level = image.release; image = Some image }
 with_wanted images e None =
-    record { ecu = e.ecu; hardware = e.hardware; updated = false; file = e.image.file; level = level images e; image = registered images e }
+    record { ecu = e.ecu; hardware = e.hardware; updated = false; file = e.image.file; level = level images e; image = reported_image images e }
 
 abbrev pub resulting : List ImageData → List Item → List Fitted → List Resulting
 resulting images items fitted = map (λ e. with_wanted images e (wanted images items e)) fitted

@@ -2,7 +2,7 @@
 ghost use Rattle.std.specs.Prelude.{◌≡◌, option_copied};
 ghost use Rattle.up_plan.specs.ByFile.{registered_at};
 ghost use Rattle.up_plan.specs.ByOffers.{level_by, wanted_by};
-ghost use Rattle.up_plan.specs.Planning.{agrees as agrees_as, is_reported as is_reported_as, registered as registered_image};
+ghost use Rattle.up_plan.specs.Planning.{agrees as agrees_as, is_reported as is_reported_as, reported_image as registered_image};
 
 use crate::assigned::Fitted;
 use crate::image::Image;

@@ -19,6 +19,8 @@ pub mod Registered
 pub mod StayingTrue
 pub mod Fetching
 pub mod Fresh
-pub mod Rounds
 pub mod FreshImages
 pub mod Histories
+pub mod Behind
+pub mod Fleets
+pub mod Bringing

@@ -8,7 +8,7 @@ use Rattle.std.proofs.lemmas.List.Folds.{list_all-append, list_all-map}
 use Rattle.up_canon.specs.Canon.{text}
 use Rattle.up_canon.specs.Moments.{last_moment, last_command_moment}
 use Rattle.up_canon.proofs.Printable.{both}
-use Rattle.up_sign.specs.Envelopes.{sealed}
+use Rattle.up_sign.specs.Envelopes.{sealed_envelope}
 use Rattle.up_sign.specs.Hmac.{key_id}
 use Rattle.up_sign.specs.Laws.{SealedFits, SealedIsAccepted}
 use Rattle.up_sign.specs.Schemes.{Rules, IsScheme}
@@ -130,10 +130,10 @@ all_known v repository i root reads =
 -- a role that fits, each of whose keys is among the signers
 pub sealed_for : (v : Verifier) → Known v.rules → (role : RoleSecrets) (signers : List (List ℕ)) (signed : List ℕ) → role_fits v.rules role ≡ true
     → list_all (λ s. can_read v (v.rules.public_of s)) role.keys ≡ true → list_all (λ s. list_any (bytes_eq s) signers) role.keys ≡ true
-    → is_signed_for v (role_keys v.rules role) (sealed v.rules signers signed) ≡ true
+    → is_signed_for v (role_keys v.rules role) (sealed_envelope v.rules signers signed) ≡ true
 sealed_for v known role signers signed fits read among =
     let meets : nat_le role.threshold (length role.keys) ≡ true = and_right (nat_le 1 role.threshold) _ (and_right _ _ fits) in
-    signed_for v role (sealed v.rules signers signed) read
+    signed_for v role (sealed_envelope v.rules signers signed) read
     (known.accepts v.rules role.keys signers signed role.threshold known.scheme (secrets_fit v.rules role (role_signs v.rules role fits)) among (leb-true _ _ meets))
 
 -- ---- the Root
@@ -159,7 +159,7 @@ expires_in_time k Image i root h = year_later root.at h
 pub root_read : (k : Rules) → Known k → (repository : Repository) (i : ℕ) (root before : Root) → IsRoot k repository i root → repository_fits k (keys_of repository before.keys) ≡ true
     → length (root_text k repository i root (Some before)) ≤ largest_file
     → root_in (root_text k repository i root (Some before))
-    ≡ Ok (root_file k repository i root, sealed k (root_signers repository root (Some before)) (text (root_payload (root_file k repository i root))))
+    ≡ Ok (root_file k repository i root, sealed_envelope k (root_signers repository root (Some before)) (text (root_payload (root_file k repository i root))))
 unfolding root_text
 root_read k known repository i root before is before_fits small =
     let own = (keys_of repository root.keys).root in

@@ -9,7 +9,7 @@ use Rattle.up_canon.specs.Canon.{text}
 use Rattle.up_canon.specs.Names.{Name}
 use Rattle.up_canon.proofs.Printable.{both}
 use Rattle.up_canon.proofs.Steps.{unless_there}
-use Rattle.up_sign.specs.Envelopes.{sealed}
+use Rattle.up_sign.specs.Envelopes.{sealed_envelope}
 use Rattle.up_sign.specs.declared.envelope.Envelope.{Envelope}
 use Rattle.up_sign.proofs.Accepted.{bytes_eq-refl}
 use Rattle.up_roles.specs.declared.root.RoleKeys.{RoleKeys}
@@ -84,9 +84,9 @@ asked_of m now = record { repository = m.repository; vehicle = m.vehicle; moment
 -- a role of the trusted Root has signed what it sealed
 own_signed : (v : Verifier) → Known v.rules → (m : MetadataSet) (now : ℕ) (t : Trust) → (is : IsCurrent v m now t) (pick : RootFile → RoleKeys) (role : RoleSecrets) (signed : List ℕ)
     → pick (root_file v.rules m.repository is.number is.root) ≡ role_keys v.rules role → role_fits v.rules role ≡ true → list_all (λ s. can_read v (v.rules.public_of s)) role.keys ≡ true
-    → is_signed_for v (pick t.root) (sealed v.rules role.keys signed) ≡ true
+    → is_signed_for v (pick t.root) (sealed_envelope v.rules role.keys signed) ≡ true
 own_signed v known m now t is pick role signed picked fits reads =
-    ap (λ root. is_signed_for v (pick root) (sealed v.rules role.keys signed)) is.trusted ∙ ap (λ keys. is_signed_for v keys (sealed v.rules role.keys signed)) picked
+    ap (λ root. is_signed_for v (pick root) (sealed_envelope v.rules role.keys signed)) is.trusted ∙ ap (λ keys. is_signed_for v keys (sealed_envelope v.rules role.keys signed)) picked
     ∙ sealed_for v known role role.keys signed fits reads (among_itself role.keys)
 
 timestamp_checked : (v : Verifier) → Known v.rules → (m : MetadataSet) (now : ℕ) (t : Trust) → AreReadAgain v.rules m → IsCurrent v m now t

@@ -165,7 +165,7 @@ reply_taken v now number s vehicle t e root checked same is versions =
 -- ---- following
 
 -- who reached the last Root trusts it
-follows_reached : (k : Rules) (s : State) (repository : Repository) (t : Trust) (f : Followed) (next : Trust) → Reached k s repository t f → next.root ≡ f.trust.root → FollowsRoot k s repository next
+pub follows_reached : (k : Rules) (s : State) (repository : Repository) (t : Trust) (f : Followed) (next : Trust) → Reached k s repository t f → next.root ≡ f.trust.root → FollowsRoot k s repository next
 follows_reached k s repository t f next r same =
     let whole : next.root ≡ root_file k repository (length s.roots) r.last = same ∙ r.is in
     let number : next.root.version ≡ length s.roots = ap (λ file. file.version) whole in
@@ -175,7 +175,7 @@ follows_reached k s repository t f next r same =
       is = whole ∙ ap (λ n. root_file k repository n r.last) (sym number);
     }
 
-all_up_to : (n m : ℕ) → n ≤ m → AreUpTo m (all_of n)
+pub all_up_to : (n m : ℕ) → n ≤ m → AreUpTo m (all_of n)
 all_up_to n m h = record { timestamp = h; snapshot = h; targets = h }
 
 -- what the Primary follows then

@@ -2,5 +2,5 @@ pub mod Machine
 pub mod Forging
 pub mod Following
 pub mod Laws
-pub mod Rounds
 pub mod Histories
+pub mod Fleets

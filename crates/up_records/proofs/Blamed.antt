@@ -1,16 +1,7 @@
 -- Why `Store` is told: a read does so only where the disk failed, of what stands in the tables of a sound state.
-use Rattle.std.proofs.Common.{◌≡◌, Bool, true, false, Option, None, Some, IfErr, IsSomeAnd, IsTrue, Result, Ok, Err, refl, sym, ◌∙◌}
-use Rattle.sqlite.specs.State.{State as Connected, HasCleanDisk}
-use Rattle.up_canon.specs.declared.refusal.Refusal.{Refusal}
-use Rattle.up_canon.specs.declared.refusal.Refusal.TheVariants as refusal
+use Rattle.std.proofs.Common.{◌≡◌, Bool, true, false, Option, None, Some, IfErr, IsSomeAnd, IsTrue, Result, Ok, Err, sym, ◌∙◌}
 use Rattle.up_tables.specs.declared.values.StoreFault.{StoreFault}
 use Rattle.up_tables.specs.declared.values.StoreFault.TheVariants as fault
-use Rattle.up_records.specs.Connected.{BlamesDisk, DiskFailed, Reads, refusal_told}
-use Rattle.up_records.proofs.Reading.{failed_behind}
-
--- an error behind a read that went through
-pub blamed_then : {P : Type 0} {old mid new : Connected} → Reads old mid → Reads mid new → (HasCleanDisk new → P → DiskFailed mid new) → HasCleanDisk new → P → DiskFailed old new
-blamed_then first second blame clean is = failed_behind first.survives second.survives clean (blame clean is)
 
 -- for want of memory alone
 pub memory_blamed : {A : Type 0} (X : Type 0) (r : Result A StoreFault) → IfErr r (λ f. f ≡ fault.Memory) → IfErr r (λ f. f ≡ fault.Store → X)
@@ -26,11 +17,3 @@ misfit_blamed {A} X fits found row (Err f) told each misfit = λ is. absurd (non
     none_there : (o : Option A) → o ≡ row → IsSomeAnd o (λ x. fits x ≡ false) → ⊥
     none_there None same there = there
     none_there (Some x) same unfit = let both : false ≡ true = sym unfit ∙ each x (sym same) in cc
-
--- a fault that is told as a refusal
-store_told : (f : StoreFault) → refusal_told f ≡ refusal.Store → f ≡ fault.Store
-store_told fault.Memory is = cc
-store_told fault.Store is = refl
-
-pub refusal_blamed : {C X : Type 0} (r : Refusal) (f : StoreFault) → r ≡ refusal_told f → (C → f ≡ fault.Store → X) → C → r ≡ refusal.Store → X
-refusal_blamed r f told blame clean is = blame clean (store_told f (sym told ∙ is))

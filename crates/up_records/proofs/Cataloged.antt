@@ -28,8 +28,6 @@ use Rattle.up_records.specs.Catalogs.{AreFew, ArePrimaries, CanDecide, Come, Fit
 use Rattle.up_records.specs.declared.catalog.Catalog.{Catalog}
 use Rattle.up_records.proofs.Told.{running_sorted}
 use Rattle.up_machine.specs.Deliveries.{with_entry}
-use Rattle.up_records.specs.Standing.{Standing}
-use Rattle.up_records.proofs.Writing.{StillFits}
 
 -- ---- a manifest that is accepted changes its vehicle's entries alone
 
@@ -42,20 +40,13 @@ keeps_primary s name v e other there =
     by_name true same = ap (option_and_then primary_in) (sym there ∙ ap (table.get s.vehicles) (sym (one_name other name same)))
     by_name false same = refl
 
-entry_fits : (s : State) (name : Name) (v : Vehicle) (e : Entry) (catalog : Option Catalog) → table.get s.vehicles name ≡ Some v → Fits s catalog → Fits (with_entry s name v e) catalog
+pub entry_fits : (s : State) (name : Name) (v : Vehicle) (e : Entry) (catalog : Option Catalog) → table.get s.vehicles name ≡ Some v → Fits s catalog → Fits (with_entry s name v e) catalog
 entry_fits s name v e None there h = tt
 entry_fits s name v e (Some c) there h = record {
   founding = h.founding;
   campaigns = h.campaigns;
   images = h.images;
   primaries = λ vehicle primary found. keeps_primary s name v e vehicle there ∙ h.primaries vehicle primary found;
-}
-
-pub accepted_fits : (s next : State) (name : Name) (v : Vehicle) (e : Entry) (old new : Standing) → table.get s.vehicles name ≡ Some v → next ≡ with_entry s name v e → new.catalog ≡ old.catalog
-    → StillFits s next old new
-accepted_fits s next name v e old new there is kept = record {
-  moved = λ was. subst (Fits next) (sym kept) (subst (λ t. Fits t old.catalog) (sym is) (entry_fits s name v e old.catalog there was));
-  same = λ was. subst (Fits s) (sym kept) was;
 }
 
 -- ---- what a plan reads of it

@@ -8,3 +8,4 @@ pub mod Cataloged
 pub mod SentBy
 pub mod Leaving
 pub mod Fitting
+pub mod Sessions

@@ -1,16 +1,14 @@
 -- Reads over a connection one after another, and what is decided by them.
-use Rattle.std.proofs.Common.{◌≡◌, ◌⊎◌, ◌≤◌, Bool, true, false, Result, Ok, Err, IsTrue, inl, inr, refl, sym, ap, ◌∙◌, subst, arith}
-use Rattle.std.specs.Prelude.{◌||◌, ⊤, MatchBool, IfOk}
+use Rattle.std.proofs.Common.{◌≡◌, ◌⊎◌, ◌≤◌, Bool, true, false, Result, Ok, Err, IsTrue, inl, inr, refl, sym, ◌∙◌, subst, arith}
+use Rattle.std.specs.Prelude.{⊤, MatchBool, IfOk}
 use Rattle.sqlite_disk.specs.Disk.{MoreFaults}
 use Rattle.sqlite.specs.Tree.{Trees}
 use Rattle.sqlite.specs.State.{State as Connected, HasCleanDisk, Survives}
 use Rattle.sqlite.proofs.StateLemmas.{survives_then}
 use Rattle.up_canon.specs.declared.refusal.Refusal.{Refusal}
 use Rattle.up_canon.specs.declared.refusal.Refusal.TheVariants.{Store}
-use Rattle.up_canon.specs.Refusals.{is_memory}
 use Rattle.up_sign.specs.Schemes.{Rules}
 use Rattle.up_machine.specs.State.{State}
-use Rattle.up_machine.specs.Deciding.{Outcome}
 use Rattle.up_rows.specs.StateRows.{rows_of_state}
 use Rattle.up_tables.specs.declared.values.StoreFault.{StoreFault}
 use Rattle.up_tables.specs.declared.values.StoreFault.TheVariants as fault
@@ -19,8 +17,7 @@ use Rattle.up_tables.specs.Tables.{up_schema}
 use Rattle.up_tables.proofs.TransactionLemmas.{stands_kept}
 use Rattle.up_store.specs.Connections.{KeepsState}
 use Rattle.up_store.specs.Listing.{ListsRows}
-use Rattle.up_records.specs.Connected.{DiskFailed, GivesOrFails, IsDueOrFails, Reads, is_fault, is_store, refusal_told}
-use Rattle.up_records.proofs.NeverStore.{NeverStore}
+use Rattle.up_records.specs.Connected.{DiskFailed, GivesOrFails, IsDueOrFails, Reads, is_fault, refusal_told}
 
 -- ---- reads
 
@@ -30,7 +27,7 @@ clean_under {old} {new} survives now = let before : HasCleanDisk old = omega (ar
 pub clean_before : {old new : Connected} → Reads old new → HasCleanDisk new → HasCleanDisk old
 clean_before reads now = clean_under reads.survives now
 
-survives_same : (P : Trees → Type 0) (s : Connected) → Survives s s P
+pub survives_same : (P : Trees → Type 0) (s : Connected) → Survives s s P
 survives_same P s = record { clean = omega arith; shield = λ h. h; counts = omega arith; limit = refl; closes = λ clean is_open. inl is_open; crash = λ clean db may. inl may }
 
 pub reads_none : (s : Connected) → Reads s s
@@ -63,33 +60,15 @@ failed_behind {old} {mid} {new} first second clean failed is_open unlimited =
 
 -- ---- refusals, and `Store`
 
-pub surely_due : {old new : Connected} → Reads old new → (r : Refusal) (computed : Result Outcome Refusal) → NeverStore computed → computed ≡ Err r → IsDueOrFails old new r computed
-surely_due {old} {new} reads r computed never is = by_fault (is_fault r)
-  where
-    by_fault : (b : Bool) → MatchBool b (r ≡ Store → DiskFailed old new) (computed ≡ Err r)
-    by_fault true = λ store. absurd (never (is ∙ ap (λ (q : Refusal). Err q) store))
-    by_fault false = is
-
--- a refusal that is due, or want of memory
-pub due_or_memory : {old new : Connected} → Reads old new → (r : Refusal) (computed : Result Outcome Refusal) → NeverStore computed → MatchBool (is_memory r) ⊤ (computed ≡ Err r) → IsDueOrFails old new r computed
-due_or_memory {old} {new} reads r computed never h = by_memory (is_memory r) refl h
-  where
-    by_memory : (b : Bool) → is_memory r ≡ b → MatchBool b ⊤ (computed ≡ Err r) → IsDueOrFails old new r computed
-    by_memory true is h =
-        let fails : is_fault r ≡ true = ap (λ (m : Bool). m || is_store r) is in
-        subst (λ (b : Bool). MatchBool b (r ≡ Store → DiskFailed old new) (computed ≡ Err r)) (sym fails)
-        (λ store. absurd (let both : true ≡ false = sym is ∙ ap is_memory store in cc))
-    by_memory false is h = surely_due reads r computed never h
-
 -- a fault of the store is told as a refusal
-pub fault_told : {old new : Connected} → Survives old new (λ _. ⊥) → (r : Refusal) (f : StoreFault) (computed : Result Outcome Refusal) → r ≡ refusal_told f → (f ≡ fault.Store → DiskFailed old new) → IsDueOrFails old new r computed
+pub fault_told : {O : Type 0} {old new : Connected} → Survives old new (λ _. ⊥) → (r : Refusal) (f : StoreFault) (computed : Result O Refusal) → r ≡ refusal_told f → (f ≡ fault.Store → DiskFailed old new) → IsDueOrFails old new r computed
 fault_told {old} {new} survives r f computed is blame = subst (λ (q : Refusal). IsDueOrFails old new q computed) (sym is) (by_fault f blame)
   where
     by_fault : (f : StoreFault) → (f ≡ fault.Store → DiskFailed old new) → IsDueOrFails old new (refusal_told f) computed
     by_fault fault.Memory blame = λ store. cc
     by_fault fault.Store blame = λ store. blame refl
 
-due_behind : {old mid new : Connected} (r : Refusal) (computed : Result Outcome Refusal) → Survives old mid (λ _. ⊥) → Survives mid new (λ _. ⊥) → HasCleanDisk new → IsDueOrFails mid new r computed → IsDueOrFails old new r computed
+due_behind : {O : Type 0} {old mid new : Connected} (r : Refusal) (computed : Result O Refusal) → Survives old mid (λ _. ⊥) → Survives mid new (λ _. ⊥) → HasCleanDisk new → IsDueOrFails mid new r computed → IsDueOrFails old new r computed
 due_behind {old} {mid} {new} r computed first second clean h = by_fault (is_fault r) h
   where
     by_fault : (b : Bool) → MatchBool b (r ≡ Store → DiskFailed mid new) (computed ≡ Err r) → MatchBool b (r ≡ Store → DiskFailed old new) (computed ≡ Err r)
@@ -97,7 +76,7 @@ due_behind {old} {mid} {new} r computed first second clean h = by_fault (is_faul
     by_fault false h = h
 
 -- what is decided behind a read
-pub gives_behind : {R : Type 0} {old mid new : Connected} (gives : Result R Refusal → Result Outcome Refusal → Type 0) (result : Result R Refusal) (computed : Result Outcome Refusal)
+pub gives_behind : {R O : Type 0} {old mid new : Connected} (gives : Result R Refusal → Result O Refusal → Type 0) (result : Result R Refusal) (computed : Result O Refusal)
     → Survives old mid (λ _. ⊥) → Survives mid new (λ _. ⊥) → HasCleanDisk new → GivesOrFails gives mid new result computed → GivesOrFails gives old new result computed
 gives_behind gives (Ok x) computed first second clean h = h
 gives_behind gives (Err r) computed first second clean h = due_behind r computed first second clean h
@@ -108,13 +87,6 @@ gives_behind gives (Err r) computed first second clean h = due_behind r computed
 fault_failed : (f : StoreFault) (X : Type 0) → MatchBool (is_fault (refusal_told f)) ⊤ X
 fault_failed fault.Memory X = tt
 fault_failed fault.Store X = tt
-
--- ---- decisions
-
-pub gives_or_fails : {R : Type 0} {old new : Connected} → Reads old new → (gives : Result R Refusal → Result Outcome Refusal → Type 0) (result : Result R Refusal) (computed : Result Outcome Refusal) → NeverStore computed
-    → ((r : Refusal) → gives (Err r) computed → MatchBool (is_memory r) ⊤ (computed ≡ Err r)) → gives result computed → GivesOrFails gives old new result computed
-gives_or_fails reads gives (Ok x) computed never is_due h = h
-gives_or_fails reads gives (Err r) computed never is_due h = due_or_memory reads r computed never (is_due r h)
 
 -- ---- calls of the store
 

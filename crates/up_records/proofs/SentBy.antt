@@ -1,27 +1,23 @@
 -- Who sent a manifest, by the Primary that is kept and by the rows of its vehicle.
-use Rattle.std.proofs.Common.{◌≡◌, ℕ, Bool, true, false, Option, None, Some, Result, Ok, Err, inl, inr, refl, sym, ap, ◌∙◌, subst}
+use Rattle.std.proofs.Common.{◌≡◌, Bool, true, false, Option, None, Some, Result, Ok, Err, inl, inr, refl, sym, ap, ◌∙◌, subst}
 use Rattle.std.specs.Prelude.{⊤, ◌⊎◌, IfSome, MatchBool, is_some, option_and_then}
 use Rattle.std.specs.FinMap as table
 use Rattle.up_canon.specs.Names.{Name, Table}
-use Rattle.sqlite.specs.State.{State as Connected}
 use Rattle.up_canon.specs.Steps.{error_of}
 use Rattle.up_canon.specs.declared.refusal.Refusal.{Refusal}
-use Rattle.up_canon.specs.declared.refusal.Refusal.TheVariants.{NotFounded, Store, UnknownVehicle}
+use Rattle.up_canon.specs.declared.refusal.Refusal.TheVariants.{NotFounded}
 use Rattle.up_sign.specs.Schemes.{Rules}
 use Rattle.up_manifest.specs.declared.manifest.Incoming.{Incoming}
 use Rattle.up_machine.specs.declared.primary.Primary.{Primary}
 use Rattle.up_machine.specs.declared.rows.Founding.{Founding}
-use Rattle.up_machine.specs.declared.rows.VehicleRows.{VehicleRows}
 use Rattle.up_machine.specs.State.{State}
-use Rattle.up_machine.specs.Decisions.{decide_incoming}
 use Rattle.up_machine.specs.Deliveries.{Received, receive_manifest}
-use Rattle.up_machine.specs.Primaries.{GivesSent, check_sent, primary_of}
-use Rattle.up_machine.specs.Rows.{founding_row, vehicle_rows}
+use Rattle.up_machine.specs.Primaries.{check_sent, primary_of}
+use Rattle.up_machine.specs.Rows.{founding_row}
 use Rattle.up_machine.proofs.Primaries.{gives_sent}
-use Rattle.up_machine.proofs.Senders.{no_vehicle, refused_first}
 use Rattle.up_records.specs.declared.catalog.Catalog.{Catalog}
-use Rattle.up_records.specs.Senders.{GivesSenderRows, IsLoadedBehind, GivesVehicle, IsSentBy, IsThere, RefusesUnread, refused_by, refused_in}
-use Rattle.up_records.specs.Connected.{DiskFailed, IsDueOrFails, Reads, is_fault}
+use Rattle.up_records.specs.Senders.{IsLoadedBehind, IsSentBy, IsThere, RefusesUnread, refused_by, refused_in}
+use Rattle.up_records.specs.Connected.{is_fault}
 use Rattle.up_records.specs.Catalogs.{ArePrimaries, Come}
 
 -- what is due, or a fault
@@ -60,12 +56,13 @@ passed_on None old new x P h = tt
 passed_on {A = A} (Some r) old new x P h = absurd (let is : ◌≡◌ {A = Result A Refusal} (Ok x) (Err r) = h.refused in cc)
 
 -- where nothing is loaded yet nothing is refused so, and what was there is still there
-pub still_refused : {S A : Type 0} (k : Rules) (incoming : Incoming) (old mid : Option Catalog) (before after last : S) (result : Result A Refusal) (P : Type 0)
-    → (is_some old ≡ true → P × (mid ≡ old) × (after ≡ before)) → IfSome (refused_in k mid incoming) (RefusesUnread after last result) → IfSome (refused_in k old incoming) (RefusesUnread before last result)
-still_refused k incoming None mid before after last result P there h = tt
-still_refused k incoming (Some c) mid before after last result P there h =
+pub still_refused : {S A : Type 0} (k : Rules) (incoming : Incoming) (old mid new : Option Catalog) (before after last : S) (result : Result A Refusal) (P : Type 0) → (is_some old ≡ true → P × (mid ≡ old) × (after ≡ before))
+    → IfSome (refused_in k mid incoming) (λ r. (new ≡ mid) × RefusesUnread after last result r) → IfSome (refused_in k old incoming) (λ r. (new ≡ old) × RefusesUnread before last result r)
+still_refused k incoming None mid new before after last result P there h = tt
+still_refused k incoming (Some c) mid new before after last result P there h =
     let it = there refl in
-    subst (λ x. IfSome (refused_in k (Some c) incoming) (RefusesUnread x last result)) it.2 (subst (λ o. IfSome (refused_in k o incoming) (RefusesUnread after last result)) it.1 h)
+    subst (λ x. IfSome (refused_in k (Some c) incoming) (λ r. (new ≡ Some c) × RefusesUnread x last result r)) it.2
+    (subst (λ (o : Option Catalog). IfSome (refused_in k o incoming) (λ r. (new ≡ o) × RefusesUnread after last result r)) it.1 h)
 
 pub none_loaded : {E : Type 0} (k : Rules) (incoming : Incoming) (old : Option Catalog) (fault : E) (Q : Type 0) (P : Refusal → Type 0)
     → (is_some old ≡ true → (◌≡◌ {A = Result ⊤ E} (Err fault) (Ok tt)) × Q) → IfSome (refused_in k old incoming) P
@@ -90,39 +87,6 @@ come_sent k s incoming founding received old new there receives are come vehicle
     by_case : (table.get old vehicle ≡ Some primary) ⊎ (vehicle ≡ incoming.manifest.vehicle) → (table.get old vehicle ≡ Some primary) ⊎ IsSentBy k incoming vehicle primary
     by_case (inl was) = inl was
     by_case (inr same) = inr (same, sent_checked k s incoming founding primary received there (subst (λ (n : Name). primary_of s n ≡ Some primary) same (are vehicle primary found)) receives)
-
--- ---- what is loaded for it
-
--- ---- the rows of its vehicle
-
-pub unknown_refused : (k : Rules) (s : State) (incoming : Incoming) (founding : Founding) (r : Refusal) → founding_row s ≡ Some founding → GivesVehicle s incoming.manifest.vehicle (Err r)
-    → MatchBool (is_fault r) ⊤ (receive_manifest k s incoming ≡ Err r)
-unknown_refused k s incoming founding r there h = by_loss (is_fault r) h
-  where
-    by_loss : (b : Bool) → MatchBool b ⊤ ((vehicle_rows s incoming.manifest.vehicle ≡ None) × (r ≡ UnknownVehicle)) → MatchBool b ⊤ (receive_manifest k s incoming ≡ Err r)
-    by_loss true h = tt
-    by_loss false h = no_vehicle k s incoming founding there h.0 ∙ ap (λ q. Err q) (sym h.1)
-
--- the rows of a vehicle whose Primary sent the manifest
-pub sent_rows : (k : Rules) (s : State) (incoming : Incoming) (founding : Founding) (result : Result VehicleRows Refusal) → founding_row s ≡ Some founding → GivesSent k s incoming (Ok tt)
-    → GivesVehicle s incoming.manifest.vehicle result → GivesSenderRows k s incoming founding result
-sent_rows k s incoming founding (Ok rows) there sent told = record { founding = there; vehicle = told; received = sent.0; receives = sent.1 }
-sent_rows k s incoming founding (Err r) there sent told = unknown_refused k s incoming founding r there told
-
--- what refuses the sender refuses the manifest
-pub sender_refused : {old new : Connected} → Reads old new → (k : Rules) (s : State) (at : ℕ) (incoming : Incoming) (r : Refusal) → (r ≡ Store → DiskFailed old new) → MatchBool (is_fault r) ⊤ (receive_manifest k s incoming ≡ Err r)
-    → IsDueOrFails old new r (decide_incoming k s at incoming)
-sender_refused {old} {new} reads k s at incoming r blame h = by_loss (is_fault r) h
-  where
-    by_loss : (b : Bool) → MatchBool b ⊤ (receive_manifest k s incoming ≡ Err r) → MatchBool b (r ≡ Store → DiskFailed old new) (decide_incoming k s at incoming ≡ Err r)
-    by_loss true h = blame
-    by_loss false h = refused_first k s at incoming r h
-
--- what was there is still there, and where nothing was nothing is refused so
-pub still_left : (k : Rules) (incoming : Incoming) (old mid new : Option Catalog) (Q R : Type 0) → (is_some old ≡ true → Q × (mid ≡ old) × R)
-    → IfSome (refused_in k mid incoming) (λ r. new ≡ mid) → IfSome (refused_in k old incoming) (λ r. new ≡ old)
-still_left k incoming None mid new Q R there h = tt
-still_left k incoming (Some c) mid new Q R there h = subst (λ (o : Option Catalog). IfSome (refused_in k o incoming) (λ r. new ≡ o)) (there refl).1 h
 
 -- what was loaded
 pub loaded_behind : {A : Type 0} (result : Result A Refusal) (catalog : Option Catalog) → IsThere result catalog → IsLoadedBehind result catalog

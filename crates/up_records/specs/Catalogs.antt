@@ -1,5 +1,5 @@
 -- What is kept in memory of the tables, so that deliveries needn't read it again.
-use Rattle.std.specs.Prelude.{◌≡◌, ◌≤◌, ◌⊎◌, ℕ, ⊤, Option, Some, None, IfSome, IsTrue}
+use Rattle.std.specs.Prelude.{◌≡◌, ◌≤◌, ◌⊎◌, ℕ, true, ⊤, Option, Some, None, IfSome, IsTrue, is_some, Result, Ok, OnErr}
 use Rattle.std.specs.FinMap as table
 use Rattle.up_canon.specs.Names.{Name, Table}
 use Rattle.up_plan.specs.Campaigns.{CampaignData}
@@ -10,6 +10,7 @@ use Rattle.up_machine.specs.Primaries.{primary_of}
 use Rattle.up_machine.specs.Rows.{founding_row}
 use Rattle.up_machine.specs.RowsFit.{founding_fits}
 use Rattle.up_machine.specs.State.{State}
+use Rattle.up_tables.specs.declared.values.StoreFault.{StoreFault}
 use Rattle.up_store.specs.Found.{values_where}
 use Rattle.up_records.specs.declared.catalog.Catalog.{Catalog}
 
@@ -83,3 +84,11 @@ pub record IsFresh (k : Rules) (read : Option Catalog) : Type 0 where
 abbrev pub Come : (Name → Primary → Type 0) → Table Primary → Table Primary → Type 0
 Come P old new = (vehicle : Name) (primary : Primary) → table.get new vehicle ≡ Some primary
     → (table.get old vehicle ≡ Some primary) ⊎ P vehicle primary
+
+-- what there was stays, and what wasn't there may be loaded, without a Primary; where that failed all is as it was
+pub record Loads {S : Type 0} (k : Rules) (kept after : Option Catalog) (old new : S) (result : Result ⊤ StoreFault) : Type 0 where
+  pub stays : StaysLoaded kept after
+  pub can : IfSome kept (CanDecide k) → IfSome after (CanDecide k)
+  pub came : Come (λ vehicle primary. ⊥) (primaries_in kept) (primaries_in after)
+  pub lost : OnErr result (after ≡ kept)
+  pub there : is_some kept ≡ true → (result ≡ Ok tt) × (after ≡ kept) × (new ≡ old)

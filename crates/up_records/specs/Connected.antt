@@ -1,15 +1,11 @@
 -- What a read over a connection finds, how it leaves the connection, and what is decided by it.
-use Rattle.std.specs.Prelude.{◌≡◌, ◌||◌, ℕ, Bool, true, false, None, Result, Ok, Err, MatchBool, IfOk, IfErr, IsTrue}
+use Rattle.std.specs.Prelude.{◌≡◌, ◌||◌, Bool, true, false, None, Result, Ok, Err, MatchBool, IfOk, IfErr, IsTrue}
 use Rattle.sqlite_disk.specs.Disk.{MoreFaults}
 use Rattle.sqlite.specs.State.{State as Connected, HasCleanDisk, Survives}
 use Rattle.up_canon.specs.Refusals.{is_memory}
 use Rattle.up_canon.specs.declared.refusal.Refusal.{Refusal}
 use Rattle.up_canon.specs.declared.refusal.Refusal.TheVariants.{Memory, Store}
 use Rattle.up_sign.specs.Schemes.{Rules}
-use Rattle.up_manifest.specs.declared.manifest.Incoming.{Incoming}
-use Rattle.up_machine.specs.declared.decision.Delivered.{Delivered}
-use Rattle.up_machine.specs.Deciding.{Outcome}
-use Rattle.up_machine.specs.Decisions.{decide_incoming, GivesDelivered}
 use Rattle.up_machine.specs.Sound.{IsSound}
 use Rattle.up_machine.specs.State.{State}
 use Rattle.up_rows.specs.StateRows.{StateRows}
@@ -63,23 +59,14 @@ pub record Finds {A : Type 0} (of_state : Rules → State → A) (old new : Conn
   -- nothing is written
   pub reads : Reads old new
 
--- this error is told only so, over tables that show a state which is sound under these rules
-abbrev pub BlamesSound : {A E : Type 0} → E → Rules → Connected → Connected → Result A E → Type 0
-BlamesSound store k old new result = (s : State) → IsSound k s → IfClean (KeepsState k s) old → BlamesDisk store old new result
-
 -- ---- decisions
 
 -- the refusal is due, or memory was refused, or the disk failed, which is told as `Store`
-abbrev pub IsDueOrFails : Connected → Connected → Refusal → Result Outcome Refusal → Type 0
+abbrev pub IsDueOrFails : {O : Type 0} → Connected → Connected → Refusal → Result O Refusal → Type 0
 IsDueOrFails old new r computed = MatchBool (is_fault r) (r ≡ Store → DiskFailed old new) (computed ≡ Err r)
 
 -- what is decided is what a decision gives, but that the disk may fail too
-abbrev pub GivesOrFails : {R : Type 0} → (Result R Refusal → Result Outcome Refusal → Type 0) → Connected → Connected → Result R Refusal
-    → Result Outcome Refusal → Type 0
+abbrev pub GivesOrFails : {R O : Type 0} → (Result R Refusal → Result O Refusal → Type 0) → Connected → Connected → Result R Refusal
+    → Result O Refusal → Type 0
 GivesOrFails gives old new (Ok x) computed = gives (Ok x) computed
 GivesOrFails gives old new (Err r) computed = IsDueOrFails old new r computed
-
--- what the rule gives of a manifest is decided, over each sound state of which this is known and that the tables showed
-abbrev pub DecidesIncoming : Rules → ℕ → Incoming → (State → Type 0) → Connected → Connected → Result Delivered Refusal → Type 0
-DecidesIncoming k at incoming is_known old new result = HasCleanDisk new → (s : State) → IsSound k s → is_known s → IfClean (KeepsState k s) old
-    → GivesOrFails (GivesDelivered k s incoming.manifest.vehicle) old new result (decide_incoming k s at incoming)

@@ -2,6 +2,5 @@ pub mod Catalogs
 pub mod Standing
 pub mod Connected
 pub mod Reads
-pub mod Steps
-pub mod Writes
 pub mod Senders
+pub mod Sessions

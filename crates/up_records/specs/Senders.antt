@@ -1,29 +1,29 @@
 -- Who sent a manifest, by what is kept in memory and by the tables.
 use Rattle.std.specs.Prelude.{◌≡◌, ◌⊎◌, Bool, true, Option, None, Some, IfSome, is_some, option_and_then, Result, Ok, Err, MatchBool, ⊤}
+use Rattle.std.specs.Borrow.{MutBor}
 use Rattle.std.specs.FinMap as table
 use Rattle.sqlite.specs.Held.{Held, state}
-use Rattle.sqlite.specs.State as connected
+use Rattle.sqlite.specs.State.{HasCleanDisk}
 use Rattle.sqlite_trees.specs.declared.store.Store.{Ghosts}
 use Rattle.up_canon.specs.Names.{Name, Table}
 use Rattle.up_canon.specs.Steps.{error_of}
 use Rattle.up_canon.specs.declared.refusal.Refusal.{Refusal}
-use Rattle.up_canon.specs.declared.refusal.Refusal.TheVariants.{NotFounded, UnknownVehicle}
+use Rattle.up_canon.specs.declared.refusal.Refusal.TheVariants.{NotFounded}
+use Rattle.up_canon.specs.Refusals.{is_memory}
 use Rattle.up_sign.specs.Schemes.{Rules}
 use Rattle.up_manifest.specs.declared.manifest.Incoming.{Incoming}
 use Rattle.up_machine.specs.declared.primary.Primary.{Primary}
 use Rattle.up_machine.specs.declared.rows.Founding.{Founding}
 use Rattle.up_machine.specs.declared.rows.VehicleRows.{VehicleRows}
-use Rattle.up_machine.specs.Deliveries.{receive_manifest}
+use Rattle.up_machine.specs.Deliveries.{Received}
 use Rattle.up_machine.specs.Primaries.{GivesSent, check_sent}
-use Rattle.up_machine.specs.Rows.{vehicle_rows}
 use Rattle.up_machine.specs.Senders.{IsSenderOf, SenderData}
 use Rattle.up_machine.specs.State.{State}
 use Rattle.up_records.specs.declared.catalog.Catalog.{Catalog}
-use Rattle.up_tables.specs.Stands as stands
-use Rattle.up_store.specs.Connections.{KeepsState}
-use Rattle.up_records.specs.Catalogs.{Come, IsOf, KeepsMore, StaysLoaded, primaries_in}
-use Rattle.up_records.specs.Connected.{Reads, is_fault}
-use Rattle.up_records.specs.Standing.{Standing, HasCleanDisk, IfClean, ShowsState}
+use Rattle.up_tables.specs.Statements.{WhereInside}
+use Rattle.up_records.specs.Catalogs.{CanDecide, Come, Fits, IsOf, KeepsMore, StaysLoaded, primaries_in}
+use Rattle.up_records.specs.Connected.{is_fault}
+use Rattle.up_records.specs.Sessions.{SeesState}
 
 -- the refusal by what is kept of its vehicle's Primary, if it is kept and didn't send the manifest
 abbrev pub refused_by : Rules → Table Primary → Incoming → Option Refusal
@@ -47,15 +47,10 @@ abbrev pub GivesKept : Rules → State → Incoming → Result Bool Refusal → 
 GivesKept k s incoming (Ok is_kept) = MatchBool is_kept (GivesSent k s incoming (Ok tt)) ⊤
 GivesKept k s incoming (Err r) = GivesSent k s incoming (Err r)
 
--- the rows of a vehicle, or the refusal of an unknown one; the database may refuse too
-abbrev pub GivesVehicle : State → Name → Result VehicleRows Refusal → Type 0
-GivesVehicle s name (Ok vehicle) = vehicle_rows s name ≡ Some vehicle
-GivesVehicle s name (Err r) = MatchBool (is_fault r) ⊤ ((vehicle_rows s name ≡ None) × (r ≡ UnknownVehicle))
-
--- the rows of the vehicle whose Primary sent the manifest, or the refusal that is due; the database may refuse too
-abbrev pub GivesSenderRows : Rules → State → Incoming → Founding → Result VehicleRows Refusal → Type 0
-GivesSenderRows k s incoming founding (Ok vehicle) = IsSenderOf k s incoming (record { founding = founding; vehicle = vehicle })
-GivesSenderRows k s incoming founding (Err r) = MatchBool (is_fault r) ⊤ (receive_manifest k s incoming ≡ Err r)
+-- the rows of the vehicle whose Primary sent the manifest
+abbrev pub GivesSenderRows : Rules → State → Incoming → Founding → Result VehicleRows Refusal → Result Received Refusal → Type 0
+GivesSenderRows k s incoming founding (Ok vehicle) computed = IsSenderOf k s incoming (record { founding = founding; vehicle = vehicle })
+GivesSenderRows k s incoming founding (Err r) computed = MatchBool (is_memory r) ⊤ (computed ≡ Err r)
 
 -- a catalog is there, unless the repositories aren't founded
 abbrev pub IsThere : {A : Type 0} → Result A Refusal → Option Catalog → Type 0
@@ -68,20 +63,18 @@ pub record IsSent (k : Rules) (s : State) (incoming : Incoming) (catalog : Catal
 
 -- ---- what a manifest leaves in memory
 
--- what it leaves of a store and of a catalog, whatever is answered
-pub record Leaves {D A : Type 0} (g : Ghosts D) (k : Rules) (incoming : Incoming) (kept after : Catalog) (old new : Held D)
+-- what it leaves of a session and of a catalog, whatever is answered
+pub record Leaves {S A : Type 0} (g : Ghosts S) (k : Rules) (incoming : Incoming) (kept after : Catalog) (old new : MutBor (Held S))
     (result : Result A Refusal) : Type 0 where
-  -- nothing is written
-  pub reads : Reads (state g old) (state g new)
   -- Primaries may come, but no more than so many, and all else stays
   pub more : KeepsMore kept after
   -- it is of the state of which it was
-  pub of : connected.HasCleanDisk (state g new) → (s : State) → stands.IfClean (KeepsState k s) (state g old) → IsOf s kept → IsOf s after
+  pub of : WhereInside g old (HasCleanDisk (state g new.now) → (s : State) → SeesState k s (state g old.now) → IsOf s kept → IsOf s after)
   -- each Primary that comes sent the manifest
-  pub came : connected.HasCleanDisk (state g new) → (s : State) → stands.IfClean (KeepsState k s) (state g old) → IsOf s kept
-      → Come (IsSentBy k incoming) kept.primaries after.primaries
+  pub came : WhereInside g old (HasCleanDisk (state g new.now) → (s : State) → SeesState k s (state g old.now) → IsOf s kept
+      → Come (IsSentBy k incoming) kept.primaries after.primaries)
   -- one that the kept Primary of its vehicle didn't send is refused as that, and nothing is read or kept
-  pub unread : IfSome (refused_by k kept.primaries incoming) (RefusesUnread {S = Held D × Catalog} (old, kept) (new, after) result)
+  pub unread : IfSome (refused_by k kept.primaries incoming) (RefusesUnread {S = MutBor (Held S) × Catalog} (old, kept) (new, after) result)
 
 -- before founding it is refused, and all stays as it is
 pub record LeavesNone {S A : Type 0} (after : Option Catalog) (old new : S) (result : Result A Refusal) : Type 0 where
@@ -90,7 +83,7 @@ pub record LeavesNone {S A : Type 0} (after : Option Catalog) (old new : S) (res
   pub none : after ≡ None
 
 -- so of what is kept, if anything
-abbrev pub LeavesIn : {D A : Type 0} → Ghosts D → Rules → Incoming → Option Catalog → Option Catalog → Held D → Held D → Result A Refusal
+abbrev pub LeavesIn : {S A : Type 0} → Ghosts S → Rules → Incoming → Option Catalog → Option Catalog → MutBor (Held S) → MutBor (Held S) → Result A Refusal
     → Type 0
 LeavesIn g k incoming None after old new result = LeavesNone after old new result
 LeavesIn g k incoming (Some c) None old new result = ⊥
@@ -101,13 +94,18 @@ abbrev pub IsLoadedBehind : {A : Type 0} → Result A Refusal → Option Catalog
 IsLoadedBehind (Ok x) catalog = is_some catalog ≡ true
 IsLoadedBehind (Err r) catalog = MatchBool (is_fault r) ⊤ ((r ≡ NotFounded) ⊎ (is_some catalog ≡ true))
 
--- whatever is answered
-pub record KeepsOver {A : Type 0} (k : Rules) (incoming : Incoming) (old new : Standing) (result : Result A Refusal) : Type 0 where
-  -- what is kept stays, and no more than so many Primaries are kept
-  pub stays : StaysLoaded old.catalog new.catalog
+-- what becomes of what is kept, whatever is answered
+pub record KeepsOver {S A : Type 0} (g : Ghosts S) (k : Rules) (incoming : Incoming) (kept after : Option Catalog) (old new : MutBor (Held S))
+    (result : Result A Refusal) : Type 0 where
+  -- it stays, and no more than so many Primaries are kept
+  pub stays : StaysLoaded kept after
+  -- it is of the state of which it was, and can be used, if it could be
+  pub fits : WhereInside g old (HasCleanDisk (state g new.now) → (s : State) → SeesState k s (state g old.now) → Fits s kept → Fits s after)
+  pub can : IfSome kept (CanDecide k) → IfSome after (CanDecide k)
   -- each Primary that comes to be kept sent the manifest
-  pub came : HasCleanDisk new → (s : State) → IfClean (ShowsState k s) old → Come (IsSentBy k incoming) (primaries_in old.catalog) (primaries_in new.catalog)
+  pub came : WhereInside g old (HasCleanDisk (state g new.now) → (s : State) → SeesState k s (state g old.now) → Fits s kept
+      → Come (IsSentBy k incoming) (primaries_in kept) (primaries_in after))
   -- a catalog is there, unless a fault was told or the repositories aren't founded
-  pub there : IsLoadedBehind result new.catalog
-  -- a manifest that the kept Primary of its vehicle didn't send changes nothing
-  pub left : IfSome (refused_in k old.catalog incoming) (λ r. new.catalog ≡ old.catalog)
+  pub there : IsLoadedBehind result after
+  -- a manifest that the kept Primary of its vehicle didn't send changes nothing, and is refused with nothing read
+  pub left : IfSome (refused_in k kept incoming) (λ r. (after ≡ kept) × RefusesUnread old new result r)

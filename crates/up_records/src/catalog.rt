@@ -1,17 +1,14 @@
 //! What is kept in memory of the tables, so that deliveries needn't read it again.
-ghost use Rattle.std.specs.Prelude.{◌≡◌, None, Some, Ok, IfOk, IsTrue, is_some, true};
-ghost use Rattle.sqlite.specs.Held.{state};
+ghost use Rattle.std.specs.Prelude.{◌≡◌, None, Some, IfOk, IsTrue};
 ghost use Rattle.up_plan.specs.Campaigns.{CampaignData};
 ghost use Rattle.up_machine.specs.Rows.{founding_row};
 ghost use Rattle.up_machine.specs.RowsFit.{founding_fits};
 ghost use Rattle.up_store.specs.Found.{values_where};
-ghost use Rattle.up_records.specs.Connected.{Finds};
-ghost use Rattle.up_records.specs.Catalogs.{Come, IsFresh, IsLoaded, StaysLoaded, primaries_in};
-ghost use Rattle.up_records.specs.Reads.{ReadsSuch};
-ghost use Rattle.up_records.specs.Standing.{over};
+ghost use Rattle.up_records.specs.Catalogs.{Fits, IsFresh, IsLoaded, Loads};
+ghost use Rattle.up_records.specs.Sessions.{FindsIn, FindsUnder};
 
-use crate::reads::read_founding;
-use sqlite::Alter;
+use crate::session::read_founding;
+use sqlite::{Alter, Transaction};
 use std::alloc::Global;
 use std::mem::replace;
 use up_canon::table::Table;
@@ -21,7 +18,9 @@ use up_metadata::hashed_keys::{HashedRoleKeys, hashed_roles};
 use up_plan::image::Image;
 use up_plan::running::Running;
 use up_sign::scheme::Scheme;
-use up_store::store::{Store, StoreFault};
+use up_store::campaigns::find_running;
+use up_store::images::find_images;
+use up_store::store::StoreFault;
 
 /// What every delivery needs: the founding, the keys of the Director's roles, hashed, the running campaigns, ready for look-ups
 /// by vehicle, the images by their names, and the Primaries of vehicles that delivered since, by the vehicles' names. Deliveries
@@ -36,7 +35,7 @@ pub struct Catalog {
 }
 
 /// Leaves nothing of the tables in memory.
-pub(crate) fn forget(catalog: &mut Option<Catalog>)
+pub fn forget(catalog: &mut Option<Catalog>)
     ensures { catalog.new ≡ None }
 {
     drop(catalog.take());
@@ -44,22 +43,19 @@ pub(crate) fn forget(catalog: &mut Option<Catalog>)
 
 /// Reads the catalog where there is none. There is none before founding, and after a fault.
 pub(crate) fn load<K: Scheme, D: Alter>(
-    store: &mut Store<D>,
+    tx: &mut Transaction<'_, D>,
     catalog: &mut Option<Catalog>,
     alloc: Global,
     scheme: &K,
 ) -> Result<(), StoreFault>
-    ensures loads { ReadsSuch (K.rules scheme.now) (λ s _. IsLoaded s catalog.new)
-        (over D.Store store.old catalog.old) (over D.Store store.new catalog.new) result }
-    ensures kept { StaysLoaded catalog.old catalog.new }
-    ensures came { Come (λ vehicle primary. ⊥) (primaries_in catalog.old) (primaries_in catalog.new) }
-    ensures there { is_some catalog.old ≡ true → (result ≡ Ok tt) × (catalog.new ≡ catalog.old)
-        × (store.new ≡ store.old) }
+    ensures loaded { FindsUnder D.Store (K.rules scheme.now) (λ s _. Fits s catalog.old → IsLoaded s catalog.new)
+        tx.old.conn tx.new.conn result }
+    ensures kept { Loads (K.rules scheme.now) catalog.old catalog.new tx.old.conn tx.new.conn result }
 {
     if catalog.is_some() {
         return Ok(());
     }
-    match read_catalog(store, alloc, scheme) {
+    match read_catalog(tx, alloc, scheme) {
         Ok(read) => {
             drop(replace(catalog, read));
             Ok(())
@@ -70,16 +66,15 @@ pub(crate) fn load<K: Scheme, D: Alter>(
 
 /// Reads the catalog, none before founding.
 fn read_catalog<K: Scheme, D: Alter>(
-    store: &mut Store<D>,
+    tx: &mut Transaction<'_, D>,
     alloc: Global,
     scheme: &K,
 ) -> Result<Option<Catalog>, StoreFault>
-    ensures found { ReadsSuch (K.rules scheme.now) (λ s read. IsLoaded s read)
-        (over D.Store store.old None) (over D.Store store.new None) result }
+    ensures found { FindsUnder D.Store (K.rules scheme.now) (λ s read. IsLoaded s read) tx.old.conn tx.new.conn result }
     ensures fresh { IfOk result (λ read. IsFresh (K.rules scheme.now) read) }
 {
-    match read_founding(store, alloc, scheme) {
-        Ok(Some(founding)) => read_registers(store, alloc, scheme, founding),
+    match read_founding(tx, alloc, scheme) {
+        Ok(Some(founding)) => read_registers(tx, alloc, scheme, founding),
         Ok(None) => Ok(None),
         Err(fault) => Err(fault),
     }
@@ -87,14 +82,14 @@ fn read_catalog<K: Scheme, D: Alter>(
 
 /// Reads what is there once the repositories are founded.
 fn read_registers<K: Scheme, D: Alter>(
-    store: &mut Store<D>,
+    tx: &mut Transaction<'_, D>,
     alloc: Global,
     scheme: &K,
     founding: Founding,
 ) -> Result<Option<Catalog>, StoreFault>
     requires { IsTrue (founding_fits (K.rules scheme.now) founding) }
-    ensures found { ReadsSuch (K.rules scheme.now) (λ s read. founding_row s ≡ Some founding → IsLoaded s read)
-        (over D.Store store.old None) (over D.Store store.new None) result }
+    ensures found { FindsUnder D.Store (K.rules scheme.now) (λ s read. founding_row s ≡ Some founding → IsLoaded s read)
+        tx.old.conn tx.new.conn result }
     ensures fresh { IfOk result (λ read. IsFresh (K.rules scheme.now) read) }
 {
     let hashed = match hashed_roles(alloc, scheme, &founding.keys.director) {
@@ -104,14 +99,14 @@ fn read_registers<K: Scheme, D: Alter>(
             return Err(StoreFault::Memory);
         }
     };
-    let campaigns = match read_running(store, alloc) {
+    let campaigns = match read_running(tx, alloc) {
         Ok(campaigns) => campaigns,
         Err(fault) => {
             drop((founding, hashed));
             return Err(fault);
         }
     };
-    match store.images(alloc) {
+    match find_images(tx, alloc) {
         Ok(images) => Ok(Some(Catalog {
             founding,
             hashed,
@@ -127,11 +122,11 @@ fn read_registers<K: Scheme, D: Alter>(
 }
 
 /// Reads the running campaigns, and makes them ready for look-ups.
-fn read_running<D: Alter>(store: &mut Store<D>, alloc: Global) -> Result<Running, StoreFault>
-    ensures { Finds (λ k s. values_where (λ (c : CampaignData). c.running) s.campaigns)
-        (state D.Store store.old) (state D.Store store.new) result }
+fn read_running<D: Alter>(tx: &mut Transaction<'_, D>, alloc: Global) -> Result<Running, StoreFault>
+    ensures { FindsIn D.Store (λ _ s running. running ≡ values_where (λ (c : CampaignData). c.running) s.campaigns)
+        tx.old.conn tx.new.conn result }
 {
-    match store.running(alloc) {
+    match find_running(tx, alloc) {
         Ok(campaigns) => match Running::new(alloc, campaigns) {
             Ok(running) => Ok(running),
             Err(_) => Err(StoreFault::Memory),

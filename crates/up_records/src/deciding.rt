@@ -1,24 +1,20 @@
 //! What is decided on a manifest.
-ghost use Rattle.std.specs.Prelude.{◌≡◌, ◌≤◌, ◌<◌, IfSome, ⊤};
-ghost use Rattle.sqlite.specs.Held.{state};
+ghost use Rattle.std.specs.Prelude.{◌≡◌, ◌≤◌, ◌<◌, IfSome};
 ghost use Rattle.up_canon.specs.Moments.{last_command_moment};
-ghost use Rattle.up_sign.specs.Schemes.{Rules};
 ghost use Rattle.up_metadata.specs.Keys.{hashed_roles};
-ghost use Rattle.up_machine.specs.Decisions.{IsRead, decide_incoming, GivesDelivered};
-ghost use Rattle.up_machine.specs.Senders.{CanAnswer, IsSenderOf};
+ghost use Rattle.up_machine.specs.Decisions.{GivesDelivered, IsRead, decide_incoming};
+ghost use Rattle.up_machine.specs.Senders.{CanAnswer};
 ghost use Rattle.up_machine.specs.Sound.{IsSound};
 ghost use Rattle.up_machine.specs.State.{State};
-ghost use Rattle.up_records.specs.Catalogs.{CanDecide, IsLoaded, IsOf};
-ghost use Rattle.up_records.specs.Connected.{DecidesIncoming, Reads};
-ghost use Rattle.up_records.specs.Senders.{IsSent, KeepsOver, Leaves, LeavesIn, RefusesUnread, refused_in};
-ghost use Rattle.up_records.specs.Standing.{over};
-ghost use Rattle.up_records.specs.Steps.{Decides};
+ghost use Rattle.up_records.specs.Catalogs.{CanDecide, Fits, IsLoaded, IsOf};
+ghost use Rattle.up_records.specs.Senders.{IsSent, KeepsOver, Leaves, LeavesIn};
+ghost use Rattle.up_records.specs.Sessions.{DecidesIn};
 
 use crate::catalog::{Catalog, load};
 use crate::ecu_keys::keep_ecus;
 use crate::faults::refusal_of;
 use crate::senders::read_sender;
-use sqlite::Alter;
+use sqlite::{Alter, Transaction};
 use std::alloc::Global;
 use up_canon::moment::Moment;
 use up_canon::refusal::Refusal;
@@ -29,12 +25,12 @@ use up_manifest::manifest::Incoming;
 use up_rows::laws::rows_are_found;
 use up_sign::key_cache::KeyCache;
 use up_sign::scheme::Scheme;
-use up_store::store::Store;
+use up_store::manifests::find_kept;
 
 /// Decides on a manifest: who sent it, whether it was there before, and what is new. What every delivery needs is loaded where it
 /// isn't kept, and kept whatever is answered. Of a manifest that the kept Primary of its vehicle didn't send nothing is read.
-pub(crate) fn decide<K: Scheme, D: Alter>(
-    store: &mut Store<D>,
+pub fn decide<K: Scheme, D: Alter>(
+    tx: &mut Transaction<'_, D>,
     catalog: &mut Option<Catalog>,
     keys: &mut KeyCache,
     alloc: Global,
@@ -42,27 +38,23 @@ pub(crate) fn decide<K: Scheme, D: Alter>(
     at: Moment,
     incoming: &Incoming,
 ) -> Result<Delivered, Refusal>
-    requires moment { at ≤ last_command_moment }
-    requires read { IsRead incoming.now }
+    requires given { (at ≤ last_command_moment) × IsRead incoming.now }
     requires can { IfSome catalog.old (CanDecide (K.rules scheme.now)) }
-    ensures decided { Decides (K.rules scheme.now) (λ s. ⊤)
+    ensures decided { DecidesIn D.Store (K.rules scheme.now) (λ s. Fits s catalog.old)
         (λ s. GivesDelivered (K.rules scheme.now) s incoming.now.manifest.vehicle)
-        (λ s. decide_incoming (K.rules scheme.now) s at incoming.now)
-        (over D.Store store.old catalog.old) (over D.Store store.new catalog.new) result }
-    ensures kept { KeepsOver (K.rules scheme.now) incoming.now
-        (over D.Store store.old catalog.old) (over D.Store store.new catalog.new) result }
-    ensures forged { IfSome (refused_in (K.rules scheme.now) catalog.old incoming.now)
-        (RefusesUnread store.old store.new result) }
+        (λ s. decide_incoming (K.rules scheme.now) s at incoming.now) tx.old.conn tx.new.conn result }
+    ensures kept { KeepsOver D.Store (K.rules scheme.now) incoming.now
+        catalog.old catalog.new tx.old.conn tx.new.conn result }
 {
-    match load(store, catalog, alloc, scheme) {
-        Ok(()) => decide_loaded(store, catalog, keys, alloc, scheme, at, incoming),
+    match load(tx, catalog, alloc, scheme) {
+        Ok(()) => decide_loaded(tx, catalog, keys, alloc, scheme, at, incoming),
         Err(fault) => Err(refusal_of(fault)),
     }
 }
 
 /// Decides on it once the catalog is loaded; there is none before founding.
 fn decide_loaded<K: Scheme, D: Alter>(
-    store: &mut Store<D>,
+    tx: &mut Transaction<'_, D>,
     catalog: &mut Option<Catalog>,
     keys: &mut KeyCache,
     alloc: Global,
@@ -70,23 +62,23 @@ fn decide_loaded<K: Scheme, D: Alter>(
     at: Moment,
     incoming: &Incoming,
 ) -> Result<Delivered, Refusal>
-    requires moment { at ≤ last_command_moment }
-    requires read { IsRead incoming.now }
+    requires given { (at ≤ last_command_moment) × IsRead incoming.now }
     requires can { IfSome catalog.old (CanDecide (K.rules scheme.now)) }
-    ensures decided { DecidesIncoming (K.rules scheme.now) at incoming.now (λ s. IsLoaded s catalog.old)
-        (state D.Store store.old) (state D.Store store.new) result }
+    ensures decided { DecidesIn D.Store (K.rules scheme.now) (λ s. IsLoaded s catalog.old)
+        (λ s. GivesDelivered (K.rules scheme.now) s incoming.now.manifest.vehicle)
+        (λ s. decide_incoming (K.rules scheme.now) s at incoming.now) tx.old.conn tx.new.conn result }
     ensures leaves { LeavesIn D.Store (K.rules scheme.now) incoming.now
-        catalog.old catalog.new store.old store.new result }
+        catalog.old catalog.new tx.old.conn tx.new.conn result }
 {
     match catalog {
-        Some(catalog) => decide_founded(store, catalog, keys, alloc, scheme, at, incoming),
+        Some(catalog) => decide_founded(tx, catalog, keys, alloc, scheme, at, incoming),
         None => Err(Refusal::NotFounded),
     }
 }
 
 /// Decides on it by the catalog. A manifest that its vehicle's Primary didn't sign costs no more than the test of who sent it.
 fn decide_founded<K: Scheme, D: Alter>(
-    store: &mut Store<D>,
+    tx: &mut Transaction<'_, D>,
     catalog: &mut Catalog,
     keys: &mut KeyCache,
     alloc: Global,
@@ -94,29 +86,30 @@ fn decide_founded<K: Scheme, D: Alter>(
     at: Moment,
     incoming: &Incoming,
 ) -> Result<Delivered, Refusal>
-    requires moment { at ≤ last_command_moment }
-    requires read { IsRead incoming.now }
+    requires given { (at ≤ last_command_moment) × IsRead incoming.now }
     requires can { CanDecide (K.rules scheme.now) catalog.old }
-    ensures decided { DecidesIncoming (K.rules scheme.now) at incoming.now (λ s. IsOf s catalog.old)
-        (state D.Store store.old) (state D.Store store.new) result }
+    ensures decided { DecidesIn D.Store (K.rules scheme.now) (λ s. IsOf s catalog.old)
+        (λ s. GivesDelivered (K.rules scheme.now) s incoming.now.manifest.vehicle)
+        (λ s. decide_incoming (K.rules scheme.now) s at incoming.now) tx.old.conn tx.new.conn result }
     ensures leaves { Leaves D.Store (K.rules scheme.now) incoming.now
-        catalog.old catalog.new store.old store.new result }
+        catalog.old catalog.new tx.old.conn tx.new.conn result }
 {
-    match read_sender(store, catalog, keys, alloc, scheme, incoming) {
+    match read_sender(tx, catalog, keys, alloc, scheme, incoming) {
         Ok(rows) => {
             let sender = Sender {
                 founding: &catalog.founding,
                 vehicle: &rows,
             };
-            decide_sent(store, catalog, keys, alloc, scheme, at, incoming, &sender)
+            decide_sent(tx, catalog, keys, alloc, scheme, at, incoming, &sender)
         }
         Err(refusal) => Err(refusal),
     }
 }
 
-/// Decides on it once it is known who sent it: its counter tells whether it may have been there before.
+/// Decides on it once it is known who sent it: its counter tells whether it may have been there before, and then the row that was kept
+/// with it whether it is a repeat.
 fn decide_sent<K: Scheme, D: Alter>(
-    store: &mut Store<D>,
+    tx: &mut Transaction<'_, D>,
     catalog: &Catalog,
     keys: &mut KeyCache,
     alloc: Global,
@@ -125,40 +118,20 @@ fn decide_sent<K: Scheme, D: Alter>(
     incoming: &Incoming,
     sender: &Sender,
 ) -> Result<Delivered, Refusal>
-    requires moment { at ≤ last_command_moment }
-    requires read { IsRead incoming.now }
+    requires given { (at ≤ last_command_moment) × IsRead incoming.now }
     requires can { CanAnswer (K.rules scheme.now) sender.now }
     requires hashed { catalog.now.hashed ≡ hashed_roles (K.rules scheme.now) sender.now.founding.keys.director }
-    ensures decided { DecidesIncoming (K.rules scheme.now) at incoming.now
+    ensures { DecidesIn D.Store (K.rules scheme.now)
         (λ s. IsSent (K.rules scheme.now) s incoming.now catalog.now sender.now)
-        (state D.Store store.old) (state D.Store store.new) result }
-    ensures reads { Reads (state D.Store store.old) (state D.Store store.new) }
-{
-    if is_later(incoming, sender) {
-        decide_later(catalog, keys, alloc, scheme, at, incoming, sender)
-    } else {
-        decide_earlier(store, alloc, at, incoming, sender)
-    }
-}
-
-/// Of a manifest whose counter isn't above the last: the row that was kept with it tells whether it is a repeat.
-fn decide_earlier<D: Alter>(
-    store: &mut Store<D>,
-    alloc: Global,
-    at: Moment,
-    incoming: &Incoming,
-    sender: &Sender,
-) -> Result<Delivered, Refusal>
-    requires moment { at ≤ last_command_moment }
-    requires read { IsRead incoming.now }
-    requires older { incoming.now.manifest.counter ≤ sender.now.vehicle.vehicle.last }
-    ensures decided { (k : Rules) → DecidesIncoming k at incoming.now (λ s. IsSenderOf k s incoming.now sender.now)
-        (state D.Store store.old) (state D.Store store.new) result }
-    ensures reads { Reads (state D.Store store.old) (state D.Store store.new) }
+        (λ s. GivesDelivered (K.rules scheme.now) s incoming.now.manifest.vehicle)
+        (λ s. decide_incoming (K.rules scheme.now) s at incoming.now) tx.old.conn tx.new.conn result }
 {
     rows_are_found();
+    if is_later(incoming, sender) {
+        return decide_later(catalog, keys, alloc, scheme, at, incoming, sender);
+    }
     let manifest = &incoming.manifest;
-    match store.kept(alloc, &manifest.vehicle, manifest.counter) {
+    match find_kept(tx, alloc, &manifest.vehicle, manifest.counter) {
         Ok(kept) => decide_again(alloc, incoming, sender, kept.as_ref()),
         Err(fault) => Err(refusal_of(fault)),
     }
@@ -174,8 +147,7 @@ fn decide_later<K: Scheme>(
     incoming: &Incoming,
     sender: &Sender,
 ) -> Result<Delivered, Refusal>
-    requires moment { at ≤ last_command_moment }
-    requires read { IsRead incoming.now }
+    requires given { (at ≤ last_command_moment) × IsRead incoming.now }
     requires later { sender.now.vehicle.vehicle.last < incoming.now.manifest.counter }
     requires can { CanAnswer (K.rules scheme.now) sender.now }
     requires hashed { catalog.now.hashed ≡ hashed_roles (K.rules scheme.now) sender.now.founding.keys.director }

@@ -2,10 +2,10 @@
 #![tactic(auto)]
 
 pub mod catalog;
-mod deciding;
+pub mod deciding;
 mod ecu_keys;
 pub mod faults;
-mod reads;
 pub mod records;
 mod senders;
+pub mod session;
 mod views;

@@ -3,20 +3,36 @@ ghost use Rattle.std.specs.Prelude.{◌≡◌, IfErr, IfOk, Some, map, option_an
 ghost use Rattle.sqlite.specs.Held.{state};
 ghost use Rattle.up_machine.specs.Reads.{ecus_of as ecus_in, version_of as version_in, installed as installed_in};
 ghost use Rattle.up_machine.specs.Reads.{assigned_to};
+ghost use Rattle.up_machine.specs.Rows.{vehicle_rows};
 ghost use Rattle.up_rows.specs.Lookups.{installed_among};
 ghost use Rattle.up_tables.specs.declared.values.StoreFault.TheVariants as faults;
 ghost use Rattle.up_records.specs.Connected.{Finds};
 
-use crate::reads::read_vehicle;
+use crate::session::read_vehicle;
 use sqlite::Alter;
 use std::alloc::{AllocError, Global};
 use up_canon::ident::Ident;
 use up_canon::listed::{Duplicate, Listed};
-use up_machine::rows::EcuRow;
+use up_machine::rows::{EcuRow, VehicleRows};
 use up_manifest::report::Installed;
 use up_plan::assigned::Plan;
 use up_rows::laws::{rows_are_found, views_are_told};
+use up_store::manifests::find_latest;
 use up_store::store::{Store, StoreFault};
+use up_store::vehicles::{find_ecus, find_owner, find_vehicle};
+
+/// The rows of a vehicle, none of an unknown one.
+pub fn rows_of<D: Alter>(
+    store: &mut Store<D>,
+    alloc: Global,
+    vehicle: &Ident,
+) -> Result<Option<VehicleRows>, StoreFault>
+    ensures { Finds (λ k s. vehicle_rows s vehicle.now)
+        (state D.Store store.old) (state D.Store store.new) result }
+{
+    let mut tx = store.conn.transaction();
+    read_vehicle(&mut tx, alloc, vehicle)
+}
 
 /// How many manifests of a vehicle were accepted, none of an unknown vehicle.
 pub fn version_of<D: Alter>(
@@ -28,7 +44,8 @@ pub fn version_of<D: Alter>(
         (state D.Store store.old) (state D.Store store.new) result }
 {
     views_are_told();
-    match store.vehicle(alloc, vehicle) {
+    let mut tx = store.conn.transaction();
+    match find_vehicle(&mut tx, alloc, vehicle) {
         Ok(Some(row)) => Ok(Some(row.version)),
         Ok(None) => Ok(None),
         Err(fault) => Err(fault),
@@ -46,7 +63,8 @@ pub fn ecus_of<D: Alter>(
 {
     rows_are_found();
     views_are_told();
-    match read_vehicle(store, alloc, vehicle) {
+    let mut tx = store.conn.transaction();
+    match read_vehicle(&mut tx, alloc, vehicle) {
         Ok(Some(rows)) => some_names(alloc, rows.ecus.as_slice()),
         Ok(None) => Ok(None),
         Err(fault) => Err(fault),
@@ -80,12 +98,13 @@ pub fn installed_on<D: Alter>(
         (state D.Store store.old) (state D.Store store.new) result }
 {
     views_are_told();
-    let owner = match store.ecu_owner(ecu) {
+    let mut tx = store.conn.transaction();
+    let owner = match find_owner(&mut tx, ecu) {
         Ok(Some(owner)) => owner,
         Ok(None) => return Ok(None),
         Err(fault) => return Err(fault),
     };
-    match store.ecus(alloc, &owner) {
+    match find_ecus(&mut tx, alloc, &owner) {
         Ok(rows) => image_among(alloc, rows.as_slice(), ecu),
         Err(fault) => Err(fault),
     }
@@ -124,7 +143,8 @@ pub fn assigned_of<D: Alter>(
         (state D.Store store.old) (state D.Store store.new) result }
 {
     views_are_told();
-    match store.latest(alloc, vehicle) {
+    let mut tx = store.conn.transaction();
+    match find_latest(&mut tx, alloc, vehicle) {
         Ok(Some(row)) => Ok(Some(row.plan)),
         Ok(None) => Ok(None),
         Err(fault) => Err(fault),

@@ -10,7 +10,7 @@ use Rattle.up_canon.specs.Readers.{ident_in, file_name_in, note_in}
 use Rattle.up_canon.specs.Steps.{◌>>=◌, or_error, unless, each}
 use Rattle.up_canon.specs.declared.refusal.Refusal.{Refusal}
 use Rattle.up_canon.specs.declared.refusal.Refusal.TheVariants.{BadShape, NotJson}
-use Rattle.up_sign.specs.Envelopes.{sealed}
+use Rattle.up_sign.specs.Envelopes.{sealed_envelope}
 use Rattle.up_sign.specs.Formats.{envelope_text}
 use Rattle.up_sign.specs.Hmac.{hmac_sha256}
 use Rattle.up_sign.specs.Schemes.{Rules}
@@ -68,7 +68,7 @@ envelope_of k d = do
   map ← object_of (codes "reports") d
   secret ← secret_in k map
   report ← report_of map
-  Ok (sealed k (secret ∷ []) (report_text report))
+  Ok (sealed_envelope k (secret ∷ []) (report_text report))
 
 -- ---- the manifest
 

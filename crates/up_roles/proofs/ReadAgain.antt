@@ -9,7 +9,7 @@ use Rattle.up_canon.specs.Build.{list_with, hex_value}
 use Rattle.up_canon.specs.Canon.{has_canon, is_plain, text}
 use Rattle.up_canon.specs.Names.{is_from_to, is_short_text}
 use Rattle.up_canon.specs.declared.refusal.Refusal.{Refusal}
-use Rattle.up_sign.specs.Envelopes.{sealed}
+use Rattle.up_sign.specs.Envelopes.{sealed_envelope}
 use Rattle.up_sign.specs.Formats.{signature_value, signature_fits, envelope_text, envelope_fits, has_bytes, is_object}
 use Rattle.up_sign.specs.Laws.{TextsAreRead, SealedFits, envelope_value}
 use Rattle.up_sign.specs.Schemes.{Rules, is_byte}
@@ -61,10 +61,10 @@ envelope-ascii e fits bytes signed =
 
 pub read-again : {F : Type 0} (meaning : Data → Result F Refusal) (M : Data → F → Type 0) → ReadsAs meaning M → (k : Rules) (secrets : List (List ℕ)) (payload : Data) (file : F)
     → Lower → AreSigners k secrets → has_canon payload ≡ true → IsTrue (is_object payload) → M payload file
-    → length (sealed_text k secrets payload) ≤ largest_file → file_in meaning (sealed_text k secrets payload) ≡ Ok (file, sealed k secrets (text payload))
+    → length (sealed_text k secrets payload) ≤ largest_file → file_in meaning (sealed_text k secrets payload) ≡ Ok (file, sealed_envelope k secrets (text payload))
 unfolding sealed_text
 read-again meaning M reads k secrets payload file law signers canon object means small =
-    let e = sealed k secrets (text payload) in
+    let e = sealed_envelope k secrets (text payload) in
     let limits = law.limits k secrets (text payload) signers.scheme signers.fit signers.some signers.few in
     let read = law.texts (codes "body") e payload limits.0 limits.1 (rw canon refl, object) in
     let ascii = envelope-ascii e limits.0 limits.1 (text-ascii payload (and_parts (is_plain payload) _ canon).0) in

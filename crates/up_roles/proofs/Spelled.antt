@@ -3,7 +3,7 @@ use Rattle.std.proofs.Common.{◌≡◌, ℕ, List, [], ◌∷◌, ◌++◌, Opt
 use Rattle.std.specs.Prelude.{codes, decimal, option_map, unwrap_or}
 use Rattle.serde_json.specs.Data.{Data, string}
 use Rattle.up_canon.specs.Build.{list_with, hashes_value}
-use Rattle.up_canon.specs.Canon.{quoted, text}
+use Rattle.up_canon.specs.Canon.{json_string, text}
 use Rattle.up_canon.specs.Moments.{moment_text}
 use Rattle.up_canon.specs.Names.{Name}
 use Rattle.up_roles.specs.Payload.{payload, repository_text}
@@ -17,7 +17,7 @@ use Rattle.up_roles.specs.declared.timestamp.TimestampFile.{TimestampFile}
 
 -- the vehicle, where there is one
 abbrev pub vehicle_text : Option Name → List ℕ
-vehicle_text vehicle = unwrap_or (option_map (λ name. codes ",\"vehicle\":" ++ quoted name) vehicle) []
+vehicle_text vehicle = unwrap_or (option_map (λ name. codes ",\"vehicle\":" ++ json_string name) vehicle) []
 
 -- the same, the version, and the end
 abbrev pub end_text : Option Name → ℕ → List ℕ
@@ -45,15 +45,15 @@ timestamp_meta_text file =
 
 -- of a file that lists another one
 pub listing_text : (kind : List ℕ) (r : Repository) (version expires : ℕ) (vehicle : Option Name) (meta : Data)
-    → (codes "{\"expires\":" ++ quoted (moment_text expires)) ++ ((codes ",\"meta\":" ++ text meta) ++ ((codes ",\"repository\":" ++ quoted (repository_text r))
-    ++ ((codes ",\"type\":" ++ quoted kind) ++ end_text vehicle version)))
+    → (codes "{\"expires\":" ++ json_string (moment_text expires)) ++ ((codes ",\"meta\":" ++ text meta) ++ ((codes ",\"repository\":" ++ json_string (repository_text r))
+    ++ ((codes ",\"type\":" ++ json_string kind) ++ end_text vehicle version)))
     ≡ text (payload kind r version expires vehicle ((codes "meta", meta) ∷ []))
 listing_text kind r version expires None meta = refl
 listing_text kind r version expires (Some name) meta = refl
 
 -- of a file that lists targets
 pub targets_text : (r : Repository) (version expires : ℕ) (vehicle : Option Name) (targets : List Target)
-    → (codes "{\"expires\":" ++ quoted (moment_text expires)) ++ ((codes ",\"repository\":" ++ quoted (repository_text r))
+    → (codes "{\"expires\":" ++ json_string (moment_text expires)) ++ ((codes ",\"repository\":" ++ json_string (repository_text r))
     ++ (codes ",\"targets\":" ++ (text (list_with (map target_value targets)) ++ (codes ",\"type\":\"targets\"" ++ end_text vehicle version))))
     ≡ text (payload (codes "targets") r version expires vehicle ((codes "targets", list_with (map target_value targets)) ∷ []))
 targets_text r version expires None targets = refl
@@ -61,12 +61,12 @@ targets_text r version expires (Some name) targets = refl
 
 -- the ECU, where there is one
 abbrev pub ecu_text : Option Name → List ℕ
-ecu_text ecu = unwrap_or (option_map (λ name. codes "\"ecu\":" ++ (quoted name ++ codes ",")) ecu) []
+ecu_text ecu = unwrap_or (option_map (λ name. codes "\"ecu\":" ++ (json_string name ++ codes ",")) ecu) []
 
 -- the members behind the ECU
 abbrev pub image_text : Target → List ℕ
 image_text t =
-    codes "\"file\":" ++ (quoted t.file ++ (codes ",\"hardware\":" ++ (text (list_with (map string t.hardware)) ++ (codes ",\"hashes\":" ++ (text (hashes_value t.sha256 t.sha512)
+    codes "\"file\":" ++ (json_string t.file ++ (codes ",\"hardware\":" ++ (text (list_with (map string t.hardware)) ++ (codes ",\"hashes\":" ++ (text (hashes_value t.sha256 t.sha512)
     ++ (codes ",\"length\":" ++ (decimal t.length ++ (codes ",\"release\":" ++ (decimal t.release ++ codes "}")))))))))
 
 pub target_text : (t : Target) → (codes "{" ++ ecu_text t.ecu) ++ image_text t ≡ text (target_value t)
@@ -74,4 +74,4 @@ target_text t = by_ecu t.ecu
   where
     by_ecu : (ecu : Option Name) → (codes "{" ++ ecu_text ecu) ++ image_text t ≡ text (target_value (record { ecu = ecu; file = t.file; length = t.length; sha256 = t.sha256; sha512 = t.sha512; hardware = t.hardware; release = t.release }))
     by_ecu None = refl
-    by_ecu (Some name) = ap (λ (rest : List ℕ). codes "{\"ecu\":" ++ rest) (append_assoc (quoted name) (codes ",") (image_text t))
+    by_ecu (Some name) = ap (λ (rest : List ℕ). codes "{\"ecu\":" ++ rest) (append_assoc (json_string name) (codes ",") (image_text t))

@@ -4,7 +4,7 @@ use Rattle.std.specs.Prelude.{String, IfOk}
 use Rattle.std.proofs.lemmas.Result.{IfOk-weaker}
 use Rattle.serde_json.specs.Data.{Data}
 use Rattle.up_canon.specs.Canon.{has_canon, text}
-use Rattle.up_sign.specs.Envelopes.{sealed}
+use Rattle.up_sign.specs.Envelopes.{sealed_envelope}
 use Rattle.up_sign.specs.Formats.{envelope_text}
 use Rattle.up_sign.specs.Schemes.{Rules}
 use Rattle.up_roles.specs.Payload.{sealed_text}
@@ -19,7 +19,7 @@ use Rattle.up_roles.proofs.PlainFiles.{canon_is, root-canon, targets-canon, snap
 -- the payload of a file within its limits has a canonical text, and the file's text is that text sealed
 pub record Writes {F : Type 0} (payload : F → Data) (text_of : Rules → List (List ℕ) → F → List ℕ) (fits typed : F → Bool) : Type 0 where
   pub canon : (file : F) → fits file ≡ true → typed file ≡ true → has_canon (payload file) ≡ true
-  pub text_is : (k : Rules) (secrets : List (List ℕ)) (file : F) → envelope_text (sealed k secrets (text (payload file))) ≡ text_of k secrets file
+  pub text_is : (k : Rules) (secrets : List (List ℕ)) (file : F) → envelope_text (sealed_envelope k secrets (text (payload file))) ≡ text_of k secrets file
 
 pub record RolesWrite : Type 0 where
   pub root : Writes root_payload root_text_of root_fits root_is_typed
@@ -39,9 +39,9 @@ roles_write = record {
 module _ {F : Type 0} {payload : F → Data} {text_of : Rules → List (List ℕ) → F → List ℕ} {fits typed : F → Bool} (role : Writes payload text_of fits typed)
     (file : F) (within : fits file ≡ true) (kept : typed file ≡ true) where
   pub is_written : {A E : Type 0} (signed : List ℕ) → signed ≡ text (payload file) → (k : Rules) (secrets : List (List ℕ)) (r : Result (String A) E)
-      → IfOk r (λ t. string_bytes t ≡ envelope_text (sealed k secrets signed)) → IsWritten (payload file) (text_of k secrets file) (typed file) r
+      → IfOk r (λ t. string_bytes t ≡ envelope_text (sealed_envelope k secrets signed)) → IsWritten (payload file) (text_of k secrets file) (typed file) r
   is_written signed is k secrets r written = record {
-    value = IfOk-weaker r _ _ (λ t h. h ∙ ap (λ (s : List ℕ). envelope_text (sealed k secrets s)) is ∙ role.text_is k secrets file) written;
+    value = IfOk-weaker r _ _ (λ t h. h ∙ ap (λ (s : List ℕ). envelope_text (sealed_envelope k secrets s)) is ∙ role.text_is k secrets file) written;
     canonical = on_ok r _ (canon_is (payload file) (role.canon file within kept));
     typed = on_ok r _ kept;
   }

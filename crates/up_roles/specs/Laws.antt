@@ -4,7 +4,7 @@ use Rattle.std.specs.List.{list_all}
 use Rattle.serde_json.specs.Data.{Data}
 use Rattle.up_canon.specs.Canon.{text}
 use Rattle.up_canon.specs.declared.refusal.Refusal.{Refusal}
-use Rattle.up_sign.specs.Envelopes.{sealed}
+use Rattle.up_sign.specs.Envelopes.{sealed_envelope}
 use Rattle.up_sign.specs.Laws.{IsTextFault}
 use Rattle.up_sign.specs.Schemes.{Rules, IsScheme}
 use Rattle.up_sign.specs.declared.envelope.Envelope.{Envelope}
@@ -32,23 +32,23 @@ pub record AreSigners (k : Rules) (secrets : List (List ℕ)) : Type 0 where
 abbrev pub TimestampsAreRead : Type 0
 TimestampsAreRead = (k : Rules) (secrets : List (List ℕ)) (file : TimestampFile) → AreSigners k secrets → IsTrue (timestamp_fits file) → IsTrue (timestamp_is_typed file)
     → length (timestamp_text_of k secrets file) ≤ largest_file
-    → timestamp_in (timestamp_text_of k secrets file) ≡ Ok (file, sealed k secrets (text (timestamp_payload file)))
+    → timestamp_in (timestamp_text_of k secrets file) ≡ Ok (file, sealed_envelope k secrets (text (timestamp_payload file)))
 
 abbrev pub SnapshotsAreRead : Type 0
 SnapshotsAreRead = (k : Rules) (secrets : List (List ℕ)) (file : SnapshotFile) → AreSigners k secrets → IsTrue (snapshot_fits file) → IsTrue (snapshot_is_typed file)
     → length (snapshot_text_of k secrets file) ≤ largest_file
-    → snapshot_in (snapshot_text_of k secrets file) ≡ Ok (file, sealed k secrets (text (snapshot_payload file)))
+    → snapshot_in (snapshot_text_of k secrets file) ≡ Ok (file, sealed_envelope k secrets (text (snapshot_payload file)))
 
 abbrev pub TargetsAreRead : Type 0
 TargetsAreRead = (k : Rules) (secrets : List (List ℕ)) (file : TargetsFile) → AreSigners k secrets → IsTrue (targets_fits file) → IsTrue (targets_is_typed file)
     → length (targets_text_of k secrets file) ≤ largest_file
-    → targets_in (targets_text_of k secrets file) ≡ Ok (file, sealed k secrets (text (targets_payload file)))
+    → targets_in (targets_text_of k secrets file) ≡ Ok (file, sealed_envelope k secrets (text (targets_payload file)))
 
 -- In a Root file the keys of one identifier have to be one key.
 abbrev pub RootsAreRead : Type 0
 RootsAreRead = (k : Rules) (secrets : List (List ℕ)) (file : RootFile) → AreSigners k secrets → IsTrue (root_fits file) → IsTrue (root_is_typed file) → IsTrue (keys_agree (all_keys file))
     → length (root_text_of k secrets file) ≤ largest_file
-    → root_in (root_text_of k secrets file) ≡ Ok (file, sealed k secrets (text (root_payload file)))
+    → root_in (root_text_of k secrets file) ≡ Ok (file, sealed_envelope k secrets (text (root_payload file)))
 
 -- ---- reading
 

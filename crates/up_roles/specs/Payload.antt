@@ -1,6 +1,6 @@
 -- What the files of the four roles have in common: type, repository, version, expiry and vehicle, and the sealing.
 use Rattle.std.specs.Prelude.{◌≡◌, ℕ, ◌++◌, List, ◌∷◌, Bool, true, false, nat_le, bytes_eq, if◌then◌else◌, Option, Some, None, option_map, option_to_list, codes, Result, Ok, Err}
-use Rattle.serde_json.specs.Data.{Data, string, Members, put}
+use Rattle.serde_json.specs.Data.{Data, string}
 use Rattle.up_canon.specs.Build.{object_with, count_value}
 use Rattle.up_canon.specs.Canon.{canon, text, max_count}
 use Rattle.up_canon.specs.JsonText.{value_within}
@@ -12,7 +12,7 @@ use Rattle.up_canon.specs.Steps.{◌>>=◌, or_error}
 use Rattle.up_canon.specs.declared.refusal.Refusal.{Refusal}
 use Rattle.up_canon.specs.declared.refusal.Refusal.TheVariants.{BadShape}
 use Rattle.up_sign.specs.Schemes.{Rules}
-use Rattle.up_sign.specs.Envelopes.{sealed}
+use Rattle.up_sign.specs.Envelopes.{sealed_envelope}
 use Rattle.up_sign.specs.declared.envelope.Envelope.{Envelope}
 use Rattle.up_sign.specs.Formats.{envelope_text}
 use Rattle.up_sign.specs.Reading.{opened_in}
@@ -26,11 +26,6 @@ abbrev pub repository_text : Repository → List ℕ
 repository_text Director = codes "director"
 repository_text Image = codes "image"
 
--- the vehicle among the members, where there is one
-abbrev pub vehicle_members : Option Name → Members → Members
-vehicle_members None ms = ms
-vehicle_members (Some name) ms = put (codes "vehicle") (string name) ms
-
 -- the members that each payload has, the vehicle where there is one, and those of the role
 abbrev pub payload_members : List ℕ → Repository → ℕ → ℕ → Option Name → List (List ℕ × Data) → List (List ℕ × Data)
 payload_members kind repository version expires vehicle more =
@@ -43,7 +38,7 @@ payload kind repository version expires vehicle more = object_with (payload_memb
 
 -- the text of a file: the envelope of its payload's text, signed with these secrets in order
 unfoldable pub sealed_text : Rules → List (List ℕ) → Data → List ℕ
-sealed_text k secrets payload = envelope_text (sealed k secrets (text payload))
+sealed_text k secrets payload = envelope_text (sealed_envelope k secrets (text payload))
 
 -- the payload has a canonical text, which is that
 abbrev pub IsCanonical : Data → Type 0

@@ -1,6 +1,6 @@
 //! Pieces of the texts of payloads.
 ghost use Rattle.std.specs.Prelude.{◌≡◌, ◌++◌, [], IfOk, OnOk, codes, decimal, option_map, string_bytes, true, unwrap_or};
-ghost use Rattle.up_canon.specs.Canon.{quoted};
+ghost use Rattle.up_canon.specs.Canon.{json_string};
 ghost use Rattle.up_canon.specs.Moments.{moment_text};
 ghost use Rattle.up_canon.specs.Names.{is_ident};
 ghost use Rattle.up_roles.specs.Payload.{is_moment, is_named, repository_text};
@@ -14,7 +14,7 @@ use up_canon::writing::{push_ident, push_moment, push_number};
 /// Begins an object with the moment of expiry.
 pub(crate) fn push_expires(out: &mut String, expires: Moment) -> Result<(), AllocError>
     ensures value { IfOk result
-        (λ _. string_bytes out.new ≡ string_bytes out.old ++ (codes "{\"expires\":" ++ quoted (moment_text expires))) }
+        (λ _. string_bytes out.new ≡ string_bytes out.old ++ (codes "{\"expires\":" ++ json_string (moment_text expires))) }
     ensures typed { is_moment expires ≡ true }
 {
     let second = expires.get();
@@ -27,7 +27,7 @@ pub(crate) fn push_expires(out: &mut String, expires: Moment) -> Result<(), Allo
 /// Appends the repository.
 pub(crate) fn push_repository(out: &mut String, repository: Repository) -> Result<(), AllocError>
     ensures { IfOk result (λ _. string_bytes out.new ≡ string_bytes out.old
-        ++ (codes ",\"repository\":" ++ quoted (repository_text repository))) }
+        ++ (codes ",\"repository\":" ++ json_string (repository_text repository))) }
 {
     match repository {
         Repository::Director => out.push_str(",\"repository\":\"director\"")?,
@@ -43,7 +43,7 @@ pub(crate) fn push_end(
     version: u64,
 ) -> Result<(), AllocError>
     ensures value { IfOk result (λ _. string_bytes out.new ≡ string_bytes out.old
-        ++ (unwrap_or (option_map (λ name. codes ",\"vehicle\":" ++ quoted name) vehicle.now) []
+        ++ (unwrap_or (option_map (λ name. codes ",\"vehicle\":" ++ json_string name) vehicle.now) []
         ++ (codes ",\"version\":" ++ (decimal version ++ codes "}")))) }
     ensures typed { OnOk result (is_named vehicle.now ≡ true) }
 {
@@ -56,7 +56,7 @@ pub(crate) fn push_end(
 
 fn push_vehicle(out: &mut String, vehicle: &Option<Ident>) -> Result<(), AllocError>
     ensures value { IfOk result (λ _. string_bytes out.new ≡ string_bytes out.old
-        ++ unwrap_or (option_map (λ name. codes ",\"vehicle\":" ++ quoted name) vehicle.now) []) }
+        ++ unwrap_or (option_map (λ name. codes ",\"vehicle\":" ++ json_string name) vehicle.now) []) }
     ensures typed { OnOk result (is_named vehicle.now ≡ true) }
 {
     match vehicle {
@@ -70,7 +70,7 @@ fn push_vehicle(out: &mut String, vehicle: &Option<Ident>) -> Result<(), AllocEr
 
 /// Appends a name in quotes.
 pub(crate) fn push_name(out: &mut String, name: &Ident) -> Result<(), AllocError>
-    ensures value { IfOk result (λ _. string_bytes out.new ≡ string_bytes out.old ++ quoted name.now) }
+    ensures value { IfOk result (λ _. string_bytes out.new ≡ string_bytes out.old ++ json_string name.now) }
     ensures typed { is_ident name.now ≡ true }
 {
     // Noted for the proof: what an identifier is.

@@ -1,6 +1,6 @@
 //! The texts of files: envelopes over payloads.
 ghost use Rattle.std.specs.Prelude.{◌≡◌, IfOk, map, string_bytes};
-ghost use Rattle.up_sign.specs.Envelopes.{key_block, sealed};
+ghost use Rattle.up_sign.specs.Envelopes.{key_block, sealed_envelope};
 ghost use Rattle.up_sign.specs.Formats.{envelope_text};
 ghost use Rattle.up_roles.specs.Writing.{CanSeal};
 
@@ -21,7 +21,7 @@ pub(crate) fn sealed_text<K: Scheme>(
     requires signers { CanSeal (K.rules scheme.now) secrets.now }
     requires hashed { keys.now ≡ map (key_block (K.rules scheme.now)) secrets.now }
     ensures { IfOk result (λ t. string_bytes t ≡ envelope_text
-        (sealed (K.rules scheme.now) secrets.now (string_bytes signed))) }
+        (sealed_envelope (K.rules scheme.now) secrets.now (string_bytes signed))) }
 {
     seal_by(alloc, scheme, secrets, keys, signed)?.text(alloc)
 }

@@ -3,7 +3,7 @@ ghost use Rattle.std.specs.Prelude.{◌≡◌, ◌≤◌, ◌++◌, [], IsTrue, 
 ghost use Rattle.std.specs.List.{list_all};
 ghost use Rattle.serde_json.specs.Data.{string};
 ghost use Rattle.up_canon.specs.Build.{list_with};
-ghost use Rattle.up_canon.specs.Canon.{quoted, text};
+ghost use Rattle.up_canon.specs.Canon.{json_string, text};
 ghost use Rattle.up_canon.specs.Names.{is_ident};
 ghost use Rattle.up_sign.specs.Envelopes.{key_block};
 ghost use Rattle.up_roles.specs.Payload.{is_named};
@@ -121,7 +121,7 @@ fn push_target(alloc: Global, out: &mut String, target: &Target) -> Result<(), A
 /// Begins an object with the ECU, where there is one.
 fn push_ecu(out: &mut String, ecu: &Option<Ident>) -> Result<(), AllocError>
     ensures value { IfOk result (λ _. string_bytes out.new ≡ string_bytes out.old
-        ++ (codes "{" ++ unwrap_or (option_map (λ name. codes "\"ecu\":" ++ (quoted name ++ codes ",")) ecu.now) [])) }
+        ++ (codes "{" ++ unwrap_or (option_map (λ name. codes "\"ecu\":" ++ (json_string name ++ codes ",")) ecu.now) [])) }
     ensures typed { OnOk result (is_named ecu.now ≡ true) }
 {
     out.push('{')?;

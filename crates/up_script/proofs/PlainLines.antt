@@ -6,7 +6,7 @@ use Rattle.std.proofs.lemmas.Str.{is_utf8-from_IsUtf8}
 use Rattle.serde_json.specs.Data.{Data, string}
 use Rattle.serde_json.specs.Read.{read}
 use Rattle.up_canon.specs.Build.{object_with, count_value}
-use Rattle.up_canon.specs.Canon.{max_count, is_printable_text, is_plain, escaped, text, PlainIsRead}
+use Rattle.up_canon.specs.Canon.{max_count, is_printable_text, is_plain, escape_of, text, PlainIsRead}
 use Rattle.up_canon.specs.JsonText.{value_in}
 use Rattle.up_canon.specs.Steps.{or_error}
 use Rattle.up_canon.specs.declared.refusal.Refusal.TheVariants.{BadShape, NotJson}
@@ -19,7 +19,7 @@ use Rattle.up_script.specs.declared.word.Word.TheVariants as word
 use Rattle.up_canon.proofs.JsonTexts.{value_in-some, value_in-none}
 use Rattle.up_canon.proofs.Members.{text_there, count_there, self_there}
 use Rattle.up_canon.proofs.Steps.{bind-ok, bind-err}
-use Rattle.up_manifest.proofs.PlainTexts.{escaped-ends}
+use Rattle.up_manifest.proofs.PlainTexts.{escape_of-ends}
 
 -- ---- the text
 
@@ -29,8 +29,8 @@ delivery_value at body = object_with ((codes "at", count_value at) ∷ (codes "b
 
 -- the pieces that are taken
 spelled : (at : ℕ) (body : List ℕ)
-    → codes "{\"at\":" ++ (decimal at ++ (codes ",\"body\":\"" ++ (flat_map escaped body ++ codes "\",\"do\":\"deliver\"}"))) ≡ text (delivery_value at body)
-spelled at body = ap (λ t. codes "{\"at\":" ++ (decimal at ++ (codes ",\"body\":" ++ t))) (escaped-ends body (codes ",\"do\":\"deliver\"}"))
+    → codes "{\"at\":" ++ (decimal at ++ (codes ",\"body\":\"" ++ (flat_map escape_of body ++ codes "\",\"do\":\"deliver\"}"))) ≡ text (delivery_value at body)
+spelled at body = ap (λ t. codes "{\"at\":" ++ (decimal at ++ (codes ",\"body\":" ++ t))) (escape_of-ends body (codes ",\"do\":\"deliver\"}"))
 
 and_three : (a b c : Bool) → a ≡ true → b ≡ true → c ≡ true → (a && (b && (c && true))) ≡ true
 and_three a b c p q r = rw (p, q, r) refl
@@ -53,7 +53,7 @@ delivery_of k at body small =
 
 -- what the line asks
 pub delivery_in : PlainIsRead → (k : Rules) (at : ℕ) (body : List ℕ) → at ≤ max_count → is_printable_text body ≡ true → (line : List ℕ) → IsUtf8 line
-    → line ≡ codes "{\"at\":" ++ (decimal at ++ (codes ",\"body\":\"" ++ (flat_map escaped body ++ codes "\",\"do\":\"deliver\"}")))
+    → line ≡ codes "{\"at\":" ++ (decimal at ++ (codes ",\"body\":\"" ++ (flat_map escape_of body ++ codes "\",\"do\":\"deliver\"}")))
     → asked_in k line ≡ Ok (record { at = at; what = Call (command.Deliver body) })
 unfolding asked_in
 delivery_in law k at body small prints line utf8 same =

@@ -9,7 +9,7 @@ use Rattle.up_canon.specs.Names.{Name}
 use Rattle.up_canon.specs.Readers.{fitting, ident_in, file_name_in, note_of, positive_in, list_within}
 use Rattle.up_canon.specs.Steps.{◌>>=◌, each}
 use Rattle.up_canon.specs.declared.refusal.Refusal.{Refusal}
-use Rattle.up_sign.specs.Envelopes.{sealed}
+use Rattle.up_sign.specs.Envelopes.{sealed_envelope}
 use Rattle.up_sign.specs.Formats.{envelope_text}
 use Rattle.up_sign.specs.Schemes.{Rules}
 use Rattle.up_sign.specs.declared.envelope.Envelope.{Envelope}
@@ -56,7 +56,7 @@ report_of k place value = do
   time ← time_in d
   attack ← attack_in d
   image ← reported_in d
-  Ok (sealed k (key ∷ []) (report_text (record { ecu = ecu; counter = counter; time = time; attack = attack; image = image })))
+  Ok (sealed_envelope k (key ∷ []) (report_text (record { ecu = ecu; counter = counter; time = time; attack = attack; image = image })))
 
 -- the body of the manifest, signed by the Primary's key
 unfoldable pub bench_in : Rules → Data → Result (List ℕ) Refusal

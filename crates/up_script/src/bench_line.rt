@@ -7,7 +7,7 @@ ghost use Rattle.up_canon.specs.Members.{IsFault, object_of_map, values_of};
 ghost use Rattle.up_canon.specs.Refusals.{Gives, GivesAs};
 ghost use Rattle.up_canon.specs.Readers.{fitting};
 ghost use Rattle.up_canon.specs.Steps.{each};
-ghost use Rattle.up_sign.specs.Envelopes.{key_block, sealed};
+ghost use Rattle.up_sign.specs.Envelopes.{key_block, sealed_envelope};
 ghost use Rattle.up_sign.specs.Formats.{envelope_fits};
 ghost use Rattle.up_manifest.specs.Building.{report_text};
 ghost use Rattle.up_script.specs.BenchLines.{secret_in, time_in, attack_in, reported_in, report_of, bench_in};
@@ -123,7 +123,7 @@ fn sealed_report<K: Scheme>(
 ) -> Result<Envelope, AllocError>
     requires hashed { hashed.now ≡ key_block (K.rules scheme.now) primary.now }
     requires fits { IsTrue ((K.rules scheme.now).secret_fits key.now) }
-    ensures value { IfOk result (λ e. e ≡ sealed (K.rules scheme.now) (key.now ∷ []) (report_text report.now)) }
+    ensures value { IfOk result (λ e. e ≡ sealed_envelope (K.rules scheme.now) (key.now ∷ []) (report_text report.now)) }
     ensures limits { IfOk result (λ e. IsTrue (envelope_fits e)) }
 {
     if key == primary {

@@ -1,6 +1,6 @@
 //! Deliveries in the form in which lines are written, read without a tree of their values.
 ghost use Rattle.std.specs.Prelude.{◌≡◌, ◌<◌, ◌++◌, ◌∷◌, [], Ok, IsTrue, IfOk, IfSome, flat_map, length};
-ghost use Rattle.up_canon.specs.Canon.{is_printable_text, escaped};
+ghost use Rattle.up_canon.specs.Canon.{is_printable_text, escape_of};
 ghost use Rattle.up_sign.specs.Schemes.{Rules};
 ghost use Rattle.up_script.specs.AskedLines.{asked_in, asks_running};
 
@@ -58,7 +58,7 @@ fn text_before<'a>(cursor: &mut Cursor<'a>, last: &str) -> Result<&'a str, Unrea
 
 /// The bytes of a text in which a backslash stands before each quote and each backslash.
 fn unescaped(alloc: Global, text: &[u8]) -> Result<Vec<u8>, Unread>
-    ensures { IfOk result (λ bytes. text.now ≡ flat_map escaped bytes.items) }
+    ensures { IfOk result (λ bytes. text.now ≡ flat_map escape_of bytes.items) }
 {
     let mut bytes = Vec::with_capacity(alloc, text.len())?;
     let mut rest = text;
@@ -77,7 +77,7 @@ fn unescaped(alloc: Global, text: &[u8]) -> Result<Vec<u8>, Unread>
 
 /// The quote or the backslash behind a backslash in front, and what is left.
 fn escape(bytes: &[u8]) -> Option<(u8, &[u8])>
-    ensures value { IfSome result (λ e. bytes.now ≡ flat_map escaped (e.0 ∷ []) ++ e.1.now) }
+    ensures value { IfSome result (λ e. bytes.now ≡ flat_map escape_of (e.0 ∷ []) ++ e.1.now) }
     ensures shorter { IfSome result (λ e. length e.1.now < length bytes.now) }
 {
     match bytes {

@@ -31,7 +31,7 @@ use Rattle.up_roles.specs.declared.repository.Repository.TheVariants.{Director, 
 use Rattle.up_heads.specs.declared.routed.Routed.{Routed}
 use Rattle.up_heads.specs.declared.routed.Routed.TheVariants as routed_as
 use Rattle.up_heads.specs.Framing.{framing}
-use Rattle.up_heads.specs.Routed.{routed}
+use Rattle.up_heads.specs.Routed.{request_route}
 use Rattle.httparse.specs.Grammar.{RequestHead}
 use Rattle.up_http.specs.Requests.{First, Firsts, Framed, asked, refused, with_body, size_of}
 use Rattle.up_http.specs.declared.asked.Next.{Next}
@@ -149,7 +149,7 @@ framed_fits at before head after rest next (Ok stated) h = by_size (nat_le (size
   where
     by_size : (b : Bool) → MatchBool b ((next ≡ asked before head stated (take (size_of stated) after)) × (rest ≡ drop (size_of stated) after)) (next ≡ refused head BadRequest)
         → Fits (requests_ask at) next
-    by_size true h = λ c is. requested at (routed head stated) (take (size_of stated) after) c (ap (λ (n : Next). requested_at at n.what) (sym h.0) ∙ is)
+    by_size true h = λ c is. requested at (request_route head stated) (take (size_of stated) after) c (ap (λ (n : Next). requested_at at n.what) (sym h.0) ∙ is)
     by_size false h = fixed_fits at next BadRequest (ap (λ (n : Next). n.what) h)
 
 first_fits : (at before : ℕ) (bytes rest : List ℕ) (next : Next) → First before bytes next rest → Fits (requests_ask at) next

@@ -6,7 +6,7 @@ use Rattle.std.specs.Cmp.Lexicographic.{bytes_decides}
 use Rattle.std.proofs.lemmas.Bool.{and_parts, or_right}
 use Rattle.std.proofs.lemmas.Bool.Decides.{nat_tests}
 use Rattle.std.proofs.lemmas.List.Sums.{sum_by-cons}
-use Rattle.up_sign.specs.Envelopes.{is_by, is_satisfied, signature_of, sealed}
+use Rattle.up_sign.specs.Envelopes.{is_by, is_satisfied, signature_of, sealed_envelope}
 use Rattle.up_sign.specs.Hmac.{key_id}
 use Rattle.up_sign.specs.Laws.{SealedFits, SealedIsAccepted}
 use Rattle.up_sign.specs.Schemes.{Rules, IsScheme}
@@ -34,14 +34,14 @@ some_is_by k law t s fits (x ∷ signers) h = by_test (bytes_eq s x) refl h (som
     by_test false e g go = or_right (is_by k t (k.public_of s) (signature_of k t x)) _ (go g)
 
 all_satisfied : (k : Rules) → IsScheme k → (t : List ℕ) (signers secrets : List (List ℕ)) → list_all k.secret_fits secrets ≡ true → list_all (λ s. list_any (bytes_eq s) signers) secrets ≡ true
-    → count_by (is_satisfied k (sealed k signers t)) (map k.public_of secrets) ≡ length secrets
+    → count_by (is_satisfied k (sealed_envelope k signers t)) (map k.public_of secrets) ≡ length secrets
 all_satisfied k law t signers [] fits among = refl
 all_satisfied k law t signers (s ∷ secrets) fits among =
     let p = and_parts (k.secret_fits s) _ fits in
     let q = and_parts (list_any (bytes_eq s) signers) _ among in
-    let one : is_satisfied k (sealed k signers t) (k.public_of s) ≡ true = some_is_by k law t s p.0 signers q.0 in
+    let one : is_satisfied k (sealed_envelope k signers t) (k.public_of s) ≡ true = some_is_by k law t s p.0 signers q.0 in
     let rest = all_satisfied k law t signers secrets p.1 q.1 in
-    sum_by-cons (λ p. cond (is_satisfied k (sealed k signers t) p) 1 0) (k.public_of s) (map k.public_of secrets) ∙ ap₂ (λ (b : Bool) (n : ℕ). cond b 1 0 + n) one rest ∙ omega arith
+    sum_by-cons (λ p. cond (is_satisfied k (sealed_envelope k signers t) p) 1 0) (k.public_of s) (map k.public_of secrets) ∙ ap₂ (λ (b : Bool) (n : ℕ). cond b 1 0 + n) one rest ∙ omega arith
 
 pub sealed_is_accepted : SealedIsAccepted
 sealed_is_accepted k secrets signers text threshold law fits among few =

@@ -5,7 +5,7 @@ use Rattle.std.proofs.lemmas.List.{length-replicate, set-get_or}
 use Rattle.std.proofs.lemmas.Option.{none-some}
 use Rattle.std.proofs.lemmas.Slice.Eq.{bytes_eq-Decides}
 use Rattle.up_sign.specs.Hmac.{block_key}
-use Rattle.up_sign.specs.KeyCaches.{Slots, slot_count, slot_of, if_block, key_in, empty_slots, made, with_key}
+use Rattle.up_sign.specs.KeyCaches.{Slots, slot_count, slot_of, if_block, key_in, empty_slots, slots_of, with_key}
 
 -- all slots, once there are so many
 pub all_empty : (count : ℕ) → count ≡ slot_count → (items : Slots) → items ≡ replicate count None → items ≡ empty_slots
@@ -50,7 +50,7 @@ kept_already (slot ∷ more) public key is = by_slot (get_or (slot ∷ more) (sl
             by_test false _ found = absurd (none-some key (sym found))
 
 -- a key that isn't there is put into its slot
-pub kept_anew : (kept items : Slots) (public key : List ℕ) (slot : ℕ) → items ≡ made kept → slot ≡ slot_of public → key ≡ block_key public → set items slot (Some key) ≡ with_key kept public
+pub kept_anew : (kept items : Slots) (public key : List ℕ) (slot : ℕ) → items ≡ slots_of kept → slot ≡ slot_of public → key ≡ block_key public → set items slot (Some key) ≡ with_key kept public
 unfolding with_key
 kept_anew kept items public key slot is at same =
-    ap (λ (all : Slots). set all slot (Some key)) is ∙ ap (λ (i : ℕ). set (made kept) i (Some key)) at ∙ ap (λ (own : List ℕ). set (made kept) (slot_of public) (Some own)) same
+    ap (λ (all : Slots). set all slot (Some key)) is ∙ ap (λ (i : ℕ). set (slots_of kept) i (Some key)) at ∙ ap (λ (own : List ℕ). set (slots_of kept) (slot_of public) (Some own)) same

@@ -9,7 +9,7 @@ use Rattle.hex.proofs.HexLemmas.{length-encode_with}
 use Rattle.up_canon.proofs.Members.{within_there}
 use Rattle.up_canon.proofs.Printable.{both, printable-hex}
 use Rattle.up_canon.specs.Names.{is_from_to, is_short_text}
-use Rattle.up_sign.specs.Envelopes.{signature_of, sealed}
+use Rattle.up_sign.specs.Envelopes.{signature_of, sealed_envelope}
 use Rattle.up_sign.specs.Formats.{signature_fits, envelope_fits, has_bytes}
 use Rattle.up_sign.specs.Hmac.{hmac, key_id}
 use Rattle.up_sign.specs.HmacLaws.{length-hmac, are_bytes-hmac}
@@ -39,10 +39,10 @@ all-bytes k law t (s ∷ secrets) fits =
     ap₂ (λ x y. x && y) (law.tag_bytes s t parts.0) (all-bytes k law t secrets parts.1)
 
 pub sealed_fits : (k : Rules) → IsScheme k → (secrets : List (List ℕ)) (t : List ℕ) → IsTrue (list_all k.secret_fits secrets) → 1 ≤ length secrets → length secrets ≤ 8
-    → envelope_fits (sealed k secrets t) ≡ true
+    → envelope_fits (sealed_envelope k secrets t) ≡ true
 sealed_fits k law secrets t fits low high =
     let size : length (map (signature_of k t) secrets) ≡ length secrets = length-map secrets (signature_of k t) in
     ap₂ (λ x y. x && y) (ap (is_from_to 1 8) size ∙ within_there 1 8 (length secrets) low high) (all-fit k law t secrets fits)
 
-pub sealed_bytes : (k : Rules) → IsScheme k → (secrets : List (List ℕ)) (t : List ℕ) → IsTrue (list_all k.secret_fits secrets) → has_bytes (sealed k secrets t) ≡ true
+pub sealed_bytes : (k : Rules) → IsScheme k → (secrets : List (List ℕ)) (t : List ℕ) → IsTrue (list_all k.secret_fits secrets) → has_bytes (sealed_envelope k secrets t) ≡ true
 sealed_bytes k law secrets t fits = all-bytes k law t secrets fits

@@ -31,5 +31,5 @@ abbrev pub signature_of : Rules → List ℕ → List ℕ → Signature
 signature_of k text s = record { keyid = identifier k s; method = k.method; sig = k.tag s text }
 
 -- the text with a signature of each secret, in their order
-abbrev pub sealed : Rules → List (List ℕ) → List ℕ → Envelope
-sealed k secrets text = record { signatures = map (signature_of k text) secrets; signed = text }
+abbrev pub sealed_envelope : Rules → List (List ℕ) → List ℕ → Envelope
+sealed_envelope k secrets text = record { signatures = map (signature_of k text) secrets; signed = text }

@@ -34,10 +34,10 @@ unfoldable pub empty_slots : Slots
 empty_slots = replicate slot_count None
 
 -- the slots, made where there are none yet
-abbrev pub made : Slots → Slots
-made [] = empty_slots
-made (slot ∷ more) = slot ∷ more
+abbrev pub slots_of : Slots → Slots
+slots_of [] = empty_slots
+slots_of (slot ∷ more) = slot ∷ more
 
 -- the slots with the key of the public part in its own, whichever was there
 unfoldable pub with_key : Slots → List ℕ → Slots
-with_key kept public = slice_set (made kept) (slot_of public) (Some (block_key public))
+with_key kept public = slice_set (slots_of kept) (slot_of public) (Some (block_key public))

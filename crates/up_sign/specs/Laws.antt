@@ -6,7 +6,7 @@ use Rattle.serde_json.specs.Read.{read}
 use Rattle.up_canon.specs.Build.{object_with, list_with}
 use Rattle.up_canon.specs.declared.refusal.Refusal.{Refusal}
 use Rattle.up_canon.specs.declared.refusal.Refusal.TheVariants.{TooLarge, NotJson, NotCanonical, BadShape}
-use Rattle.up_sign.specs.Envelopes.{sealed, is_accepted}
+use Rattle.up_sign.specs.Envelopes.{sealed_envelope, is_accepted}
 use Rattle.up_sign.specs.Formats.{signature_value, envelope_text, envelope_fits, has_bytes, IsSigned}
 use Rattle.up_sign.specs.Meaning.{MeansEnvelope}
 use Rattle.up_sign.specs.Reading.{opened_in}
@@ -55,10 +55,10 @@ TextsAreRead = (place : List ℕ) (e : Envelope) (payload : Data) → IsTrue (en
 -- a sealed envelope is within the limits of the format
 abbrev pub SealedFits : Type 0
 SealedFits = (k : Rules) (secrets : List (List ℕ)) (text : List ℕ) → IsScheme k → IsTrue (list_all k.secret_fits secrets) → 1 ≤ length secrets → length secrets ≤ 8
-    → IsTrue (envelope_fits (sealed k secrets text)) × IsTrue (has_bytes (sealed k secrets text))
+    → IsTrue (envelope_fits (sealed_envelope k secrets text)) × IsTrue (has_bytes (sealed_envelope k secrets text))
 
 -- and is accepted under the keys of secrets that are among the signers
 abbrev pub SealedIsAccepted : Type 0
 SealedIsAccepted = (k : Rules) (secrets signers : List (List ℕ)) (text : List ℕ) (threshold : ℕ) → IsScheme k → IsTrue (list_all k.secret_fits secrets)
     → IsTrue (list_all (λ s. list_any (bytes_eq s) signers) secrets) → threshold ≤ length secrets
-    → IsTrue (is_accepted k (map k.public_of secrets) threshold (sealed k signers text))
+    → IsTrue (is_accepted k (map k.public_of secrets) threshold (sealed_envelope k signers text))

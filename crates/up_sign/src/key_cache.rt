@@ -2,7 +2,7 @@
 ghost use Rattle.std.specs.Prelude.{◌≡◌, ◌<◌, [], None, IfOk, IfSome, OnErr, OnOk, length, option_copied};
 ghost use Rattle.std.specs.List.{slice_index_or};
 ghost use Rattle.up_sign.specs.Hmac.{block_key};
-ghost use Rattle.up_sign.specs.KeyCaches.{empty_slots as all_empty, key_in, made, slot_count, slot_of as slot_of_public, with_key};
+ghost use Rattle.up_sign.specs.KeyCaches.{empty_slots as all_empty, key_in, slots_of, slot_count, slot_of as slot_of_public, with_key};
 
 use crate::key_id::HashedKey;
 use std::alloc::{AllocError, Global};
@@ -67,7 +67,7 @@ impl KeyCache {
 
     /// The slots, made where there are none yet. There are none until they are put back; on an error all is as it was.
     fn take_slots(&mut self, alloc: Global) -> Result<Vec<Option<HashedKey>>, AllocError>
-        ensures value { IfOk result (λ taken. taken.items ≡ made self.old) }
+        ensures value { IfOk result (λ taken. taken.items ≡ slots_of self.old) }
         ensures number { IfOk result (λ taken. length taken.items ≡ slot_count) }
         ensures err { OnErr result (self.new ≡ self.old) }
     {

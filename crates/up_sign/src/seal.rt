@@ -1,7 +1,7 @@
 //! Sealing: signing a text with each of a list of secrets.
 ghost use Rattle.std.specs.Prelude.{◌≡◌, ◌≤◌, ◌∷◌, [], IsTrue, IfOk, length, map, string_bytes};
 ghost use Rattle.std.specs.List.{list_all};
-ghost use Rattle.up_sign.specs.Envelopes.{key_block, signature_of as signature_of_secret, sealed};
+ghost use Rattle.up_sign.specs.Envelopes.{key_block, signature_of as signature_of_secret, sealed_envelope};
 ghost use Rattle.up_sign.specs.Formats.{envelope_fits};
 
 use crate::envelope::{Envelope, Signature};
@@ -21,7 +21,7 @@ pub fn seal<K: Scheme>(
 ) -> Result<Envelope, AllocError>
     requires fit { IsTrue (list_all (K.rules scheme.now).secret_fits secrets.now) }
     requires number { (1 ≤ length secrets.now) × (length secrets.now ≤ 8) }
-    ensures value { IfOk result (λ e. e ≡ sealed (K.rules scheme.now) secrets.now (string_bytes signed)) }
+    ensures value { IfOk result (λ e. e ≡ sealed_envelope (K.rules scheme.now) secrets.now (string_bytes signed)) }
     ensures limits { IfOk result (λ e. IsTrue (envelope_fits e)) }
 {
     let keys = hashed_keys(alloc, scheme, secrets)?;
@@ -40,7 +40,7 @@ pub fn seal_by<K: Scheme>(
     requires fit { IsTrue (list_all (K.rules scheme.now).secret_fits secrets.now) }
     requires number { (1 ≤ length secrets.now) × (length secrets.now ≤ 8) }
     requires hashed { keys.now ≡ map (key_block (K.rules scheme.now)) secrets.now }
-    ensures value { IfOk result (λ e. e ≡ sealed (K.rules scheme.now) secrets.now (string_bytes signed)) }
+    ensures value { IfOk result (λ e. e ≡ sealed_envelope (K.rules scheme.now) secrets.now (string_bytes signed)) }
     ensures limits { IfOk result (λ e. IsTrue (envelope_fits e)) }
 {
     let mut signatures = Vec::with_capacity(alloc, secrets.len())?;
@@ -69,7 +69,7 @@ pub fn seal_one<K: Scheme>(
 ) -> Result<Envelope, AllocError>
     requires fits { IsTrue ((K.rules scheme.now).secret_fits secret.now) }
     requires hashed { key.now ≡ key_block (K.rules scheme.now) secret.now }
-    ensures value { IfOk result (λ e. e ≡ sealed (K.rules scheme.now) (secret.now ∷ []) (string_bytes signed)) }
+    ensures value { IfOk result (λ e. e ≡ sealed_envelope (K.rules scheme.now) (secret.now ∷ []) (string_bytes signed)) }
     ensures limits { IfOk result (λ e. IsTrue (envelope_fits e)) }
 {
     let signature = signature_of(alloc, scheme, signed.as_str().as_bytes(), secret, key)?;

@@ -16,7 +16,7 @@ pub use Rattle.std.specs.Option.{option_or, option_to_list}
 pub use Rattle.std.specs.Ordering.{eq_by_cmp, is_eq, is_lt, nat_cmp}
 pub use Rattle.std.specs.Prelude.{bytes_eq, codes, decimal, find, flat_map, IfErr, IfOk, IfSome, if◌then◌else◌, is_some, IsErrAnd, IsSomeAnd, IsTrue, IsUtf8, length, map, MatchBool, nat_le, not, OnOk, option_and_then, option_map, Result, slice_get, String, T, unwrap_or, ⊤, ◌&&◌, ◌-◌, ◌==◌, ◌||◌}
 pub use Rattle.std.specs.Result.{IsOk}
-pub use Rattle.up_canon.specs.Canon.{CanonIsRead, escaped, has_canon, is_plain, is_printable, is_printable_text, more_items_text, more_members_text, quoted, text}
+pub use Rattle.up_canon.specs.Canon.{CanonIsRead, escape_of, has_canon, is_plain, is_printable, is_printable_text, more_items_text, more_members_text, json_string, text}
 pub use Rattle.up_canon.specs.Moments.{day_in_month, last_command_moment, last_moment, MomentsAreRead, month_of, parts_text, read_moment, year_of}
 pub use Rattle.up_canon.specs.Names.{is_file_name, is_ident, Name, Table}
 pub use Rattle.up_canon.specs.Steps.{if_passes}
@@ -51,13 +51,14 @@ pub use Rattle.up_rows.specs.SecondHashes.{TellsItsHash}
 pub use Rattle.up_rows.specs.StateRows.{ecu_of, entry_of, no_rows, root_of, root_row, rows_of_state, StateRows, vehicle_of_rows}
 pub use Rattle.up_rows.specs.declared.root_row.RootRow.{RootRow}
 pub use Rattle.up_sign.specs.Schemes.{Rules}
-pub use Rattle.up_store.specs.ColumnRows.{AreHashesOf, AreImages, AreRunning, AreSha512s, column_fault, IsCampaign, IsImage, last_found, with_image, with_kept}
+pub use Rattle.up_store.specs.ColumnRows.{AreHashesOf, AreImages, AreRunning, AreSha512s, column_fault, IsCampaign, IsImage, with_image}
+pub use Rattle.up_store.proofs.Parts.{last_found, with_kept, with_founding, with_keys, with_image_line}
 pub use Rattle.up_store.specs.Connections.{BlamesWithin, BlamesWrite, Commits, CommitsRows, KeepsAs, KeepsRows, MadeIn, MayWrite, PutsRows, RaisedRows, RanWrite, SparesRows, TakesRows, WritesStore}
 pub use Rattle.up_store.specs.Fitting.{IsClosing, IsNewCampaign, IsNewImage, IsNewVehicle, IsNextRoot, IsRecorded, IsReplacement, IsSameRoot}
 pub use Rattle.up_store.specs.Found.{ecus_found, values_where, vehicle_found}
 pub use Rattle.up_store.specs.Lines.{campaign_lines, campaign_shown_line, ecu_line, ecu_lines, ecu_shown, ecus_lines, file_line, file_lines, file_row, founding_number, hash_line, image_line, image_lines, image_shown_line, kept_line, key_row, line_of_campaign, repository_lines, repository_word, retired_lines, role_file_lines, role_lines, root_file_lines, root_lines, roots_lines, row_of_vehicle, second_hash, set_lines, sha512_lines, vehicle_lines}
 pub use Rattle.up_store.specs.Listing.{AreNumbered, files_lines, IsOfLastRoot, ListsRows, table_rows}
-pub use Rattle.up_store.specs.Puts.{HasFilesOnce, IsReported, MayAccept, MayReport, with_files, with_founding, with_image_line, with_key_lines, with_keys, with_numbers, with_reported, with_sha512_line}
+pub use Rattle.up_store.specs.Puts.{HasFilesOnce, IsReported, MayAccept, MayReport, with_files, with_key_lines, with_numbers, with_reported, with_sha512_line}
 pub use Rattle.up_store.specs.ReadAs.{InTurn, IsRead, IsReadImage, IsTextOrNull, PutsCampaign, PutsImage, PutsReaching, PutsSha512, ReadsFounding, ReadsSha512, RunOf, SaysCampaign, SaysEcu, SaysFile, SaysHash, SaysImage, SaysInstalled, SaysKept, SaysKey, SaysNumbers, SaysVehicle}
 pub use Rattle.up_store.specs.Shown.{AreKeysOf, campaign_made, file_read, image_made, is_key_of, IsFoundingOf, IsRoleOf, meta_told, reported_sha512, secrets_of, threshold_of, vehicle_read}
 pub use Rattle.up_store.specs.Typed.{AreTyped, AreTypedTexts, EachHasKeys, HasKeys, HaveKeys, IsToldEcu, IsTypedCampaign, IsTypedCampaignRow, IsTypedEcu, IsTypedFile, IsTypedFounding, IsTypedHash, IsTypedImage, IsTypedImageRow, IsTypedInstalled, IsTypedKept, IsTypedKey, IsTypedRoot, IsTypedVehicle, IsTypedVehicleRow}
@@ -76,8 +77,9 @@ pub use Rattle.up_tables.specs.Ecus.{line, owns}
 pub use Rattle.up_tables.specs.Forms.{campaign_places, campaign_row, file_places, file_row as shown_row, FitMeta, FitRoleKey, image_places, image_row, kept_places, kept_row, keys_shown, meta_values, role_key_places, role_key_row, running_shown, set_files, sha512_places, vehicle_places, vehicle_row}
 pub use Rattle.up_tables.specs.Found.{ecu_places, HoldsOfMeta, meta_shown, ReadsByPlace}
 pub use Rattle.up_tables.specs.Kinds.{HasOwner, IsWords}
-pub use Rattle.up_tables.specs.Lines.{AreDistinct, AreInPlace, AreNew, AreRecorded, AreSameEcus, campaign_line, ecu_row, EcuLine, meta_row, retired_line, set_ecus, sha512_line, swapped, vehicle_line, yes_or_no}
-pub use Rattle.up_tables.specs.Listed.{ListsTables, no_table_rows, TableRows}
+pub use Rattle.up_tables.specs.Lines.{AreDistinct, AreNew, AreRecorded, AreSameEcus, campaign_line, ecu_row, EcuLine, meta_row, retired_line, set_ecus, sha512_line, swapped, vehicle_line, yes_or_no}
+pub use Rattle.up_tables.proofs.Parts.{AreInPlace, no_table_rows}
+pub use Rattle.up_tables.specs.Listed.{ListsTables, TableRows}
 pub use Rattle.up_tables.specs.Ours.{HasFailed, ListsUs, Raised}
 pub use Rattle.up_tables.specs.Rows.{bare, changed_at, columns_at, has_number, has_text, with_only, with_only_at, with_row}
 pub use Rattle.up_tables.specs.Stands.{Alters, AnyRows, AreWith, GoesOn, HasNoTables, HasTables, IfClean, IsAsCommitted, IsInside, IsOpen, IsWith, IsWithin, Lists, ListsAll, ListsPairs, Reads, Stands, Steps}

@@ -4,8 +4,8 @@ use Rattle.sqlite.proofs.StateLemmas.{survives_then}
 use Rattle.sqlite.proofs.Callers.{survives_begin}
 use Rattle.up_tables.proofs.TransactionLemmas.{undone}
 use Rattle.up_store.specs.Connections.{BlamesWithin, FindsSuch, NeedsOpen, ReadsStore}
-use Rattle.up_store.specs.Within.{EndsWrite, FoundWithin, MadeAndPut}
-use Rattle.up_store.proofs.Common.{⊤, MutBor, Held, state, Row, Connected, HasCleanDisk, IsRolledBack, Survives, Trees, Ghosts, StateRows, AreWith, IfClean, IsAsCommitted, IsInside, IsWithin, Steps, WhereInside, up_schema, StoreFault, KeepsRows, PutsRows, WritesStore, ListsRows, on_ok}
+use Rattle.up_store.specs.Within.{EndsWrite, FoundWithin, MadeAndPut, PutWithin}
+use Rattle.up_store.proofs.Common.{⊤, MutBor, Held, state, Row, Connected, HasCleanDisk, IsRolledBack, Survives, Trees, Ghosts, StateRows, AreWith, IfClean, IsAsCommitted, IsInside, IsWithin, Steps, WhereInside, BlamesOne, IsOpenStep, Ran, up_schema, StoreFault, KeepsRows, PutsRows, WritesStore, ListsRows, on_ok}
 use Rattle.up_store.proofs.WriteBlames.{put_blames, commit_blames, ran_write}
 use Rattle.up_store.proofs.Written.{was_open_before, wrote}
 
@@ -14,17 +14,32 @@ on_err (Ok x) h f = tt
 on_err (Err e) h f = f h
 
 module _ {S : Type 0} (g : Ghosts S) (old mid : Held S) (last : Connected) (steps : Steps (state g (record old { in_transaction = true })) (state g mid)) where
-  as_before : (HasCleanDisk last → HasCleanDisk (state g mid)) → IfClean (IsRolledBack (state g mid)) last → IfClean (IsAsCommitted (state g old)) last
+  pub as_before : (HasCleanDisk last → HasCleanDisk (state g mid)) → IfClean (IsRolledBack (state g mid)) last → IfClean (IsAsCommitted (state g old)) last
   as_before before rolled clean =
       let it = undone (state g (record old { in_transaction = true })) (state g mid) last (steps.kept (before clean)) (rolled clean) in
       record { mode = it.mode; was_open = it.was_open; undone = it.undone }
 
-within : {S : Type 0} (g : Ghosts S) (viewed : Held S) {first : Held S} → first ≡ record viewed { in_transaction = true } → IfClean IsInside (state g first)
+pub within : {S : Type 0} (g : Ghosts S) (viewed : Held S) {first : Held S} → first ≡ record viewed { in_transaction = true } → IfClean IsInside (state g first)
 within g viewed begun = subst (λ h. IfClean IsInside (state g h)) (sym begun) (λ _. refl)
+
+-- what a put leaves, whatever want of memory undid
+pub record Puts {S A : Type 0} (g : Ghosts S) (puts : Connected → Connected → Result A StoreFault → Type 0) (these : List (List ℕ × Row)) (may : Connected → Type 0) (old new : MutBor (Held S))
+    (result : Result A StoreFault) : Type 0 where
+  pub put : puts (state g old.now) (state g new.now) result
+  pub ran : Ran these (state g old.now) (state g new.now) result
+  pub blame : BlamesOne these may (state g old.now) (state g new.now) result
+  pub step : IsOpenStep g old new result
+
+module _ {S A : Type 0} (g : Ghosts S) {puts : Connected → Connected → Result A StoreFault → Type 0} {these : List (List ℕ × Row)} {may : Connected → Type 0} {old new : MutBor (Held S)} {r : Result A StoreFault} where
+  pub of_put : PutWithin g puts these may old new r → Puts g puts these may old new r
+  of_put it = record { put = it.put; ran = it.ran; blame = it.blame; step = it.step }
+
+  pub of_made : MadeAndPut g puts these may old new r → Puts g puts these may old new r
+  of_made it = record { put = it.put; ran = it.ran; blame = it.blame; step = it.step }
 
 -- where its step failed
 failed : {S : Type 0} (g : Ghosts S) {viewed old : Held S} {tx mid : MutBor (Held S)} (last : Held S) {fits may : StateRows → Type 0} {next : StateRows → StateRows} {these : List (List ℕ × Row)} {P : Connected → Type 0} (f : StoreFault)
-    → viewed ≡ old → tx.now ≡ record viewed { in_transaction = true } → WhereInside g tx (MadeAndPut {A = ⊤} g (PutsRows fits next) these P tx mid (Err f)) → EndsWrite (Err f) (state g mid.now) (state g last) (Err f)
+    → viewed ≡ old → tx.now ≡ record viewed { in_transaction = true } → WhereInside g tx (Puts {A = ⊤} g (PutsRows fits next) these P tx mid (Err f)) → EndsWrite (Err f) (state g mid.now) (state g last) (Err f)
     → ((rows : StateRows) → ListsRows rows (state g old).now.trees → may rows → P (state g (record old { in_transaction = true })))
     → WritesStore {A = ⊤} fits next these may (state g old) (state g last) (Err f)
 failed {S} g {viewed} {old} {tx} {mid} last {fits} {may} {next} {these} {P} f same begun step ends so =
@@ -45,12 +60,12 @@ failed {S} g {viewed} {old} {tx} {mid} last {fits} {may} {next} {these} {P} f sa
     }
 
 -- what a write says, of what its step put and of how it ended
-pub writes_store : {S : Type 0} (g : Ghosts S) {viewed old : Held S} {tx mid : MutBor (Held S)} (last : Held S) {fits may : StateRows → Type 0} {next : StateRows → StateRows} {these : List (List ℕ × Row)} {P : Connected → Type 0} (put r : Result ⊤ StoreFault)
-    → viewed ≡ old → tx.now ≡ record viewed { in_transaction = true } → WhereInside g tx (MadeAndPut g (PutsRows fits next) these P tx mid put) → EndsWrite put (state g mid.now) (state g last) r
+pub writes_put : {S : Type 0} (g : Ghosts S) {viewed old : Held S} {tx mid : MutBor (Held S)} (last : Held S) {fits may : StateRows → Type 0} {next : StateRows → StateRows} {these : List (List ℕ × Row)} {P : Connected → Type 0} (put r : Result ⊤ StoreFault)
+    → viewed ≡ old → tx.now ≡ record viewed { in_transaction = true } → WhereInside g tx (Puts g (PutsRows fits next) these P tx mid put) → EndsWrite put (state g mid.now) (state g last) r
     → (IsTrue (state g last).is_open → (trees : Trees) → (state g last).may_leave trees → trees ≡ (state g last).committed.trees)
     → ((rows : StateRows) → ListsRows rows (state g old).now.trees → may rows → P (state g (record old { in_transaction = true })))
     → WritesStore fits next these may (state g old) (state g last) r
-writes_store {S} g {viewed} {old} {tx} {mid} last {fits} {may} {next} {these} {P} (Ok x) r same begun step ends settled so =
+writes_put {S} g {viewed} {old} {tx} {mid} last {fits} {may} {next} {these} {P} (Ok x) r same begun step ends settled so =
     let puts = step (within g viewed begun) in
     let steps = puts.step.steps in
     let began : tx.now ≡ record old { in_transaction = true } = subst (λ h. tx.now ≡ record h { in_transaction = true }) same begun in
@@ -67,8 +82,16 @@ writes_store {S} g {viewed} {old} {tx} {mid} last {fits} {may} {next} {these} {P
       ran = ran_write g old tx.now mid.now last these may same begun steps r _ ends.survives puts.ran ends.committed;
       blame = commit_blames g old tx.now mid.now last these may same begun steps r puts.step.is_open ends.survives (ends.cause puts.step.inside);
     }
-writes_store {S} g {viewed} {old} {tx} {mid} last {fits} {may} {next} {these} {P} (Err f) r same begun step ends settled so =
+writes_put {S} g {viewed} {old} {tx} {mid} last {fits} {may} {next} {these} {P} (Err f) r same begun step ends settled so =
     subst (WritesStore fits next these may (state g old) (state g last)) (sym ends.told) (failed g last f same begun step (subst (EndsWrite (Err f) (state g mid.now) (state g last)) ends.told ends) so)
+
+pub writes_store : {S : Type 0} (g : Ghosts S) {viewed old : Held S} {tx mid : MutBor (Held S)} (last : Held S) {fits may : StateRows → Type 0} {next : StateRows → StateRows} {these : List (List ℕ × Row)} {P : Connected → Type 0} (put r : Result ⊤ StoreFault)
+    → viewed ≡ old → tx.now ≡ record viewed { in_transaction = true } → WhereInside g tx (MadeAndPut g (PutsRows fits next) these P tx mid put) → EndsWrite put (state g mid.now) (state g last) r
+    → (IsTrue (state g last).is_open → (trees : Trees) → (state g last).may_leave trees → trees ≡ (state g last).committed.trees)
+    → ((rows : StateRows) → ListsRows rows (state g old).now.trees → may rows → P (state g (record old { in_transaction = true })))
+    → WritesStore fits next these may (state g old) (state g last) r
+writes_store g {tx = tx} {mid} last {P = P} put r same begun step ends settled so =
+    writes_put g {tx = tx} {mid = mid} last {P = P} put r same begun (λ inside. of_made g (step inside)) ends settled so
 
 on_fault : {A E : Type 0} (r : Result A E) (P Q : E → Type 0) → ((f : E) → P f → Q f) → IfErr r P → IfErr r Q
 on_fault (Ok x) P Q so holds = tt

@@ -1,3 +1,4 @@
+pub mod Parts
 pub mod Common
 pub mod Alike
 pub mod TypedRows

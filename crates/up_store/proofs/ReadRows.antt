@@ -14,6 +14,14 @@ tables_stay before after reads has = λ is_open. subst (IsWith up_schema AnyRows
 pub now_stays : (P : Database → Type 0) (before after : Connected) → Reads before after → P before.now → P after.now
 now_stays P before after reads = subst P (sym reads.now_is)
 
+-- one read after another
+pub reads_both : {a b c : Connected} → Reads a b → Reads b c → Reads a c
+reads_both one two = record { was_open = one.was_open; is_open = two.is_open; mode = two.mode ∙ one.mode; now_is = two.now_is ∙ one.now_is }
+
+pub reads_behind : {A E : Type 0} {a b : Connected} (c : Connected) (r : Result A E) → Reads a b → OnOk r (Reads b c) → OnOk r (Reads a c)
+reads_behind c (Ok x) one two = reads_both one two
+reads_behind c (Err e) one two = tt
+
 -- the row behind those that were read
 pub in_turn_more : {A S : Type 0} (step : A → S → S → Type 0) (xs : List A) (i : ℕ) (x : A) (before mid after : S) → i < length xs → x ≡ get_or xs i x
     → InTurn step (take i xs) before mid → step x mid after → InTurn step (take (i + 1) xs) before after

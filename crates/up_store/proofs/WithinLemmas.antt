@@ -94,6 +94,7 @@ pub finds_fault : {S A B : Type 0} (g : Ghosts S) (tells : StateRows → A → T
 finds_fault g tells finds fits old new r f P none holds blame step = record {
   found = λ clean. tt;
   shown = none;
+  reads = λ clean. tt;
   «open» = λ clean. tt;
   blame = by_statement fits P (state g old.now) (state g new.now) (Err f) holds blame;
   step = record { same_reference = step.same_reference; steps = step.steps };

@@ -1,5 +1,5 @@
 -- Rows with columns that hold lists or a plan: which value each is of.
-use Rattle.std.specs.Prelude.{◌≡◌, ℕ, List, Option, Some, Result, IfErr, if◌then◌else◌, option_map, filter, map, bytes_eq}
+use Rattle.std.specs.Prelude.{◌≡◌, ℕ, List, Some, Result, IfErr, if◌then◌else◌, filter, map, bytes_eq}
 use Rattle.std.specs.FinMap as table
 use Rattle.up_canon.specs.Names.{Name, Table}
 use Rattle.up_canon.specs.Refusals.{is_memory}
@@ -7,7 +7,6 @@ use Rattle.up_canon.specs.Steps.{if_passes}
 use Rattle.up_canon.specs.declared.refusal.Refusal.{Refusal}
 use Rattle.up_plan.specs.Campaigns.{CampaignData}
 use Rattle.up_plan.specs.Images.{ImageData}
-use Rattle.up_machine.specs.declared.rows.Kept.{Kept}
 use Rattle.up_rows.specs.StateRows.{StateRows}
 use Rattle.up_columns.specs.Columns.{names_column, needs_column}
 use Rattle.up_columns.specs.CampaignColumns.{reach_column, items_column}
@@ -16,9 +15,7 @@ use Rattle.up_store.specs.declared.image_rows.ImageShown.{ImageShown}
 use Rattle.up_store.specs.declared.second_hashes.SecondHash.{SecondHash}
 use Rattle.up_tables.specs.declared.values.StoreFault.{StoreFault}
 use Rattle.up_tables.specs.declared.values.StoreFault.TheVariants.{Memory, Store}
-use Rattle.up_tables.specs.Listed.{TableRows}
-use Rattle.up_tables.specs.Rows.{with_row}
-use Rattle.up_store.specs.Lines.{campaign_shown_line, hash_line, image_lines, image_shown_line, second_hash, sha512_lines, campaign_lines, kept_line}
+use Rattle.up_store.specs.Lines.{campaign_shown_line, hash_line, image_lines, image_shown_line, second_hash, sha512_lines, campaign_lines}
 use Rattle.up_store.specs.Typed.{IsTypedImage, IsTypedCampaign}
 
 -- want of memory by itself, every fault of a column alike
@@ -79,14 +76,6 @@ pub record AreRunning (shown : List CampaignShown) (campaigns : Table CampaignDa
 
 -- ---- what is written
 
--- one more row behind those of its vehicle
-abbrev pub with_kept : Kept → TableRows → TableRows
-with_kept row rows = record rows { kept = with_row row.vehicle (kept_line row) rows.kept }
-
 -- one more image under its name
 abbrev pub with_image : StateRows → ImageData → StateRows
 with_image rows image = record rows { images = table.insert rows.images image.file image }
-
--- the greatest counter of an accepted manifest; none of an unknown vehicle
-abbrev pub last_found : Name → StateRows → Option ℕ
-last_found vehicle rows = option_map (λ v. v.vehicle.last) (table.get rows.vehicles vehicle)

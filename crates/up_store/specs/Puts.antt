@@ -9,7 +9,6 @@ use Rattle.up_plan.specs.Images.{ImageData}
 use Rattle.up_machine.specs.Files.{numbered_root_name}
 use Rattle.up_machine.specs.declared.decision.AcceptedRows.{AcceptedRows}
 use Rattle.up_machine.specs.declared.decision.RootRows.{RootRows}
-use Rattle.up_machine.specs.declared.rows.Founding.{Founding}
 use Rattle.up_machine.specs.declared.rows.Kept.{Kept}
 use Rattle.up_machine.specs.declared.rows.VehicleRows.{VehicleRows}
 use Rattle.up_rows.specs.StateRows.{StateRows}
@@ -27,7 +26,7 @@ use Rattle.up_columns.specs.Typed.{is_typed_item, is_typed_need, is_typed_plan, 
 use Rattle.up_store.specs.declared.files.ServedFile.{ServedFile}
 use Rattle.up_store.specs.declared.image_rows.ImageColumns.{ImageColumns}
 use Rattle.up_store.specs.Fitting.{IsRecorded}
-use Rattle.up_store.specs.Lines.{repository_lines, set_lines, image_lines, sha512_lines, ecu_lines}
+use Rattle.up_store.specs.Lines.{repository_lines, set_lines, sha512_lines, ecu_lines}
 use Rattle.up_store.specs.Listing.{ListsRows}
 use Rattle.up_store.specs.Shown.{meta_told}
 use Rattle.up_store.specs.Typed.{IsTypedFounding}
@@ -73,16 +72,9 @@ pub record IsMadeOfCampaign (new : CampaignData) (of_reach of_items : List ℕ) 
 abbrev pub with_numbers : MetaRow → TableRows → TableRows
 with_numbers m rows = record rows { root = m.root; image_version = m.image_version; stamp = m.stamp }
 
-abbrev pub with_founding : Founding → TableRows → TableRows
-with_founding f = with_numbers (meta_told (Some f))
-
 -- behind the other keys, these
 abbrev pub with_key_lines : List Row → TableRows → TableRows
 with_key_lines keys rows = record rows { role_keys = rows.role_keys ++ keys }
-
--- those of the founding's root version
-abbrev pub with_keys : Founding → TableRows → TableRows
-with_keys f = with_key_lines (repository_lines f.root Director f.keys.director ++ repository_lines f.root Image f.keys.image)
 
 -- no file stands twice
 abbrev pub HasFilesOnce : TableRows → Type 0
@@ -91,10 +83,6 @@ HasFilesOnce rows = (repository name : List ℕ) → length (rows.files reposito
 -- the texts of these files
 abbrev pub with_files : List ServedFile → TableRows → TableRows
 with_files files rows = record rows { files = set_lines files rows.files }
-
--- one more image
-abbrev pub with_image_line : ImageData → TableRows → TableRows
-with_image_line image rows = record rows { images = changed_at image.file (λ were. were ++ image_lines (Some image)) rows.images }
 
 -- its second hash, where it has one
 abbrev pub with_sha512_line : ImageData → TableRows → TableRows

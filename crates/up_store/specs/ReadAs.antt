@@ -9,7 +9,7 @@ use Rattle.sqlite.specs.declared.types.Value.{Value}
 use Rattle.sqlite.specs.declared.types.Value.TheVariants.{Blob, Int, Null}
 use Rattle.sqlite.specs.State.{State as Connected, HasCleanDisk}
 use Rattle.sqlite.specs.Table.{Table as SqlTable}
-use Rattle.up_canon.specs.Canon.{quoted}
+use Rattle.up_canon.specs.Canon.{json_string}
 use Rattle.up_canon.specs.Names.{Name, Table}
 use Rattle.up_canon.specs.declared.refusal.Refusal.{Refusal}
 use Rattle.up_manifest.specs.declared.report.Installed.{Installed}
@@ -198,7 +198,7 @@ pub record PutsReached (vehicle : Name) (shown : CampaignShown) (before after : 
 abbrev pub PutsReaching : Name → CampaignShown → Table CampaignData → Table CampaignData → Type 0
 PutsReaching vehicle shown before after =
     PutsReached vehicle shown before after
-    ⊎ ((after ≡ before) × (LacksName (quoted vehicle) shown.reach ⊎ ReachesOthers vehicle shown.reach))
+    ⊎ ((after ≡ before) × (LacksName (json_string vehicle) shown.reach ⊎ ReachesOthers vehicle shown.reach))
 
 -- ---- what is told of a table's rows, whoever wrote them
 

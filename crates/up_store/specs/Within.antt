@@ -9,7 +9,7 @@ use Rattle.sqlite.specs.Tree.{Trees}
 use Rattle.up_rows.specs.StateRows.{StateRows}
 use Rattle.up_tables.specs.Ours.{HasFailed}
 use Rattle.up_tables.specs.Stands.{IfClean, IsInside}
-use Rattle.up_tables.specs.Statements.{IsOpenStep, IsStep, WhereInside}
+use Rattle.up_tables.specs.Statements.{IsOpenStep, IsStep, OnlyReads, WhereInside}
 use Rattle.up_tables.specs.Tried.{BlamesOne, Ran, Undoes}
 use Rattle.up_tables.specs.declared.values.StoreFault.{StoreFault}
 use Rattle.up_tables.specs.declared.values.StoreFault.TheVariants.{Store}
@@ -17,12 +17,13 @@ use Rattle.up_store.specs.Connections.{BlamesWithin, Commits, FindsSuch, NeedsOp
 
 -- ---- reads
 
--- what tables that list rows tell of what is found, what any tables tell, that the connection was open, when it tells `Store` over rows that fit
--- what the steps before it showed, and that nothing is committed
+-- what tables that list rows tell of what is found, what any tables tell, that nothing is written, that the connection was open, when it tells
+-- `Store` over rows that fit what the steps before it showed, and that nothing is committed
 pub record FoundWithin {S A : Type 0} (g : Ghosts S) (tells : StateRows → A → Type 0) (finds : Connected → Connected → Result A StoreFault → Type 0)
     (fits : StateRows → Type 0) (old new : MutBor (Held S)) (result : Result A StoreFault) : Type 0 where
   pub found : FindsSuch tells (state g old.now) (state g new.now) result
   pub shown : finds (state g old.now) (state g new.now) result
+  pub reads : OnlyReads (state g old.now) (state g new.now) result
   pub «open» : NeedsOpen (state g old.now) (state g new.now) result
   pub blame : BlamesWithin fits (state g old.now) (state g new.now) result
   pub step : IsStep g old new

@@ -124,12 +124,6 @@ pub record RefusesToWrite (rows next : StateRows) (limit : Option ℕ) (db : Dat
   pub write : AreWrites rows next these
   pub refused : RefusesOne limit these db
 
--- such statements make this of the database
-pub record MakesNext (rows next : StateRows) (limit : Option ℕ) (db after : Database) : Type 0 where
-  pub these : List (List ℕ × Row)
-  pub write : AreWrites rows next these
-  pub made : Makes limit these db after
-
 -- ---- the write of a root version, which two calls carry out
 
 abbrev pub WritesRoot : RootRows → Connected → Connected → Result ⊤ StoreFault → Type 0

@@ -1,7 +1,7 @@
 //! The rows of campaigns, read and made.
 ghost use Rattle.std.specs.Prelude.{◌≡◌, ◌&&◌, if◌then◌else◌, false, string_bytes, Ok, IfOk, IfErr, OnOk};
 ghost use Rattle.std.specs.FinMap as table;
-ghost use Rattle.up_canon.specs.Canon.{quoted as quoted_text};
+ghost use Rattle.up_canon.specs.Canon.{json_string as quoted_text};
 ghost use Rattle.up_canon.specs.Names.{Name, Table as Named};
 ghost use Rattle.up_columns.specs.CampaignColumns.{reach_column, reach_in};
 ghost use Rattle.up_plan.specs.Campaigns.{CampaignData, campaign_fits};

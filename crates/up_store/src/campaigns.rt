@@ -82,7 +82,10 @@ impl<D: Alter> Store<D> {
 }
 
 /// Says in its row that a campaign doesn't run.
-fn put_closed<D: Alter>(tx: &mut Transaction<'_, D>, closed: &Campaign) -> Result<(), StoreFault>
+pub fn put_closed<D: Alter>(
+    tx: &mut Transaction<'_, D>,
+    closed: &Campaign,
+) -> Result<(), StoreFault>
     ensures { PutsWithin D.Store (PutsRows (IsClosing closed.now) (λ rows. with_campaign_row rows closed.now))
         (close_writes closed.now) (λ _. ⊤) tx.old.conn tx.new.conn result }
 {
@@ -90,7 +93,7 @@ fn put_closed<D: Alter>(tx: &mut Transaction<'_, D>, closed: &Campaign) -> Resul
 }
 
 /// The campaign of this name.
-fn find_campaign<D: Alter>(
+pub fn find_campaign<D: Alter>(
     tx: &mut Transaction<'_, D>,
     alloc: Global,
     name: &Ident,
@@ -133,7 +136,7 @@ fn find_campaigns<D: Alter>(
 }
 
 /// The running campaigns.
-fn find_running<D: Alter>(
+pub fn find_running<D: Alter>(
     tx: &mut Transaction<'_, D>,
     alloc: Global,
 ) -> Result<Table<Campaign>, StoreFault>
@@ -147,7 +150,7 @@ fn find_running<D: Alter>(
 }
 
 /// Puts in the row of a campaign. Its columns are made before it is written.
-fn put_campaign<D: Alter>(
+pub fn put_campaign<D: Alter>(
     tx: &mut Transaction<'_, D>,
     alloc: Global,
     new: &Campaign,

@@ -66,7 +66,7 @@ impl<D: Alter> Store<D> {
 }
 
 /// The image of this filename.
-fn find_image<D: Alter>(
+pub fn find_image<D: Alter>(
     tx: &mut Transaction<'_, D>,
     alloc: Global,
     file: &FileName,
@@ -116,7 +116,7 @@ fn some_image(
 }
 
 /// All images.
-fn find_images<D: Alter>(
+pub fn find_images<D: Alter>(
     tx: &mut Transaction<'_, D>,
     alloc: Global,
 ) -> Result<Table<Image>, StoreFault>
@@ -146,7 +146,7 @@ fn find_with_sha512s<D: Alter>(
 }
 
 /// Puts in an image, and sets the files of the image repository. The columns of its lists are made before anything is written.
-fn put_image<D: Alter>(
+pub fn put_image<D: Alter>(
     tx: &mut Transaction<'_, D>,
     alloc: Global,
     image: &Image,

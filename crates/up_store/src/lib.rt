@@ -2,20 +2,20 @@
 #![tactic(auto)]
 
 mod campaign_rows;
-mod campaigns;
+pub mod campaigns;
 mod column_values;
 mod ecus;
 mod files;
 mod image_rows;
-mod images;
+pub mod images;
 mod kept_rows;
 mod keys;
 pub mod laws;
-mod manifests;
+pub mod manifests;
 mod numbers;
-mod replaced;
+pub mod replaced;
 pub mod roots;
 mod second_hashes;
 pub mod stopping;
 pub mod store;
-mod vehicles;
+pub mod vehicles;

@@ -66,7 +66,7 @@ impl<D: Alter> Store<D> {
 }
 
 /// Sets the rows of a vehicle, and keeps a manifest.
-fn put_accepted<D: Alter>(
+pub fn put_accepted<D: Alter>(
     tx: &mut Transaction<'_, D>,
     alloc: Global,
     new: &AcceptedRows,
@@ -110,7 +110,7 @@ fn put_reported<D: Alter>(tx: &mut Transaction<'_, D>, new: &VehicleRows) -> Res
 }
 
 /// The vehicle's row with this counter.
-fn find_kept<D: Alter>(
+pub fn find_kept<D: Alter>(
     tx: &mut Transaction<'_, D>,
     alloc: Global,
     vehicle: &Ident,
@@ -123,7 +123,7 @@ fn find_kept<D: Alter>(
 }
 
 /// The vehicle's row with its greatest counter, which its own row tells.
-fn find_latest<D: Alter>(
+pub fn find_latest<D: Alter>(
     tx: &mut Transaction<'_, D>,
     alloc: Global,
     vehicle: &Ident,

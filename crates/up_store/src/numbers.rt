@@ -1,8 +1,6 @@
 //! The founding's numbers: the row of `meta`, read and written.
 ghost use Rattle.std.specs.Prelude.{◌<◌, ◌≡◌, ◌↔◌, ◌⊎◌, ◌≤◌, ◌∷◌, ◌^◌, [], ⊤, Some, Err, IfErr, IfOk, OnOk};
-ghost use Rattle.sqlite.specs.Held.{state};
 ghost use Rattle.up_tables.specs.Forms.{FitMeta, meta_values};
-ghost use Rattle.up_tables.specs.Statements.{OnlyReads, WhereInside};
 ghost use Rattle.up_tables.specs.Texts.{update_meta_text};
 ghost use Rattle.up_tables.specs.declared.values.StoreFault.TheVariants as StoreFault;
 ghost use Rattle.up_store.specs.Connections.{PutsTables};
@@ -52,8 +50,6 @@ pub(crate) fn find_numbers<D: Alter>(
 ) -> Result<MetaRow, StoreFault>
     ensures finds { FindsWithin D.Store (λ rows row. row ≡ meta_told rows.founding)
         (FindsNumbers (λ row read. read ≡ row)) (λ _. ⊤) tx.old.conn tx.new.conn result }
-    ensures reads { WhereInside D.Store tx.old.conn (OnlyReads (state D.Store tx.old.conn.now)
-        (state D.Store tx.new.conn.now) result) }
     ensures fit { IfOk result (λ row. row.root < 2 ^ 63) }
 {
     match meta::<D, NumbersReading>(tx, alloc) {

@@ -26,7 +26,10 @@ impl<D: Alter> Store<D> {
 }
 
 /// Puts the new ECU in the place of the old one, and retires the old one's identifier.
-fn put_replaced<D: Alter>(tx: &mut Transaction<'_, D>, new: &Replacement) -> Result<(), StoreFault>
+pub fn put_replaced<D: Alter>(
+    tx: &mut Transaction<'_, D>,
+    new: &Replacement,
+) -> Result<(), StoreFault>
     ensures { PutsWithin D.Store (PutsRows (IsReplacement new.now) (λ rows. with_replaced_rows rows new.now))
         (replace_writes new.now) (λ _. ⊤) tx.old.conn tx.new.conn result }
 {

@@ -105,7 +105,7 @@ impl<D: Alter> Store<D> {
 }
 
 /// The founding.
-fn find_founding<D: Alter>(
+pub fn find_founding<D: Alter>(
     tx: &mut Transaction<'_, D>,
     alloc: Global,
 ) -> Result<Option<Founding>, StoreFault>
@@ -119,7 +119,7 @@ fn find_founding<D: Alter>(
 }
 
 /// Whether there is a founding, which its numbers tell: the keys aren't read.
-fn find_whether_founded<D: Alter>(
+pub fn find_whether_founded<D: Alter>(
     tx: &mut Transaction<'_, D>,
     alloc: Global,
 ) -> Result<bool, StoreFault>
@@ -197,7 +197,7 @@ fn body_of(found: Option<ServedFile>) -> Option<Text>
 }
 
 /// Puts in a root version: the founding, its keys, and all files. What is made of it is made before anything is written.
-fn put_root<D: Alter>(
+pub fn put_root<D: Alter>(
     tx: &mut Transaction<'_, D>,
     alloc: Global,
     new: &RootRows,
@@ -230,7 +230,7 @@ fn put_root_made<D: Alter>(
 }
 
 /// Puts in what changes with the register of images: the founding's numbers, and the image repository's files.
-pub(crate) fn put_register<D: Alter>(
+pub fn put_register<D: Alter>(
     tx: &mut Transaction<'_, D>,
     new: &RegisterRows,
 ) -> Result<(), StoreFault>

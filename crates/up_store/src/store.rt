@@ -28,7 +28,7 @@ pub(crate) const MOST_ROWS: usize = 9_223_372_036_854_775_807;
 /// fault.
 #[derive(Drop)]
 pub struct Store<D: Alter> {
-    pub(crate) conn: Connection<D>,
+    pub conn: Connection<D>,
 }
 
 impl<D: Alter> Model for Store<D> {
@@ -97,10 +97,7 @@ fn taken(took: Result<bool, OpenFault>) -> Result<(), OpenFault>
 }
 
 /// Ends a write after its step: what was put is committed. A fault, of the step or of the commit, undoes it.
-pub(crate) fn end<D: Alter>(
-    tx: Transaction<'_, D>,
-    put: Result<(), StoreFault>,
-) -> Result<(), StoreFault>
+pub fn end<D: Alter>(tx: Transaction<'_, D>, put: Result<(), StoreFault>) -> Result<(), StoreFault>
     ensures mode { tx.exit.0.now.in_transaction ≡ false }
     ensures ends { EndsWrite put (state D.Store tx.entry.conn.now) (state D.Store tx.exit.0.now) result }
 {

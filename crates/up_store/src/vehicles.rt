@@ -102,7 +102,7 @@ impl<D: Alter> Store<D> {
 }
 
 /// The vehicle's row.
-fn find_vehicle<D: Alter>(
+pub fn find_vehicle<D: Alter>(
     tx: &mut Transaction<'_, D>,
     alloc: Global,
     vehicle: &Ident,
@@ -114,7 +114,7 @@ fn find_vehicle<D: Alter>(
 }
 
 /// The vehicle's ECUs.
-fn find_ecus<D: Alter>(
+pub fn find_ecus<D: Alter>(
     tx: &mut Transaction<'_, D>,
     alloc: Global,
     vehicle: &Ident,
@@ -129,7 +129,7 @@ fn find_ecus<D: Alter>(
 }
 
 /// The vehicle of an ECU, or of one that was replaced.
-fn find_owner<D: Alter>(
+pub fn find_owner<D: Alter>(
     tx: &mut Transaction<'_, D>,
     ecu: &Ident,
 ) -> Result<Option<Ident>, StoreFault>
@@ -170,7 +170,10 @@ fn name_of(shown: String) -> Result<Option<Ident>, StoreFault>
 }
 
 /// Puts in a vehicle with its ECUs.
-fn put_vehicle<D: Alter>(tx: &mut Transaction<'_, D>, new: &VehicleRows) -> Result<(), StoreFault>
+pub fn put_vehicle<D: Alter>(
+    tx: &mut Transaction<'_, D>,
+    new: &VehicleRows,
+) -> Result<(), StoreFault>
     ensures { MakesAndPuts D.Store (PutsRows (IsNewVehicle new.now) (λ rows. with_vehicle_rows rows new.now))
         (vehicle_writes new.now) (λ _. FitsVehicle new.now) tx.old.conn tx.new.conn result }
 {

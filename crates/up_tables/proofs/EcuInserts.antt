@@ -13,7 +13,8 @@ use Rattle.sqlite_tied.specs.Compute.{everything}
 use Rattle.up_tables.specs.Tables.{up_schema, ecu_table}
 use Rattle.up_tables.specs.Texts.{insert_ecu_text}
 use Rattle.up_tables.specs.Rows.{changed_at, with_row}
-use Rattle.up_tables.specs.Lines.{EcuLine, ecu_row, IsKept}
+use Rattle.up_tables.specs.Lines.{EcuLine, ecu_row}
+use Rattle.up_tables.proofs.Parts.{IsKept}
 use Rattle.up_tables.specs.Stands.{Lists, IfClean, IsInside, IsOpen, Alters, HasTables}
 use Rattle.up_tables.proofs.ByNameLemmas.{listed_in}
 use Rattle.up_tables.proofs.Casts.{cast_null}

@@ -15,7 +15,8 @@ use Rattle.up_tables.specs.Tables.{up_schema, ecu_table}
 use Rattle.up_tables.specs.Texts.{update_ecu_text}
 use Rattle.up_tables.specs.Rows.{has_text, rows_with, changed_at}
 use Rattle.up_tables.specs.Stands.{Lists, IfClean, IsInside, IsOpen, Alters, HasTables}
-use Rattle.up_tables.specs.Lines.{EcuLine, ecu_row, IsKept, IsSameEcu, swapped, set_ecu, AreSameEcus, AreDistinct, IsRecorded, AreRecorded, set_first, set_ecus}
+use Rattle.up_tables.specs.Lines.{EcuLine, ecu_row, IsSameEcu, swapped, set_ecu, AreSameEcus, AreDistinct, IsRecorded, AreRecorded, set_ecus}
+use Rattle.up_tables.proofs.Parts.{set_first, IsKept}
 use Rattle.up_tables.proofs.EcuRows.{text_is, own_text, same_text, swapped_parts, swapped_shaped}
 use Rattle.up_tables.proofs.OthersLemmas.{alters_to, alters_none, has_after, alters_then}
 use Rattle.up_tables.proofs.RunLemmas.{IsRun, run_in, then_ok, run_alters}

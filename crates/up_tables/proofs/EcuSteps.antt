@@ -20,7 +20,8 @@ use Rattle.sqlite_trees.specs.declared.store.Shape.TheVariants.{Table}
 use Rattle.up_tables.specs.Tables.{up_schema, ecu_table}
 use Rattle.up_tables.specs.Texts.{update_ecu_text}
 use Rattle.up_tables.specs.Rows.{rows_with, has_text}
-use Rattle.up_tables.specs.Lines.{EcuLine, ecu_row, IsKept, IsSameEcu}
+use Rattle.up_tables.specs.Lines.{EcuLine, ecu_row, IsSameEcu}
+use Rattle.up_tables.proofs.Parts.{IsKept, Rewrites}
 use Rattle.up_tables.proofs.AnswerLemmas.{answer_is, shows_passing, equals_text}
 use Rattle.up_tables.proofs.Casts.{cast_int}
 use Rattle.up_tables.proofs.KeyLemmas.{one_key}
@@ -28,7 +29,6 @@ use Rattle.up_tables.proofs.PlaceLemmas.{only, unique}
 use Rattle.up_tables.proofs.RunLemmas.{idle}
 use Rattle.up_tables.proofs.EcuUpdate.{equals, casts, shown, program, update_is}
 use Rattle.up_tables.proofs.EcuRows.{differs, text_is, own_text}
-use Rattle.up_tables.specs.Upserts.{Rewrites}
 use Rattle.up_tables.proofs.UpdateLemmas.{updates_row}
 
 pub with_id : (it row : Row) → is_int (rowid it) ≡ true → drop 1 it ≡ row → (id : ℤ) × (it ≡ Int id ∷ row)

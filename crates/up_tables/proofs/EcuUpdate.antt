@@ -14,7 +14,8 @@ use Rattle.sqlite_sql.specs.declared.ops.CompareOp.TheVariants.{Eq}
 use Rattle.sqlite_value.specs.declared.keys.Collation.TheVariants.{Binary}
 use Rattle.up_tables.specs.Tables.{up_schema, ecu_table}
 use Rattle.up_tables.specs.Texts.{update_ecu_text}
-use Rattle.up_tables.specs.Lines.{EcuLine, ecu_row, IsKept}
+use Rattle.up_tables.specs.Lines.{EcuLine, ecu_row}
+use Rattle.up_tables.proofs.Parts.{IsKept}
 use Rattle.up_tables.proofs.AnswerLemmas.{over}
 use Rattle.up_tables.proofs.Casts.{cast_int}
 use Rattle.up_tables.proofs.RefusalLemmas.{Writes}

@@ -23,7 +23,7 @@ use Rattle.sqlite.proofs.Callers.{IsPlain, command_of, statement_of, runs_as, on
 use Rattle.sqlite_rules.specs.Action.{works}
 use Rattle.sqlite_schema.specs.declared.schema.Keys.TheVariants.{Enforced}
 use Rattle.sqlite.specs.Schema.{Schema}
-use Rattle.up_tables.specs.Inserts.{Inserts}
+use Rattle.up_tables.proofs.Parts.{Inserts}
 use Rattle.up_tables.specs.Tables.{up_schema}
 use Rattle.up_tables.specs.Stands.{IfClean, IsInside, HasTables, Alters}
 use Rattle.up_tables.proofs.RunLemmas.{IsRun, run_in, then_ok, run_alters, idle}

@@ -1,3 +1,4 @@
+pub mod Parts
 pub mod CreateLemmas
 pub mod SchemaLemmas
 pub mod AnswerLemmas

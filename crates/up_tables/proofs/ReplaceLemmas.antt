@@ -24,7 +24,8 @@ use Rattle.up_tables.proofs.RefusalLemmas.{Writes}
 use Rattle.up_tables.specs.Texts.{replace_ecu_text}
 use Rattle.up_tables.specs.Tables.{up_schema, ecu_table}
 use Rattle.up_tables.specs.Rows.{has_text, rows_with}
-use Rattle.up_tables.specs.Lines.{EcuLine, ecu_row, IsKept}
+use Rattle.up_tables.specs.Lines.{EcuLine, ecu_row}
+use Rattle.up_tables.proofs.Parts.{IsKept}
 use Rattle.up_tables.specs.Replaced.{replaced_line, with_replaced}
 use Rattle.up_tables.specs.Stands.{Lists, IfClean, IsInside, Alters, HasTables}
 use Rattle.up_tables.proofs.AnswerLemmas.{over, answer_is, shows_passing, equals_text}

@@ -48,7 +48,7 @@ use Rattle.up_tables.specs.Rows.{columns_at, has_text, rows_with, with_only}
 use Rattle.up_tables.specs.Lines.{vehicle_line}
 use Rattle.up_tables.specs.Forms.{vehicle_row, vehicle_places}
 use Rattle.up_tables.specs.Stands.{Lists, IfClean, IsInside, Alters, HasTables}
-use Rattle.up_tables.specs.Upserts.{Rewrites}
+use Rattle.up_tables.proofs.Parts.{Rewrites}
 use Rattle.up_tables.specs.declared.vehicle.VehicleRow.{VehicleRow}
 use Rattle.up_tables.specs.declared.values.StoreFault.{StoreFault}
 use Rattle.up_tables.proofs.AnswerLemmas.{over, given, equals_text, equals_int, answer_is, shows_passing}

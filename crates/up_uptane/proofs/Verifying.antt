@@ -8,7 +8,7 @@ use Rattle.up_canon.specs.Canon.{max_count, text}
 use Rattle.up_canon.specs.Moments.{MomentTextIsPlain}
 use Rattle.up_canon.specs.Names.{Name}
 use Rattle.up_canon.proofs.Steps.{and_then_some, map_some}
-use Rattle.up_sign.specs.Envelopes.{sealed}
+use Rattle.up_sign.specs.Envelopes.{sealed_envelope}
 use Rattle.up_sign.specs.Schemes.{Rules, IsScheme}
 use Rattle.up_sign.specs.declared.envelope.Envelope.{Envelope}
 use Rattle.up_roles.specs.declared.repository.Repository.{Repository}
@@ -56,7 +56,7 @@ shown_are k (s ∷ secrets) = ap (λ (rest : List RootKey). root_key k s ∷ res
 
 -- a role that fits, each of whose keys is among the signers
 signed_under : (k : Rules) → Known k → (role : RoleSecrets) (signers : List (List ℕ)) (signed : List ℕ) → role_fits k role ≡ true
-    → list_all (λ s. list_any (bytes_eq s) signers) role.keys ≡ true → IsSignedUnder k (role_keys k role) (sealed k signers signed)
+    → list_all (λ s. list_any (bytes_eq s) signers) role.keys ≡ true → IsSignedUnder k (role_keys k role) (sealed_envelope k signers signed)
 signed_under k known role signers signed fits among =
     let meets : nat_le role.threshold (length role.keys) ≡ true = and_right (nat_le 1 role.threshold) _ (and_right _ _ fits) in
     record {
@@ -85,11 +85,11 @@ root_is_small plain k known repository i root before is seal =
     let payload = text (root_payload (root_file k repository i root)) in
     let fits = (known.seals k (root_signers repository root before) payload known.scheme seal.fit seal.number.0 seal.number.1).0 in
     let size = payload-length plain (root_file k repository i root) (root_file_is_fit k known.scheme known.seals repository i root is.number is.fits) (expires_in_time k repository i root is.moment) in
-    let whole = envelope-length (sealed k (root_signers repository root before) payload) 60_000 fits size in
+    let whole = envelope-length (sealed_envelope k (root_signers repository root before) payload) 60_000 fits size in
     omega (arith, whole)
 
 envelope_of : (k : Rules) (repository : Repository) (i : ℕ) (root : Root) (before : Option Root) → Envelope
-envelope_of k repository i root before = sealed k (root_signers repository root before) (text (root_payload (root_file k repository i root)))
+envelope_of k repository i root before = sealed_envelope k (root_signers repository root before) (text (root_payload (root_file k repository i root)))
 
 root_is_read : MomentTextIsPlain → (k : Rules) → Known k → (repository : Repository) (i : ℕ) (root : Root) (before : Option Root) → CanBeServed k repository i root
     → CanSeal k (root_signers repository root before) → root_in (root_text k repository i root before) ≡ Ok (root_file k repository i root, envelope_of k repository i root before)
@@ -156,7 +156,7 @@ next_signed k s stands repository i root next there there_next =
     let own = (keys_of repository next.keys).root.keys in
     let signed = text (root_payload (root_file k repository (i + 1) next)) in
     let same : root_at s (i + 1 - 1) ≡ Some root = ap (root_at s) (omega arith) ∙ there in
-    subst (λ (o : Option Root). IsSignedUnder k (role_keys k keys.root) (sealed k (root_signers repository next o) signed)) (sym same)
+    subst (λ (o : Option Root). IsSignedUnder k (role_keys k keys.root) (sealed_envelope k (root_signers repository next o) signed)) (sym same)
     (signed_under k stands.known keys.root (root_signers repository next (Some root)) signed (roles_fit k keys (can_be_served k s stands repository i root there).fits).0
     (among_old own keys.root.keys keys.root.keys (among_itself keys.root.keys)))
 
@@ -219,35 +219,35 @@ set_verifies k s stands m i root there same again =
     record {
       targets = record {
         content = targets_file m;
-        envelope = sealed k keys.targets.keys (text (targets_payload (targets_file m)));
+        envelope = sealed_envelope k keys.targets.keys (text (targets_payload (targets_file m)));
         read = again.targets.read;
         of_repository = refl;
         root = root_file k m.repository i root;
         root_envelope = envelope_at k s m.repository i root;
         under = under;
-        signed = subst (λ (ks : KeySet). IsSignedUnder k (role_keys k (keys_of m.repository ks).targets) (sealed k keys.targets.keys (text (targets_payload (targets_file m))))) same
+        signed = subst (λ (ks : KeySet). IsSignedUnder k (role_keys k (keys_of m.repository ks).targets) (sealed_envelope k keys.targets.keys (text (targets_payload (targets_file m))))) same
             (signed_under k stands.known keys.targets keys.targets.keys (text (targets_payload (targets_file m))) roles.1 (among_itself keys.targets.keys));
       };
       snapshot = record {
         content = snapshot_file m;
-        envelope = sealed k keys.snapshot.keys (text (snapshot_payload (snapshot_file m)));
+        envelope = sealed_envelope k keys.snapshot.keys (text (snapshot_payload (snapshot_file m)));
         read = again.snapshot.read;
         of_repository = refl;
         root = root_file k m.repository i root;
         root_envelope = envelope_at k s m.repository i root;
         under = under;
-        signed = subst (λ (ks : KeySet). IsSignedUnder k (role_keys k (keys_of m.repository ks).snapshot) (sealed k keys.snapshot.keys (text (snapshot_payload (snapshot_file m))))) same
+        signed = subst (λ (ks : KeySet). IsSignedUnder k (role_keys k (keys_of m.repository ks).snapshot) (sealed_envelope k keys.snapshot.keys (text (snapshot_payload (snapshot_file m))))) same
             (signed_under k stands.known keys.snapshot keys.snapshot.keys (text (snapshot_payload (snapshot_file m))) roles.2 (among_itself keys.snapshot.keys));
       };
       timestamp = record {
         content = timestamp_file k m;
-        envelope = sealed k keys.timestamp.keys (text (timestamp_payload (timestamp_file k m)));
+        envelope = sealed_envelope k keys.timestamp.keys (text (timestamp_payload (timestamp_file k m)));
         read = again.timestamp.read;
         of_repository = refl;
         root = root_file k m.repository i root;
         root_envelope = envelope_at k s m.repository i root;
         under = under;
-        signed = subst (λ (ks : KeySet). IsSignedUnder k (role_keys k (keys_of m.repository ks).timestamp) (sealed k keys.timestamp.keys (text (timestamp_payload (timestamp_file k m))))) same
+        signed = subst (λ (ks : KeySet). IsSignedUnder k (role_keys k (keys_of m.repository ks).timestamp) (sealed_envelope k keys.timestamp.keys (text (timestamp_payload (timestamp_file k m))))) same
             (signed_under k stands.known keys.timestamp keys.timestamp.keys (text (timestamp_payload (timestamp_file k m))) roles.3 (among_itself keys.timestamp.keys));
       };
     }

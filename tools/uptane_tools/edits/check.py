@@ -6,11 +6,13 @@ import shutil
 import subprocess
 import tempfile
 import threading
+from collections.abc import Callable, Iterator
 from pathlib import Path
+from typing import Any, NamedTuple
 
-from .edit import functions_below, texts_with
-from .functions import module_of, with_bodies
-from .kit import rt, rtlib
+from uptane_tools.edits.edit import Edit, functions_below, texts_with
+from uptane_tools.edits.functions import Function, module_of, with_bodies
+from uptane_tools.edits.kit import Crate, rt, rtlib
 
 # A note that places a goal which stays open: its file, its line and its name.
 GOAL = re.compile(
@@ -36,9 +38,15 @@ NOT_PROVED = ("logic=not-proved", "only=")
 LEFT_OUT = b" unreachable!() "
 PROOF_FILES = {"Invariants.antt", "Answers.antt", "Proof.antt"}
 
-# What a check says: 0 where all is proved, 1 where not, or None where it says nothing of an edit;
-# its lines; and why it says nothing, which may be the edit's own fault.
-Said = collections.namedtuple("Said", "status lines why is_fault")
+
+class Said(NamedTuple):
+    """What a check says: 0 where all is proved, 1 where not, or None where it says nothing of an
+    edit; its lines; and why it says nothing, which may be the edit's own fault.
+    """
+    status: int | None
+    lines: list[str]
+    why: str | None
+    is_fault: bool
 
 
 class Bench:
@@ -46,14 +54,14 @@ class Bench:
     them as they stand has kept.
     """
 
-    def __init__(self, crate, room, seconds, tell):
+    def __init__(self, crate: Crate, room: str, seconds: int, tell: Callable[..., Any]) -> None:
         self.crate, self.room, self.seconds, self.tell = crate, room, seconds, tell
-        self.folder, self.kept, self.only = f"{room}/texts", f"{room}/kept", []
+        self.folder, self.kept, self.only = f"{room}/texts", f"{room}/kept", list[Any]()
         for part in rtlib.PARTS:
             if os.path.isdir(f"{crate.folder}/{part}"):
                 shutil.copytree(f"{crate.folder}/{part}", f"{self.folder}/{part}")
 
-    def prove(self, jobs):
+    def prove(self, jobs: int) -> Any:
         """Proves the crate as it stands, over what earlier checks kept in its out/. Returns why
         no edit can be judged on it, or None.
         """
@@ -66,7 +74,7 @@ class Bench:
         shutil.copytree(f"{self.crate.folder}/out/incremental", self.kept, copy_function=_link)
         return None
 
-    def prove_alone(self, functions, jobs):
+    def prove_alone(self, functions: list[tuple[str, Function]], jobs: int) -> Any:
         """Proves these functions, pairs of a path and a function, as they stand and from
         nothing, in a copy of the crate that leaves out the bodies of the others. Returns why no
         edit of them can be judged on it, or None.
@@ -88,7 +96,7 @@ class Bench:
                         f"{said.why or ' | '.join(mine)[:200] or 'no line tells of it'}")
         return said.why
 
-    def prove_anew(self, jobs):
+    def prove_anew(self, jobs: int) -> str | None:
         """Proves the whole crate as it stands, from nothing. Returns why no edit can be judged
         on it, or None.
         """
@@ -97,7 +105,7 @@ class Bench:
         return None if said.status == 0 else (f"{self.crate.name} is not proved as it stands: "
                                               f"{said.why or _first_error(said.lines)}")
 
-    def _leave_out_all_but(self, functions):
+    def _leave_out_all_but(self, functions: list[tuple[str, Function]]) -> None:
         """Leaves out the bodies of the functions that have neither the name nor the cycle of one
         of these, and what proofs/ has for them.
         """
@@ -117,7 +125,8 @@ class Bench:
             if PROOF_FILES & {*files} and os.path.basename(at) not in stay:
                 shutil.rmtree(at)
 
-    def judged(self, group, jobs):
+    def judged(self, group: list[Edit],
+               jobs: Any) -> tuple[list[tuple[bool, str]], list[list[Edit]]]:
         """Tries the edits of a group, all of different functions, in one check. Returns what is
         known now, as pairs of whether it is well and a line, and the groups that are left to
         try.
@@ -142,7 +151,7 @@ class Bench:
                 left.append(it)
         return known, [[it] for it in left] if said.status is not None else _parts(left, said)
 
-    def check(self, texts, kept, jobs, what):
+    def check(self, texts: dict[str, bytes], kept: str, jobs: int, what: str) -> Said:
         """Checks a copy of the crate with these texts, over the work in `kept`."""
         with tempfile.TemporaryDirectory(dir=self.room) as room, tempfile.TemporaryFile(
                 "w+", errors="replace") as out:
@@ -168,7 +177,7 @@ class Bench:
         return what_is_said(ran.returncode, is_late, lines, texts)
 
 
-def _parts(group, said):
+def _parts(group: list[Edit], said: Said) -> list[list[Edit]]:
     """Returns the groups to try in place of one whose check says nothing: the edits at fault
     each alone, where that is told, else halves.
     """
@@ -182,7 +191,7 @@ def _parts(group, said):
     return [*([it] for it in faulty), others] if faulty else [group[::2], group[1::2]]
 
 
-def what_is_said(status, is_late, lines, texts):
+def what_is_said(status: int, is_late: bool, lines: list[str], texts: dict[str, bytes]) -> Said:
     """Returns what a check says of the edits that made these texts, from how it ended and its
     lines.
     """
@@ -204,7 +213,7 @@ def what_is_said(status, is_late, lines, texts):
                 f"it did not reach the prover, or got no verdict: {_first_error(lines)}", is_fault)
 
 
-def refusals(lines):
+def refusals(lines: list[str]) -> Iterator[tuple[str, list[tuple[str, int]], str]]:
     """Yields each function of which a goal or a term of its own was refused: its name, the
     places of the goals, and what was refused.
     """
@@ -216,7 +225,7 @@ def refusals(lines):
         goals += [(path, int(at), name) for path, at, name in GOAL.findall(line)]
         function = FUNCTION.fullmatch(line)
         if function and not function[2].startswith("proved"):
-            named = OPEN_GOALS.search(function[2])
+            named: Any = OPEN_GOALS.search(function[2])
             named = re.findall("`([^`]+)`", named[1]) if named else []
             own, mine = [it for it in goals if it[2] in named or not named
                          ], terms[function[1].partition("::")[2]]
@@ -226,7 +235,7 @@ def refusals(lines):
             goals = []
 
 
-def is_shown(path, function, name, places):
+def is_shown(path: str, function: Function, name: str, places: list[tuple[str, int]]) -> bool:
     """Returns whether what rattle names so, with open goals at these places or else a refused
     term, is this function of this file.
     """
@@ -235,7 +244,7 @@ def is_shown(path, function, name, places):
     return (is_inside or not places) and is_of(name, path, function)
 
 
-def is_of(name, path, function):
+def is_of(name: str, path: str, function: Function) -> bool:
     """Returns whether what rattle names so is this function, told by its whole path
     CRATE::MODULE::NAME or CRATE::MODULE::OWNER::NAME, or stands in it:
     CRATE::MODULE::fn::NAME::PART, as a closure does.
@@ -250,7 +259,7 @@ def is_of(name, path, function):
         words[:len(it)] == it and len(words) > len(it) for it in inside)
 
 
-def _failure(edit, said):
+def _failure(edit: Edit, said: Said) -> str:
     if said.status is None:
         return f"{'BAD EDIT' if said.is_fault else 'NOT JUDGED'} {edit.label}: {said.why}"
     if said.status == 0:
@@ -259,11 +268,11 @@ def _failure(edit, said):
             f"{_first_error(said.lines)}")
 
 
-def _first_error(lines):
+def _first_error(lines: list[str]) -> str:
     return " | ".join([it[:160] for it in lines if "error" in it][:2] or lines[-2:])
 
 
-def _link(file, to):
+def _link(file: str, to: str) -> None:
     """Gives a file of kept work a second name, or copies it where that can't be: a check
     replaces such files, and writes into none.
     """

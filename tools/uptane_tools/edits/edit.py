@@ -2,10 +2,12 @@
 import collections
 import re
 from pathlib import Path
+from typing import Any
 
-from .functions import functions_in, functions_of, module_of, tokens_of, types_of, with_bodies
-from .kit import rt
-from .sql import chooses_a_text, rows_named, turns_a_text, unshown
+from uptane_tools.edits.functions import (Function, functions_in, functions_of, module_of,
+                                          tokens_of, types_of, with_bodies)
+from uptane_tools.edits.kit import rt
+from uptane_tools.edits.sql import chooses_a_text, rows_named, turns_a_text, unshown
 
 NAME = re.compile(r"[A-Za-z0-9_-][A-Za-z0-9_.-]*\.edit")
 
@@ -15,9 +17,13 @@ class Edit:
     whether it turns a text of SQL alone; or in `why` the reason that it is none.
     """
 
-    def __init__(self, crate, folder, file, functions):
+    def __init__(self, crate: str, folder: str, file: Path,
+                 functions: dict[str, list[Function]]) -> None:
         self.label = f"{crate}/{Path(file).stem}"
-        self.path = self.function = self.body = texts = None
+        texts = None
+        self.path: Any = None
+        self.function: Any = None
+        self.body: Any = None
         self.is_of_text, self.rows = False, []
         self.why = "its name is not of letters, digits, _, - and . with .edit at the end"
         if NAME.fullmatch(Path(file).name):
@@ -33,7 +39,8 @@ class Edit:
         if self.is_of_text:
             self.rows, self.why = rows_named(file), unshown(folder, file)
 
-    def _read(self, folder, texts, functions):
+    def _read(self, folder: str, texts: dict[str, str],
+              functions: dict[str, list[Function]]) -> str | None:
         self.path = min(texts)
         if len(texts) > 1 or self.path not in functions:
             return "it changes no file of src/, or more than one"
@@ -51,7 +58,7 @@ class Edit:
                     rb"\bfn\s+\w", self.body) else None
         return "it changes something else than the body of one function"
 
-    def key(self):
+    def key(self) -> tuple[str, str]:
         """Edits of one key are not tried together: those of one name in one file, so that a line
         of the prover is of one edit, or of one cycle.
         """
@@ -67,7 +74,7 @@ def functions_below(folder: str) -> dict[str, list]:
     found = dict(zip([str(it.relative_to(folder)) for it in files], tokens_of(files) or []))
     declared = {path: types_of(rows) for path, rows in found.items()}
 
-    def modules(path, function):
+    def modules(path: str, function: Function) -> tuple[tuple[str, ...], ...]:
         elsewhere = tuple(module_of(it) for it in declared if function.owner in declared[it])
         return (module_of(path),
                 ) if not function.is_own or function.owner in declared[path] else elsewhere
@@ -89,10 +96,11 @@ def edits_in(crate: str, folder: str) -> list[Edit]:
     return [Edit(crate, folder, file, functions) for file in files]
 
 
-def groups_of(edits, most):
+def groups_of(edits: list[Edit], most: int) -> list[list[Edit]]:
     """Returns the edits in groups of different functions, of about the same size and of at most
     so many each.
     """
+    times: Any
     rounds, times = collections.defaultdict(list), collections.Counter()
     for it in edits:
         rounds[times[it.key()]].append(it)
@@ -103,11 +111,11 @@ def groups_of(edits, most):
         for at in range(counts[number])]
 
 
-def texts_with(folder, edits):
+def texts_with(folder: str, edits: list[Edit]) -> dict[str, bytes]:
     """Returns the texts (bytes) of the files of this folder in which the edits, of different
     functions, are all made, by path.
     """
-    made = {}
+    made: Any = {}
     for path in {it.path for it in edits}:
         text = Path(folder, path).read_bytes()
         # (by name and lines, since other bodies may be left out of the text)

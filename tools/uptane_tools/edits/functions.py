@@ -1,31 +1,50 @@
 """The functions of a text of Rattle, found by rattle's own tokens."""
 import bisect
-import collections
 import re
 import subprocess
 import tempfile
+from typing import Any, NamedTuple
 
-from .kit import rtlib
-from typing import Any
+from uptane_tools.edits.kit import rtlib
 
-# A token without its place in the text: the line that it stands in, where it starts and ends
-# (bytes), its kind and its words (a JSON string).
-Token = collections.namedtuple("Token", "line start end kind word")
 
-# An outermost function with a body, which lies between the bytes `opens` and `closes`. `lines` are
-# its first and last, `cycle` is the cycle of calls that it is in, or None, and `is_read_above` says
-# that a crate above may read its body: that of a `const fn` or of a trait's default. `owner` is the
-# word that rattle puts before its name, or None: the name of its trait or of the type whose own
-# `impl` it stands in; of a trait's `impl`, the names of type and trait in one, as in
-# `RefusalFromRefStr`, and in `AnySource` where it is for every type. `is_own` says that it stands
-# in a type's own `impl`: rattle names it by that type's module. `modules` are the modules that it
-# may stand in, each a tuple of names, or None where they aren't known yet. `begins` is the byte
-# that the whole function begins at, its attributes with it, where no crate above can read it unless
-# something names it; else None. `is_private` says that those above can't name it.
-Function = collections.namedtuple(
-    "Function",
-    "name lines opens closes cycle is_read_above owner is_own modules begins is_private", defaults=[
-        None, False, None, None, False])
+class Token(NamedTuple):
+    """A token without its place in the text: the line that it stands in, where it starts and ends
+    (bytes), its kind and its words (a JSON string).
+    """
+    line: int
+    start: int
+    end: int
+    kind: str
+    word: str
+
+
+class Function(NamedTuple):
+    """An outermost function with a body, which lies between the bytes `opens` and `closes`.
+
+    `lines` are its first and last, `cycle` is the cycle of calls that it is in, or None, and
+    `is_read_above` says that a crate above may read its body: that of a `const fn` or of a trait's
+    default. `owner` is the word that rattle puts before its name, or None: the name of its trait or
+    of the type whose own `impl` it stands in; of a trait's `impl`, the names of type and trait in
+    one, as in `RefusalFromRefStr`, and in `AnySource` where it is for every type. `is_own` says
+    that it stands in a type's own `impl`: rattle names it by that type's module. `modules` are the
+    modules that it may stand in, each a tuple of names, or None where they aren't known yet.
+    `begins` is the byte that the whole function begins at, its attributes with it, where no crate
+    above can read it unless something names it; else None. `is_private` says that those above can't
+    name it.
+    """
+    name: str
+    lines: tuple[int, int]
+    opens: int
+    closes: int
+    cycle: str | None
+    is_read_above: bool
+    owner: str | None = None
+    is_own: bool = False
+    modules: tuple[tuple[str, ...], ...] | None = None
+    begins: int | None = None
+    is_private: bool = False
+
 
 CYCLE = re.compile(r"# \[ cycle \( (\w+) \)")
 ATTRIBUTE = re.compile(r"# \[ [^]]* \] ")
@@ -82,8 +101,8 @@ def functions_of(tokens: list[Token]) -> list[Function]:
                     words[start:at], *mine) else None
                 private = not _is_public(words[start:at])
                 found.append(
-                    Function(name, lines, code[opens].end, code[closes].start, cycle and cycle[1],
-                             is_read, *mine, None, begins, private))
+                    Function(name, lines, code[opens].end, code[closes].start,
+                             cycle[1] if cycle else None, is_read, *mine, None, begins, private))
                 opens = closes
             at = start = opens + 1
         elif words[at:at + 3] == ["#", "!", "["]:
@@ -136,10 +155,11 @@ def types_of(tokens: list[Token]) -> set[str]:
         name for word, name in zip(words, words[1:]) if word in ("struct", "enum", "union", "type")}
 
 
-def owner_of(words):
+def owner_of(words: list[str]) -> tuple[str, bool]:
     """Returns the word that rattle puts before a name in the `impl` that has these words before
     its brace, and whether it is a type's own.
     """
+    parts: Any
     parameters, parts, depth = set(), [[]], 0
     for at, (before, word) in enumerate(zip(["", *words], words)):
         depth += (word in "<([") - (word in ")]" or word == ">" and before != "-")
@@ -174,7 +194,7 @@ def _spelled(words: list[str], parameters: set[str]) -> str:
     return said
 
 
-def _commas(words):
+def _commas(words: list[str]) -> int:
     """Returns how many commas stand among these words outside parentheses, brackets and angles."""
     depth, found = 0, 0
     for word in words:
@@ -204,7 +224,7 @@ def closing(words: list[str], at: int) -> int:
     return len(words)
 
 
-def with_bodies(text, bodies):
+def with_bodies(text: bytes, bodies: list[tuple[Function, bytes]]) -> bytes:
     """Returns the text (bytes) with these bodies, pairs of a function and the bytes between its
     braces, in place of its own.
     """

@@ -14,26 +14,27 @@ check reads of the crates below and its own text can reach there. So a hash cove
 import hashlib
 import tempfile
 from pathlib import Path
+from typing import Any
 
-from .edit import edit_files
-from .functions import tokens_of
-from .kit import logic, rt, rtlib
-from .shown import files_in, reached, shown_by, spelled
+from uptane_tools.edits.edit import edit_files
+from uptane_tools.edits.functions import tokens_of
+from uptane_tools.edits.kit import Crate, logic, rt, rtlib
+from uptane_tools.edits.shown import Shown, files_in, reached, shown_by, spelled
 
 
-def count_of(folder):
+def count_of(folder: str) -> int:
     """Returns the number of edits of the crate in this folder."""
     return len([*Path(folder, "refused").glob("*.edit")])
 
 
-def hashes(crates, names):
+def hashes(crates: dict[str, Crate], names: list[str]) -> dict[str, tuple[int, str]]:
     """Returns for each of these crates that has edits, by name, their number and the hash."""
     names = [it for it in names if count_of(crates[it].folder)]
     shown = shown_by({it.name: it for name in names for it in crates[name].below()})
     return {it: (count_of(crates[it].folder), _hash(crates[it], shown)) for it in names}
 
 
-def _hash(crate, shown):
+def _hash(crate: Crate, shown: dict[str, Shown]) -> str:
     """Returns the hash of a crate, from its own files and what the crates below show."""
     whole = [crate, *crate.below()] if crate.is_program else [crate]
     own, edits = [(it.name, *row) for it in whole for row in _own(it.folder)], _made(crate.folder)
@@ -45,16 +46,17 @@ def _hash(crate, shown):
             (logic(), crate.said["deps"], own, edits, below, stated, lemmas)).encode()).hexdigest()
 
 
-def _own(folder):
+def _own(folder: str) -> list[tuple[str, str]]:
     """Returns the words of each file of a crate's texts, with its path."""
     paths = files_in(folder, rtlib.PARTS)
     return [*zip(paths, _texts([f"{folder}/{it}" for it in paths]))]
 
 
-def _made(folder):
+def _made(folder: str) -> list[tuple[str, ...]]:
     """Returns for each edit its name, and the words of the file that it turns, with the edit
     made, or why there is none.
     """
+    made: Any
     made, whys = [], []
     with tempfile.TemporaryDirectory() as room:
         for file in edit_files(folder):
@@ -69,7 +71,7 @@ def _made(folder):
             for (name, path, _), text in zip(made, _texts([copy for _, _, copy in made]))]
 
 
-def _texts(files):
+def _texts(files: list[str | Path]) -> list[str]:
     """Returns the words of each of these files, or the files as they are where rattle can't read
     one.
     """

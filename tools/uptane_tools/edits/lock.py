@@ -1,13 +1,14 @@
 """The file in the tree that keeps, for each crate whose edits were all refused, how many they
 are, the hash that their verdicts rest on, and the kit that judged them.
 """
-import collections
 import fcntl
 import os
 from pathlib import Path
+from typing import NamedTuple
 
-from . import kit
-from .hashes import count_of
+from uptane_tools.edits import kit
+from uptane_tools.edits.hashes import count_of
+from uptane_tools.edits.kit import Crate
 
 FILE = "tools/refused.lock"
 HEAD = """# For each crate whose edits the prover refused, all of them: how many they
@@ -15,11 +16,14 @@ HEAD = """# For each crate whose edits the prover refused, all of them: how many
 # `tools/run refused` alone writes this file.
 """
 
-# A crate's line. `rests` are the number of its edits and the hash.
-Line = collections.namedtuple("Line", "rests kit")
+
+class Line(NamedTuple):
+    """A crate's line. `rests` are the number of its edits and the hash."""
+    rests: tuple[int, str]
+    kit: str
 
 
-def kept():
+def kept() -> dict[str, Line]:
     """Returns the line of each crate that the lock has, by name."""
     text = Path(FILE).read_text(encoding="utf-8") if os.path.isfile(FILE) else ""
     rows = [line.split() for line in text.splitlines() if line and not line.startswith("#")]
@@ -27,7 +31,7 @@ def kept():
     return {row[0]: Line((int(row[1]), row[2]), row[3]) for row in rows if len(row) == 4}
 
 
-def write(crates, found):
+def write(crates: dict[str, Crate], found: dict[str, tuple[int, str]]) -> None:
     """Gives these crates, each with the number of its edits and the hash, their lines in the
     lock, judged by the kit that is here, and takes out the lines of those that have no edits any
     more.
@@ -35,7 +39,7 @@ def write(crates, found):
     put(crates, {it: Line(rests, kit.name()) for it, rests in found.items()})
 
 
-def put(crates, lines):
+def put(crates: dict[str, Crate], lines: dict[str, Line]) -> None:
     """Puts these lines into the lock, by name."""
     os.makedirs(os.path.dirname(FILE), exist_ok=True)
     with open(FILE, "a+", encoding="utf-8") as file:

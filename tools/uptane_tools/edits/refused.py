@@ -45,6 +45,7 @@ A line for each edit begins with 'refused', or with 'NOT REFUSED', 'BAD EDIT' or
 which fail. The last line is 'N passed, M failed', and the status is 0 where all passed. It runs
 at the top of a repository of Rattle crates and needs rt on the path.
 """
+import argparse
 import collections
 import hashlib
 import os
@@ -54,32 +55,33 @@ import sys
 import tempfile
 import threading
 from concurrent.futures import FIRST_COMPLETED, ThreadPoolExecutor, wait
+from typing import Any
 
 from uptane_tools import arguments
 from uptane_tools.edits import fewer, kit, lock
 from uptane_tools.edits.check import Bench
-from uptane_tools.edits.edit import edits_in, groups_of
+from uptane_tools.edits.edit import Edit, edits_in, groups_of
 from uptane_tools.edits.hashes import count_of, hashes
-from uptane_tools.edits.kit import crates as crates_here, rt, rtlib
+from uptane_tools.edits.kit import Crate, crates as crates_here, rt, rtlib
 
 
 class Judge:
     """Judges edits, prints a line for each as it is known, and counts them."""
 
-    def __init__(self, given):
+    def __init__(self, given: argparse.Namespace) -> None:
         self.given, self.passed, self.failed, self.telling = given, 0, 0, threading.Lock()
         self.jobs = given.jobs or max(1, min(rt.processors(), rt.free() // 3_000_000_000))
 
-    def tell(self, is_well, line):
+    def tell(self, is_well: bool, line: str) -> None:
         with self.telling:
             self.passed, self.failed = self.passed + is_well, self.failed + (not is_well)
             print(line, flush=True)
 
-    def bench(self, crate, room):
+    def bench(self, crate: Crate, room: str) -> Bench:
         told = (lambda line: print(line, flush=True)) if self.given.times else (lambda line: None)
         return Bench(crate, room, self.given.seconds, told)
 
-    def crate(self, crates, crate):
+    def crate(self, crates: dict[str, Crate], crate: Crate) -> None:
         """Judges all edits of a crate, and writes its line in the lock where all were refused
         and nothing changed meanwhile.
         """
@@ -95,7 +97,8 @@ class Judge:
         if edits and self.failed == failed and hashes(crates, [crate.name]) == before:
             lock.write(crates, before)
 
-    def edits(self, bench, edits, why, jobs=None):
+    def edits(self, bench: Bench | None, edits: list[Edit], why: None,
+              jobs: int | None = None) -> None:
         """Judges these edits on the bench, or says why none can be judged there."""
         for it in edits:
             if it.why or why:
@@ -113,7 +116,7 @@ class Judge:
                         self.tell(is_well, line)
                     running |= {pool.submit(bench.judged, it, jobs) for it in left if it}
 
-    def anew(self, crates):
+    def anew(self, crates: dict[str, Crate]) -> None:
         """Judges all edits in a copy of the tree without kept work, and takes over the lines of
         the lock that this makes there.
         """
@@ -132,7 +135,7 @@ class Judge:
         now = hashes(crates, [*found])
         lock.write(crates, {it: now[it] for it in now if now[it] == found[it].rests})
 
-    def drawn(self, crates, word):
+    def drawn(self, crates: dict[str, Crate], word: str) -> None:
         """Judges anew, from nothing, the group of the one edit that the word draws."""
         number = int(hashlib.sha256(word.encode()).hexdigest(), 16)
         names = [it for it in crates for _ in range(count_of(crates[it].folder))]
@@ -148,7 +151,7 @@ class Judge:
         make_ready(crate, self.jobs)
         self.apart(crate, group, self.jobs)
 
-    def apart(self, crate, group, jobs):
+    def apart(self, crate: Crate, group: list[Edit], jobs: int) -> None:
         """Judges a group in a copy of the crate that leaves out the other bodies, or in a whole
         one where these are needed.
         """
@@ -164,7 +167,7 @@ class Judge:
                 why = bench.prove_anew(jobs)
             self.edits(bench, group, why, jobs)
 
-    def all_apart(self, crate, edits):
+    def all_apart(self, crate: Crate, edits: list[Edit]) -> None:
         """Judges all edits of a crate so, as many groups at one time as there are jobs."""
         make_ready(crate, self.jobs)
         self.edits(None, [it for it in edits if it.why], None)
@@ -175,14 +178,14 @@ class Judge:
                 done.result()
 
 
-def make_ready(crate, jobs):
+def make_ready(crate: Crate, jobs: int) -> None:
     """Has the libraries below a crate built, unless they are all as `rt ci` left them."""
 
-    def time(file):
+    def time(file: Any) -> float:
         # (`rt ci` links a kept library into its place, which changes its ctime alone)
         return max(os.path.getmtime(file), os.path.getctime(file)) if os.path.isfile(file) else 0
 
-    def is_by_ci(it):
+    def is_by_ci(it: Any) -> bool | Any:
         return not time(f"{it.folder}/out/rlib/stamp") and time(f"{it.rlib}/format") > max(
             map(time, rtlib.files_of(it.folder)))
 
@@ -191,7 +194,7 @@ def make_ready(crate, jobs):
         subprocess.run(words, cwd=it.folder, stdout=subprocess.DEVNULL, check=True)
 
 
-def owed(crates):
+def owed(crates: dict[str, Crate]) -> int:
     """Names the crates whose hash the lock lacks, and returns how many they are. Of the others
     it tells which kits judged them, where another did.
     """
@@ -207,7 +210,7 @@ def owed(crates):
     return len(names)
 
 
-def given_words(words):
+def given_words(words: Any) -> argparse.Namespace:
     parser = arguments.parser(__doc__)
     add = parser.add_argument
     add("--owed", action="store_true", help="names the crates whose hash the lock lacks")
@@ -215,6 +218,8 @@ def given_words(words):
     add("--drawn", metavar="WORD", help="judges anew the group of edits that the word draws")
     add("--fewer", metavar="REVISION",
         help="writes the lines of crates that have fewer edits than were judged at this revision")
+    add("--renamed", metavar="REVISION",
+        help="writes the lines of crates where names alone changed since this revision")
     add("--apart", action="store_true",
         help="judges each group without the other bodies, several at one time")
     add("--jobs", type=int, metavar="N",
@@ -225,12 +230,20 @@ def given_words(words):
         help="the longest that one check may take (1800)")
     add("--times", action="store_true",
         help="a line for each check, with its processor seconds and memory")
-    add("names", nargs="*", metavar="NAME", help="the crates")
+    add("names", nargs="*", metavar="NAME",
+        help="the crates; with --renamed NEW=OLD or FILE:NAME[:FILE]")
     given = parser.parse_args(words)
     if not os.path.isfile("crates.txt"):
         parser.error("it runs at the top of a repository, where crates.txt stands")
-    if sum(map(bool, (given.owed, given.all, given.drawn, given.fewer, given.names))) != 1:
-        parser.error("give --owed, --all, --drawn WORD, --fewer REVISION or names of crates")
+    given.renames = dict(it.split("=", 1) for it in given.names if "=" in it)
+    given.gone = [it.split(":") for it in given.names if ":" in it]
+    given.names = [it for it in given.names if "=" not in it and ":" not in it]
+    if bool(given.renamed) != bool(given.renames or given.gone):
+        parser.error("--renamed REVISION wants names, as NEW=OLD or FILE:NAME[:FILE]")
+    if sum(map(bool,
+               (given.owed, given.all, given.drawn, given.fewer, given.renamed, given.names))) != 1:
+        parser.error("give --owed, --all, --drawn WORD, --fewer REVISION, --renamed REVISION or "
+                     "names of crates")
     if given.apart and not given.names:
         parser.error("--apart wants names of crates")
     return given
@@ -246,6 +259,9 @@ def main(words: arguments.Words = None) -> int:
         return 1 if owed(crates) else 0
     if given.fewer:
         lock.put(crates, fewer.stand(crates, given.fewer))
+        return 1 if owed(crates) else 0
+    if given.renamed:
+        lock.put(crates, fewer.renamed(crates, given.renamed, given.renames, given.gone))
         return 1 if owed(crates) else 0
     # (its first call sets a signal's handler, which only the main thread may)
     rtlib.guarded()

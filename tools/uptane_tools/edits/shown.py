@@ -53,10 +53,12 @@ import collections
 import math
 import os
 import re
+from collections.abc import Iterator
 from pathlib import Path
+from typing import Any, NamedTuple
 
-from .functions import closing, functions_of, tokens_of
-from .kit import rtlib
+from uptane_tools.edits.functions import Function, Token, closing, functions_of, tokens_of
+from uptane_tools.edits.kit import Crate, rtlib
 
 OF_A_FUNCTION = ("Invariants.antt", "Answers.antt", "Proof.antt")
 NEWLINE = b"\n"
@@ -81,19 +83,33 @@ strip_prefix swap tag take_back to_digit union unit unknown_key unknown_variant 
 variant_key with write_fmt write_str zip
 """.split()
 
-# A part of a file that is shown: what the hash has of it, when it is in and by which name, the
-# marks of its words, which a `use` of its file may bring, the words that may name a function or a
-# module, those that may name a constant, the paths of antt that stand in it, and the modules that
-# paths of antt name behind `declared` or `contracts`.
-Part = collections.namedtuple("Part", "said when name marks names words paths modules", defaults=[
-    ALWAYS, None, *[frozenset()] * 5])
 
-# What a crate shows: the parts of each of its files, by path, the words of antt that may name
-# functions, and of each file that a private module closes off, by path, the module's name.
-Shown = collections.namedtuple("Shown", "files cites closed")
+class Part(NamedTuple):
+    """A part of a file that is shown: what the hash has of it, when it is in and by which name, the
+    marks of its words, which a `use` of its file may bring, the words that may name a function or a
+    module, those that may name a constant, the paths of antt that stand in it, and the modules that
+    paths of antt name behind `declared` or `contracts`.
+    """
+    said: str
+    when: int = ALWAYS
+    name: Any = None
+    marks: Any = frozenset()
+    names: Any = frozenset()
+    words: Any = frozenset()
+    paths: Any = frozenset()
+    modules: Any = frozenset()
 
 
-def files_in(folder, parts):
+class Shown(NamedTuple):
+    """What a crate shows: the parts of each of its files, by path, the words of antt that may name
+    functions, and of each file that a private module closes off, by path, the module's name.
+    """
+    files: dict[str, list[Part]]
+    cites: set[str]
+    closed: dict[str, str]
+
+
+def files_in(folder: str, parts: tuple[str, str, str]) -> list[str]:
     """Returns the paths of the files in these parts of a crate's folder, as they are in it, in
     order.
     """
@@ -102,7 +118,7 @@ def files_in(folder, parts):
         if it.is_file())
 
 
-def shown_by(crates):
+def shown_by(crates: dict[str, Crate]) -> dict[str, Shown]:
     """Returns what each of these crates shows, by name."""
     read = [(name, it) for name in crates for it in files_in(crates[name].folder, rtlib.PARTS)
             if os.path.basename(it) not in OF_A_FUNCTION]
@@ -127,7 +143,8 @@ def shown_by(crates):
     return shown
 
 
-def reached(texts, shown):
+def reached(texts: list[str],
+            shown: dict[str, Shown]) -> tuple[list[tuple[str, list[tuple[str, str]]]], list[Any]]:
     """Returns what a crate above, which has these texts, reaches of what each crate below it
     shows: the path of each file and the text of what is in, first those of src/ and specs/, and
     then the lemma files.
@@ -138,11 +155,12 @@ def reached(texts, shown):
     cites = set().union(*(it.cites for it in shown.values()), words if "contracts" in words else ())
     words, own, named = words | cites, {it: {*cites} for it in shown}, words | cites
     modules, within_crate = set().union(*map(modules_in, texts)), {it: {*cites} for it in shown}
+    marks: Any
     marks, within = collections.defaultdict(set), collections.defaultdict(set)
     out = [(crate, path, at) for crate, it in shown.items() for path in it.files
            for at in range(len(it.files[path]))]
 
-    def is_in(crate, path, part):
+    def is_in(crate: str, path: str, part: Part) -> bool:
         module = shown[crate].closed.get(path)
         if module and module not in within_crate[crate] and modules.isdisjoint(
             ((crate, module), (crate, "*"), ("*", "*"))):
@@ -174,7 +192,7 @@ def reached(texts, shown):
             named |= part.words
         grown, out = len(left) < len(out), left
 
-    def told(crate, is_lemma):
+    def told(crate: str, is_lemma: bool) -> list[tuple[str, str]]:
         files = {
             path: [it.said for at, it in enumerate(parts) if at in within[crate, path]
                    ] for path, parts in shown[crate].files.items()}
@@ -185,17 +203,17 @@ def reached(texts, shown):
         (it, told(it, True)) for it in sorted(shown) if told(it, True)]
 
 
-def words_of(text):
+def words_of(text: str) -> set[str]:
     """Returns the words of a text."""
     return {*re.findall(r"\w+", text)}
 
 
-def paths_in(text, crate=None):
+def paths_in(text: str, crate: str | None = None) -> set[tuple[str, str, str]]:
     """Returns the paths of antt that stand in a text: of each the crate, `specs` or `proofs`,
     and the file; `*` where it ends before. In code `crate` is this one.
     """
-    found = [(*it.split(".")[1:4], "*", "*", "*")[:3]
-             for it in PATH.findall(text.replace("«", "").replace("»", ""))]
+    found: list[Any] = [(*it.split(".")[1:4], "*", "*", "*")[:3]
+                        for it in PATH.findall(text.replace("«", "").replace("»", ""))]
     if "Code specs\n" in text or "Code proofs\n" in text or "::" in text:
         # (in a text as it is, or in its words)
         code = text.replace("\nCode :\nCode :\nCode ", "::")
@@ -204,7 +222,7 @@ def paths_in(text, crate=None):
     return {*found}
 
 
-def modules_in(text):
+def modules_in(text: str) -> set[tuple[str, str]]:
     """Returns the modules of src/ that paths of antt in a text name, each with its crate: behind
     `declared` or `contracts`, which rattle makes of src/. `*` where a path ends before, or where
     code names such a file.
@@ -218,14 +236,14 @@ def modules_in(text):
             if part in ("*", "specs") and file in ("*", "declared", "contracts")}
 
 
-def marks_of(word):
+def marks_of(word: str) -> set[str]:
     """Returns the marks that tell a word: the runs of letters in it, and each other sign, less
     the places of arguments.
     """
     return {*re.findall(r"\w+|[^\w\s◌.«»]", word)}
 
 
-def spelled(rows, text):
+def spelled(rows: list[Token], text: bytes) -> dict[int, str]:
     """Returns a line for each of a text's tokens, by its place in the text (bytes): its kind and
     its word. A word of antt that begins a line stands behind its column, since antt reads that
     too.
@@ -237,7 +255,7 @@ def spelled(rows, text):
     return {it.start: f"{columns.get(it.start, '')}{it.kind} {it.word}" for it in rows}
 
 
-def _parts(crate, path, rows, text):
+def _parts(crate: str, path: str, rows: list[Token], text: bytes) -> list[Part]:
     """Returns the parts of a crate's file."""
     lines = spelled(rows, text)
     if path.endswith(".rt"):
@@ -256,10 +274,10 @@ def _parts(crate, path, rows, text):
     return [Part(said, words=words_of(said), paths={*paths, (crate, of, "*")}, modules=modules)]
 
 
-def _parts_of_code(crate, rows, lines):
+def _parts_of_code(crate: str, rows: list[Token], lines: dict[int, str]) -> list[Part]:
     """Returns the parts of a file of src/."""
 
-    def part(tokens, when=ALWAYS, name=None):
+    def part(tokens: Any, when: int = ALWAYS, name: str | None = None) -> Part:
         said = "\n".join(lines[it.start] for it in tokens)
         code = [it.word for it in tokens if it.kind == "Code"]
         names = set().union(
@@ -277,7 +295,9 @@ def _parts_of_code(crate, rows, lines):
         it for it in functions if it.begins is not None and _is_by_name(it)]
     code = [it.word for it in kept if it.kind == "Code"]
     shows_code = any(it.is_read_above for it in functions) or _has_macro(code)
+    regions: Any
     places, regions = [it.start for it in kept], []
+    it: Any
     for it in by_name:
         tokens = kept[bisect.bisect_left(places, it.begins):bisect.bisect_right(places, it.closes)]
         regions.append((it.begins, it.closes + 1, [
@@ -285,14 +305,18 @@ def _parts_of_code(crate, rows, lines):
     for tokens in _items([*_outside(kept, regions)]):
         kind, name = [it.word for it in tokens[_visible(tokens, 0):]][:2]
         if kind == "const":
-            made = [part(tokens, CONSTANT, name)]
+            made: Any = [part(tokens, CONSTANT, name)]
         elif kind == "mod":
             made = [Part(f"pub mod {name}", NAMED, name)] if _visible(tokens, 0) == 1 else []
         else:
             stays = shows_code or kind == "use" and "mod" in code
             made = (not stays and _brought(tokens, kind == "ghost")) or [part(tokens)]
         regions.append((tokens[0].start, tokens[-1].end, made))
+    parts: Any
+    rest: Any
     parts, rest, regions = [], [], iter(_joined(regions))
+    start: Any
+    end: Any
     start, end, made = next(regions, (math.inf, math.inf, []))
     for it in kept:
         while it.start >= end:
@@ -304,21 +328,23 @@ def _parts_of_code(crate, rows, lines):
     return parts + ([part(rest)] if rest else [])
 
 
-def _is_by_name(function):
+def _is_by_name(function: Function) -> bool:
     """Returns whether a text has to have the function's name to call it."""
     return function.is_private or not function.is_own or function.name not in OF_MACROS
 
 
-def _joined(regions):
+def _joined(
+        regions: list[tuple[int, int,
+                            list[Part] | None]]) -> list[tuple[int, int, list[Part] | None]]:
     """Returns these regions of a text in order, less those that lie in another."""
-    found = []
+    found: Any = []
     for it in sorted(regions, key=lambda it: (it[0], -it[1])):
         if not found or it[0] >= found[-1][1]:
             found.append(it)
     return found
 
 
-def _outside(rows, regions):
+def _outside(rows: list[Token], regions: Any) -> Iterator[Token]:
     """Yields the tokens that lie outside the regions, which are given in order."""
     regions = iter(regions)
     start, end, _ = next(regions, (math.inf, math.inf, None))
@@ -329,7 +355,7 @@ def _outside(rows, regions):
             yield it
 
 
-def _tactics(rows):
+def _tactics(rows: list[Token]) -> Iterator[tuple[Any, Any, None]]:
     """Yields the regions of the attributes `#[tactic(..)]` in a file."""
     code = [it for it in rows if it.kind == "Code"]
     for at, it in enumerate(code):
@@ -338,7 +364,7 @@ def _tactics(rows):
             yield it.start, code[min(at + closes, len(code) - 1)].end, None
 
 
-def _has_macro(words):
+def _has_macro(words: list[str]) -> bool:
     """Returns whether a macro is declared or called among these words of code."""
     threes = zip(words, words[1:], words[2:])
     return any(
@@ -346,7 +372,7 @@ def _has_macro(words):
         for before, sign, after in threes)
 
 
-def _private_modules(rows):
+def _private_modules(rows: list[Token]) -> Iterator[str]:
     """Yields the name of each module that a file declares by `mod x;`, and not by `pub mod x;`."""
     words = ["", *(it.word for it in rows if it.kind == "Code")]
     for before, word, name, end in zip(words, words[1:], words[2:], words[3:]):
@@ -354,7 +380,7 @@ def _private_modules(rows):
             yield name
 
 
-def _is_closed(rows):
+def _is_closed(rows: list[Token]) -> bool:
     """Returns whether a file declares no macro and no module, brings nothing by `pub use`, and
     has no `impl` but of types that it declares.
     """
@@ -367,6 +393,7 @@ def _is_closed(rows):
             continue
         head = words[at + 1:next((
             it for it in range(at, len(words)) if words[it] in ("{", "where")), len(words))]
+        of: Any
         depth, of = 0, []
         for it in head:
             depth += (it == "<") - (it == ">")
@@ -379,7 +406,7 @@ def _is_closed(rows):
     return True
 
 
-def _items(rows):
+def _items(rows: list[Token]) -> Iterator[list[Token]]:
     """Yields the tokens of each `use`, `ghost use` and `mod` line in a file of src/, and of each
     constant of a module, that has no attribute.
     """
@@ -403,14 +430,14 @@ def _items(rows):
             at, is_start = at + 1, word in "{};"
 
 
-def _visible(rows, at):
+def _visible(rows: list[Token], at: int) -> int:
     """Returns how many tokens say at `at` who sees an item: `pub`, or `pub(crate)` and the like."""
     words = [it.word for it in rows[at:at + 2]]
     return 0 if words[:1] != [
         "pub"] else 1 if words[1:] != ["("] else closing([it.word for it in rows[at:]], 1) + 1
 
 
-def _end(rows, at):
+def _end(rows: list[Token], at: int) -> int:
     """Returns where the item that begins at `at` has ended: behind a `;` outside brackets and
     braces.
     """
@@ -423,7 +450,7 @@ def _end(rows, at):
     return len(rows)
 
 
-def _brought(tokens, is_ghost):
+def _brought(tokens: list[Token], is_ghost: bool) -> list[Part] | None:
     """Returns a part for each name that a `use` brings, or None where it isn't plain which these
     are.
     """
@@ -443,7 +470,7 @@ def _brought(tokens, is_ghost):
     return parts
 
 
-def _names_brought(words, above):
+def _names_brought(words: list[str], above: list[str]) -> Iterator[tuple[list[str], str]]:
     """Yields the path and the name of each leaf of a tree of `use`, below a path, and takes the
     tree's words away; None where it isn't plain.
     """

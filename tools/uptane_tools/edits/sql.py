@@ -9,9 +9,9 @@ import json
 import re
 import tempfile
 from pathlib import Path
-
-from .functions import tokens_of
 from typing import Any
+
+from uptane_tools.edits.functions import tokens_of
 
 BEGINS = r"(?:SELECT|INSERT|UPDATE|DELETE|REPLACE|CREATE|DROP|ALTER|WITH|PRAGMA)\b"
 IN_A_BODY = re.compile(rb'"\s*' + BEGINS.encode())
@@ -86,7 +86,7 @@ def _choice_ends(words: list[str], at: int) -> Any:
     return at and at + 1
 
 
-def _found(words, at, these):
+def _found(words: list[str], at: int, these: list[str]) -> int:
     """Returns where these words stand in a row first, from `at` on, or the end."""
     return next((it for it in range(at, len(words)) if words[it:it + len(these)] == these),
                 len(words))
@@ -107,7 +107,7 @@ def sections_beside(folder: str) -> set[str]:
         for name in SECTION.findall(it.read_text(encoding="utf-8"))}
 
 
-def unshown(folder, file):
+def unshown(folder: str, file: Path) -> str | None:
     """Returns why an edit of a text of SQL alone shows nothing, or None."""
     named, there = rows_named(file), sections_beside(folder)
     if not named:

@@ -15,6 +15,7 @@ Where a query asks for no order, SQLite is told to answer its rows backwards
 """
 import re
 import sqlite3
+from collections.abc import Iterator
 from contextlib import closing
 from typing import Any
 
@@ -75,7 +76,7 @@ class Database:
     def close(self) -> None:
         self.db.close()
 
-    def run(self, name, *values):
+    def run(self, name: str, *values: Any) -> list[tuple[Any, ...]]:
         return self.db.execute(self.statements[name], values).fetchall()
 
     def answer(self, given: str) -> Any:
@@ -97,7 +98,7 @@ class Database:
         except KeyError:
             return "no such statement"
 
-    def written(self, write: Any, rest: Any) -> str | None:
+    def written(self, write: Any, rest: Any) -> str:
         """Carries out a write in one transaction, of which nothing is left where a part of it
         fails.
         """
@@ -119,7 +120,7 @@ class Database:
             self.run("make_" + table)
         self.run("name_tables")
 
-    def ours(self) -> str | None:
+    def ours(self) -> str:
         try:
             rows = self.run("find_meta")
         except sqlite3.Error:
@@ -138,9 +139,9 @@ class Database:
 
     # ---- reads
 
-    def read(self, name, rest):
-        values = split(rest, 2) if name in ("file",
-                                            "kept") else [rest] * ("?1" in self.statements[name])
+    def read(self, name: str, rest: str) -> str:
+        values: list[Any] = split(
+            rest, 2) if name in ("file", "kept") else [rest] * ("?1" in self.statements[name])
         if name in ("role_keys_of", "kept"):
             values[-1] = number(values[-1])
         taken = values[:max([int(it)
@@ -231,7 +232,7 @@ def shown(value: Any) -> str:
                                                                                   int)) else "-"
 
 
-def told(rows):
+def told(rows: Any) -> str:
     """Rows as they are told, whatever their columns hold."""
     return " ; ".join(" ".join(map(shown, row)) for row in rows)
 
@@ -282,7 +283,7 @@ def of_text_alone() -> list:
     return [it for it in edits_in(CRATE, str(FOLDER)) if it.function and it.is_of_text]
 
 
-def cases(whole):
+def cases(whole: bool) -> Iterator[tuple[str, bool]]:
     """Whether the rows are answered as they want, and each edit is seen in the rows that it names.
     """
     all_rows, as_it_stands = sections(), statements()

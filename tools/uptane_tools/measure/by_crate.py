@@ -12,7 +12,9 @@ import os
 import subprocess
 import threading
 from collections import defaultdict
+from collections.abc import Iterator
 from pathlib import Path
+from typing import Any
 
 from uptane_tools import arguments
 
@@ -20,7 +22,7 @@ TICKS = os.sysconf("SC_CLK_TCK")
 EVERY = 1
 
 
-def running():
+def running() -> Iterator[tuple[int, int, float, list[str]]]:
     """For each program that runs: its number, its parent's, the seconds that it took, and its
     words.
     """
@@ -33,7 +35,7 @@ def running():
         yield int(folder.name), int(fields[1]), (int(fields[11]) + int(fields[12])) / TICKS, words
 
 
-def crate_of(words):
+def crate_of(words: Any) -> Any:
     """The crate that a program proves, builds or tries, and whether with its tests; none where
     it names none.
     """
@@ -42,7 +44,7 @@ def crate_of(words):
     return words[words.index("--crate-name") + 1] + " with its tests" * ("--test" in words)
 
 
-def look(top, took):
+def look(top: Any, took: Any) -> None:
     """Writes down what each program below this one took so far: for the crate that it names, or
     else the nearest above it.
     """
@@ -66,7 +68,7 @@ def main(words: arguments.Words = None) -> int:
     ended = threading.Event()
     command = subprocess.Popen(asked.parse_args(words).command)
 
-    def watch():
+    def watch() -> None:
         while not ended.wait(EVERY):
             look(command.pid, took)
 

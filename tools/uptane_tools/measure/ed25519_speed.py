@@ -12,13 +12,15 @@ import random
 import re
 import resource
 import subprocess
+from pathlib import Path
+from typing import Any
 
 from uptane_tools import arguments
 from uptane_tools.measure.ed25519_steps import MESSAGE, answered
 from uptane_tools.rows import ed25519_cases as rows
 
 
-def seconds(program, parts):
+def seconds(program: str | Path, parts: Any) -> float:
     """The processor seconds of a run, which has to answer the rows."""
     before = resource.getrusage(resource.RUSAGE_CHILDREN)
     answered([str(program)], parts)
@@ -26,14 +28,14 @@ def seconds(program, parts):
     return after.ru_utime + after.ru_stime - before.ru_utime - before.ru_stime
 
 
-def each(program, words, full, bare):
+def each(program: str | Path, words: Any, full: Any, bare: Any) -> Any:
     """Microseconds of a call: rows with it, without those that lack it."""
     taken = min(seconds(program, [(words, full)]) for _ in range(5)) - min(
         seconds(program, [(words, bare)]) for _ in range(5))
     return 1e6 * taken / len(full)
 
 
-def by_openssl():
+def by_openssl() -> list[float]:
     told = subprocess.run(["openssl", "speed", "-seconds", "2", "ed25519"], capture_output=True,
                           text=True, check=False).stdout
     found = re.search(r"\(Ed25519\)\s+\S+\s+\S+\s+([\d.]+)\s+([\d.]+)", told)

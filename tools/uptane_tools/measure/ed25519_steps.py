@@ -16,6 +16,7 @@ import subprocess
 import sys
 import tempfile
 from pathlib import Path
+from typing import Any
 
 from uptane_tools import arguments
 from uptane_tools.rows import ed25519_cases as rows
@@ -23,7 +24,7 @@ from uptane_tools.rows import ed25519_cases as rows
 MESSAGE = b"a message of 32 bytes, as any is"
 
 
-def symbol(program, name):
+def symbol(program: str | Path, name: str) -> Any:
     """The name of the crate's function in the program."""
     told = subprocess.run(["nm", str(program)], capture_output=True, text=True, check=True).stdout
     found = re.findall(r" [tT] (up_ed25519::signing::%s)$" % name, told, re.M)
@@ -32,7 +33,7 @@ def symbol(program, name):
     return found[0]
 
 
-def answered(words, parts):
+def answered(words: Any, parts: Any) -> str:
     """What a run of the program says beside its answers to the rows, which have to be right."""
     ran = subprocess.run(words, input=rows.stdin(parts), capture_output=True, text=True,
                          check=False)
@@ -41,7 +42,7 @@ def answered(words, parts):
     return ran.stderr
 
 
-def callgrind(program, parts, folder, *more):
+def callgrind(program: str | Path, parts: Any, folder: Path, *more: Any) -> Any:
     """What callgrind says of the program."""
     words = [
         "valgrind", "--tool=callgrind",
@@ -50,7 +51,7 @@ def callgrind(program, parts, folder, *more):
     return answered(words, parts)
 
 
-def each(program, name, parts, folder):
+def each(program: str | Path, name: str, parts: Any, folder: Path) -> list[int]:
     """The instructions of each call of a function."""
     function = symbol(program, name)
     callgrind(program, parts, folder, "--collect-atstart=no", "--toggle-collect=" + function,
@@ -61,12 +62,12 @@ def each(program, name, parts, folder):
     return [int(count[1]) for count in counts if count and int(count[1])]
 
 
-def whole(program, parts, folder):
+def whole(program: str | Path, parts: Any, folder: Path) -> int:
     """The instructions of a run of the program."""
     return int(re.search(r"Collected : (\d+)", callgrind(program, parts, folder))[1])
 
 
-def verification(program, secrets, folder):
+def verification(program: str | Path, secrets: Any, folder: Path) -> Any:
     triples = [(rows.public_of(secret), MESSAGE, rows.sign(secret, MESSAGE)) for secret in secrets]
     taken = [("verified", [rows.verified_row(*triple) for triple in triples])]
     refused = [("verified", [

@@ -13,22 +13,25 @@ built here in place of `bench` lines, so that the program builds and signs no ma
 """
 import hashlib
 import random
+from collections.abc import Iterator
+from typing import Any
 
 from uptane_tools import arguments
 from uptane_tools.oracle.reference import HASH, SCHEME, canonical, moment, sealed
 
 START = 1767225600
 ROLES = ("root", "targets", "snapshot", "timestamp")
-FACTORY = {"file": "factory.bin", "length": 4096, "sha256": hashlib.sha256(b"factory").hexdigest()}
+FACTORY: dict[str, Any] = {
+    "file": "factory.bin", "length": 4096, "sha256": hashlib.sha256(b"factory").hexdigest()}
 
 
-def with_public(ecu):
+def with_public(ecu: dict[str, Any]) -> dict[str, Any]:
     """An ECU with the public part of its key, if that is a secret."""
     return ecu | {"key": SCHEME.public_of(bytes.fromhex(ecu["key"])).hex()} if HASH(
         ecu.get("key")) else ecu
 
 
-def line(do, at=START, **members):
+def line(do: str, at: Any = START, **members: Any) -> str:
     """A line of a script. The keys of ECUs are given as secrets: the inventory gets their public
     parts.
     """
@@ -39,21 +42,21 @@ def line(do, at=START, **members):
     return canonical({"do": do, "at": at, **members})
 
 
-def key(number):
+def key(number: int) -> str:
     """A key of 32 equal bytes."""
     return "%02x" % number * 32
 
 
-def key_set(first):
+def key_set(first: int) -> dict[str, Any]:
     """Keys of eight bytes in order, one for each role, with threshold 1."""
 
-    def roles(start):
+    def roles(start: int) -> dict[str, dict[str, Any]]:
         return {role: {"keys": [key(start + i)], "threshold": 1} for i, role in enumerate(ROLES)}
 
     return {"director": roles(first), "image": roles(first + 4)}
 
 
-def report_text(told):
+def report_text(told: dict[str, Any]) -> str:
     """The report as it was told: a second hash, or what stands in its place, isn't looked at."""
     hashes = {name: told[name] for name in ("sha256", "sha512") if name in told}
     image = {"file": told["file"], "hashes": hashes, "length": told["length"]}
@@ -64,7 +67,7 @@ def report_text(told):
     return sealed([bytes.fromhex(told["key"])], canonical(payload))
 
 
-def body(told):
+def body(told: dict[str, Any]) -> str:
     """The manifest that a `bench` line with these members builds."""
     words = told["counter"], told["primary"], ",".join(map(report_text,
                                                            told["reports"])), told["vehicle"]
@@ -72,22 +75,23 @@ def body(told):
     return sealed([bytes.fromhex(told["key"])], signed)
 
 
-def digest(words):
+def digest(words: str) -> str:
     return hashlib.sha256(words.encode()).hexdigest()
 
 
-def second(words):
+def second(words: str) -> str:
     return hashlib.sha512(words.encode()).hexdigest()
 
 
-def content(image):
+def content(image: dict[str, Any]) -> dict[str, Any]:
     """What a report has of an image."""
     return {name: image[name] for name in ("file", "length", "sha256", "sha512") if name in image}
 
 
 class Fleet:
 
-    def __init__(self, vehicles, ecus, images, campaigns, seed, second_hashes=0):
+    def __init__(self, vehicles: int, ecus: int, images: int, campaigns: int, seed: int,
+                 second_hashes: float | int = 0) -> None:
         self.seed, self.rng, self.second_hashes = seed, random.Random(seed), second_hashes
         self.hardware = ["HP"] + ["HS%d" % i for i in range(1, min(ecus, 6))]
         self.vehicles = {
@@ -96,19 +100,20 @@ class Fleet:
         self.by_file = {image["file"]: image for image in self.images}
         self.campaigns = [self.new_campaign(number) for number in range(campaigns if images else 0)]
         self.offers = self.best_offers()
-        self.installed, self.last = {}, {}
+        self.installed, self.last = dict[Any, Any](), dict[Any, Any]()
 
-    def ecus_of(self, vehicle, number):
+    def ecus_of(self, vehicle: str, number: int) -> list[tuple[str, str, str]]:
         others = self.hardware[1:] or self.hardware
         kinds = [self.hardware[0]] + [others[i % len(others)] for i in range(number - 1)]
 
-        def secret(i):
+        def secret(i: int) -> str:
             return digest("%d %s %d" % (self.seed, vehicle, i))
 
         return [("%s-e%d" % (vehicle, i), kind, secret(i)) for i, kind in enumerate(kinds)]
 
-    def new_images(self, number):
+    def new_images(self, number: int) -> list[dict[str, Any]]:
         """The releases of each hardware rise; some images have a need or a conflict."""
+        made: Any
         rng, releases, made = self.rng, dict.fromkeys(self.hardware, 0), []
         for i in range(number):
             kind = self.hardware[i % len(self.hardware)]
@@ -128,20 +133,20 @@ class Fleet:
             made.append(image)
         return made
 
-    def new_campaign(self, number):
+    def new_campaign(self, number: int) -> dict[str, Any]:
         rng = self.rng
         chosen = rng.sample(self.images, min(len(self.images), rng.randint(1, 3)))
-        items = {image["hardware"][0]: image["file"] for image in chosen}
+        items: Any = {image["hardware"][0]: image["file"] for image in chosen}
         few = max(1, min(1000, len(self.vehicles) // 4))
         reach = "all" if number % 2 == 0 else rng.sample(sorted(self.vehicles), few)
         items = [{"hardware": kind, "file": file} for kind, file in items.items()]
         return {"campaign": "c%04d" % number, "vehicles": reach, "items": items}
 
-    def best_offers(self):
+    def best_offers(self) -> dict[tuple[str, str], dict[str, Any]]:
         """What the campaigns offer each hardware of each vehicle, for installing roughly what is
         handed out.
         """
-        best = {}
+        best: Any = {}
         for campaign in self.campaigns:
             for name in self.vehicles if campaign["vehicles"] == "all" else campaign["vehicles"]:
                 for item in campaign["items"]:
@@ -150,7 +155,7 @@ class Fleet:
                         best[name, item["hardware"]] = image
         return best
 
-    def setup(self):
+    def setup(self) -> Iterator[str]:
         yield line("found", **key_set(1))
         for name, ecus in self.vehicles.items():
             told = [{"ecu": ecu, "hardware": kind, "key": secret} for ecu, kind, secret in ecus]
@@ -160,7 +165,7 @@ class Fleet:
         for campaign in self.campaigns:
             yield line("open_campaign", START + 3, **campaign)
 
-    def report(self, number, vehicle, ecu, kind, secret):
+    def report(self, number: int, vehicle: str, ecu: str, kind: str, secret: str) -> dict[str, Any]:
         """One report in ten is the last one again; one in two installs what is offered."""
         rng = self.rng
         if ecu in self.last and rng.random() < 0.1:
@@ -175,7 +180,7 @@ class Fleet:
             self.last[ecu]["attack"] = 'counter "low" \\ seen'
         return self.last[ecu]
 
-    def manifests(self, number):
+    def manifests(self, number: int) -> Iterator[dict[str, Any]]:
         """The members of the bench lines of a round."""
         order = sorted(self.vehicles)
         self.rng.shuffle(order)
@@ -185,7 +190,7 @@ class Fleet:
             told = {"vehicle": name, "primary": ecus[0][0], "key": ecus[0][2], "counter": number}
             yield told | {"reports": reports}
 
-    def replacements(self, number, share):
+    def replacements(self, number: int, share: float) -> Iterator[str]:
         """The lines that replace an ECU of some vehicles, each a Secondary."""
         for name, ecus in sorted(self.vehicles.items()) if share else []:
             if len(ecus) < 2 or self.rng.random() >= share:
@@ -198,11 +203,12 @@ class Fleet:
                 "vehicle": name, "old": old, "ecu": new, "hardware": kind, "key": ecus[place][2]}
             yield line("replace_ecu", START + 3600 * number, **told)
 
-    def round(self, number, share, replaced, history, delivers):
+    def round(self, number: int, share: float, replaced: float, history: list[dict[str, Any]],
+              delivers: bool) -> Iterator[str]:
         at = START + 3600 * number
         yield from self.replacements(number, replaced if number > 1 else 0)
 
-        def printed(told, at):
+        def printed(told: dict[str, Any], at: int) -> str:
             return line("deliver", at, body=body(told)) if delivers else line("bench", at, **told)
 
         for told in self.manifests(number):
@@ -212,7 +218,7 @@ class Fleet:
                 yield printed(told if self.rng.random() < 0.5 else self.rng.choice(history),
                               at + 60)
 
-    def closing(self):
+    def closing(self) -> Iterator[str]:
         names = sorted(self.vehicles)
         for name in names[::max(1, len(names) // 50)]:
             yield line("show", vehicle=name)
@@ -221,9 +227,12 @@ class Fleet:
             yield line("fetch", repository="image", file=file)
 
 
-def script(vehicles=100, ecus=4, rounds=5, images=20, campaigns=5, seed=1, repeats=0.2, replaced=0,
-           second_hashes=0, deliver=False, from_round=0):
+def script(vehicles: Any = 100, ecus: int = 4, rounds: int = 5, images: Any = 20,
+           campaigns: int = 5, seed: int = 1, repeats: float = 0.2, replaced: float | int = 0,
+           second_hashes: float | int = 0, deliver: bool = False,
+           from_round: int = 0) -> Iterator[str]:
     """The lines of the script."""
+    history: Any
     fleet, history = Fleet(vehicles, ecus, images, campaigns, seed, second_hashes), []
     setup = list(fleet.setup())
     yield from setup if from_round < 2 else []

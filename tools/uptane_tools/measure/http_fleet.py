@@ -21,6 +21,9 @@ import os
 import random
 import signal
 import time
+from collections.abc import Iterator
+from pathlib import Path
+from typing import Any
 
 from uptane_tools import arguments
 from uptane_tools.measure import fleet
@@ -31,38 +34,39 @@ A_CONNECTION = 100
 AN_ANSWER = 1000
 
 
-def day(number):
+def day(number: int) -> tuple[list[str], list[bytes]]:
     """The lines that fill a file, and the bodies that are delivered over it, in order."""
     vehicles, ecus = 40, 3
-    words = {"images": 12, "campaigns": 4, "seed": 5, "second_hashes": 0.7, "deliver": True}
+    words: dict[str, Any] = {
+        "images": 12, "campaigns": 4, "seed": 5, "second_hashes": 0.7, "deliver": True}
     lines = list(fleet.script(vehicles, ecus, -(-number // vehicles), **words))
     bodies = [json.loads(line)["body"].encode() for line in lines if '"do":"deliver"' in line]
     return [line for line in lines if '"do":"deliver"' not in line and '"do":"show"' not in line
             ], bodies
 
 
-def posted(running, bodies):
+def posted(running: http_cases.Served, bodies: list[bytes]) -> bytes:
     """What is answered to these bodies, sent on one connection."""
     return http_cases.told(running, b"".join(http_cases.POST % len(body) + body for body in bodies))
 
 
-def hundreds(bodies):
+def hundreds(bodies: list[bytes]) -> list[list[bytes]]:
     return [bodies[at:at + A_CONNECTION] for at in range(0, len(bodies), A_CONNECTION)]
 
 
-def named(body):
+def named(body: bytes) -> tuple[Any, Any]:
     """The vehicle and the counter of a manifest."""
     signed = json.loads(body)["signed"]
     return signed["vehicle"], signed["counter"]
 
 
-def kept(path, what):
+def kept(path: str | Path, what: Any) -> dict[Any, Any]:
     with trials.read(path) as db:
         return {
             row[:2]: row[2] for row in db.execute("SELECT vehicle, counter, %s FROM kept" % what)}
 
 
-def over_http(program, path, bodies):
+def over_http(program: Any, path: Any, bodies: list[bytes]) -> list[bytes] | None:
     """The answers, a text for each connection; none where the program didn't end well."""
     parts = hundreds(bodies)
     with http_cases.served(program, path, len(parts)) as running:
@@ -70,10 +74,10 @@ def over_http(program, path, bodies):
         return answers if http_cases.ended(running) else None
 
 
-def wanted(replies, bodies):
+def wanted(replies: dict[tuple[str, int], str], bodies: list[bytes]) -> bytes:
     """The bytes that answer the bodies of a connection by the replies that were kept."""
 
-    def closes(number):
+    def closes(number: int) -> bool:
         return number == A_CONNECTION
 
     return b"".join(
@@ -81,7 +85,7 @@ def wanted(replies, bodies):
         for number, body in enumerate(bodies, 1))
 
 
-def alike(program, own, number):
+def alike(program: Path, own: Path, number: int) -> Iterator[tuple[str, bool]]:
     lines, bodies = day(number)
     path, script = own / "served", own / "script"
     yield "%d lines that fill a file" % len(lines), trials.printed(program, path, lines) is not None
@@ -107,7 +111,7 @@ def alike(program, own, number):
 # ---- kills
 
 
-def killed(program, path, bodies, rng):
+def killed(program: str | Path, path: str | Path, bodies: list[bytes], rng: random.Random) -> bytes:
     """What came of the answers to these bodies until the program was killed."""
     with http_cases.served(program, path, 1) as running, http_cases.connected(running) as client:
         client.sendall(b"".join(http_cases.POST % len(body) + body for body in bodies))
@@ -121,7 +125,7 @@ def killed(program, path, bodies, rng):
     return came
 
 
-def is_kept(program, path, bodies, came):
+def is_kept(program: str | Path, path: str | Path, bodies: list[bytes], came: bytes) -> bool | Any:
     """Whether the answers that came before a kill are those of the replies that are kept, and
     stay so.
     """
@@ -133,7 +137,7 @@ def is_kept(program, path, bodies, came):
                                          ] and again[0].startswith(came)
 
 
-def kills(program, own, number):
+def kills(program: str | Path, own: Path, number: int) -> Iterator[tuple[str, bool]]:
     lines, bodies = day(80)
     trials.printed(program, own / "filled", lines)
     rng, stopped, bodies = random.Random(3), 0, bodies[:A_CONNECTION]
@@ -146,7 +150,7 @@ def kills(program, own, number):
     yield "%d kills, %d of them before the last manifest" % (number, stopped), stopped > number // 2
 
 
-def cases(program, number=1000, times=20):
+def cases(program: Path, number: int = 1000, times: int = 20) -> Iterator[tuple[str, bool]]:
     with trials.folder() as own:
         yield from alike(program, own, number)
         yield from kills(program, own, times)

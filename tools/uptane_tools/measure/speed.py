@@ -53,6 +53,7 @@ import subprocess
 import sys
 import threading
 import time
+from collections.abc import Iterator, Sequence
 from concurrent.futures import ThreadPoolExecutor
 from contextlib import closing
 from pathlib import Path
@@ -63,7 +64,7 @@ from uptane_tools.measure import fleet
 from uptane_tools.operate import page_sums
 from uptane_tools.trial import http_cases, proxy_cases, trials
 
-FLEETS = {
+FLEETS: dict[str, dict[str, Any]] = {
     "40 of 4 ECUs": {"vehicles": 40, "ecus": 4}, "100 of 4 ECUs": {"vehicles": 100, "ecus": 4},
     "1,000 of 1 ECU": {"vehicles": 1000, "ecus": 1, "rounds": 2}, "1,000 of 1 ECU, three rounds": {
         "vehicles": 1000, "ecus": 1,
@@ -75,17 +76,18 @@ TAKES_MEMORY = [re.compile(name) for name in ("malloc", "calloc", "realloc")]
 MOST = 100_000
 
 
-def callgrind(told, *more):
+def callgrind(told: Any, *more: Any) -> list[Any]:
     """The words before a program's that have callgrind count it and write the file `told`."""
     return ["valgrind", "--tool=callgrind", "--callgrind-out-file=%s" % told, *more]
 
 
-def collected(err):
+def collected(err: bytes) -> int:
     """The instructions that callgrind's message tells."""
     return int(re.search(rb"Collected : (\d+)", err)[1])
 
 
-def counted(program, script, own, told, path=":memory:"):
+def counted(program: str | Path, script: list[str], own: Path, told: Any,
+            path: Any = ":memory:") -> Any:
     """The instructions that a script takes over a database; `told` is the file that callgrind
     writes.
     """
@@ -97,8 +99,9 @@ def counted(program, script, own, told, path=":memory:"):
     return collected(ran.stderr)
 
 
-def calls(told, function):
+def calls(told: Any, function: Any) -> int:
     """How often a function of such a name was called, by callgrind's file."""
+    names: Any
     names, number, called = {}, 0, None
     with open(told, encoding="utf-8", errors="replace") as lines:
         for line in lines:
@@ -111,12 +114,12 @@ def calls(told, function):
     return number
 
 
-def hashed(program, script, own):
+def hashed(program: str | Path, script: list[str], own: Path) -> tuple[int, int]:
     """The instructions that a script takes over memory, and the compressions among them."""
     return counted(program, script, own, own / "told"), calls(own / "told", COMPRESS)
 
 
-def fleets(program, own):
+def fleets(program: str | Path, own: Path) -> None:
     for at, (name, words) in enumerate(FLEETS.items()):
         script = list(fleet.script(**words))
         taken, blocks = hashed(program, script, own)
@@ -125,15 +128,15 @@ def fleets(program, own):
         print("| %s | %d | %d | %d | %d |" % (name, len(script), *each), flush=True)
 
 
-def malloc(program, own):
+def malloc(program: str | Path, own: Path) -> None:
     for name, words in FLEETS.items():
         script = list(fleet.script(**words))
         counted(program, script, own, own / "told")
         taken = [calls(own / "told", kind) // len(script) for kind in TAKES_MEMORY]
-        print("| %s | %d | %d | %d |" % (name, *taken), flush=True)
+        print("| %s | %s |" % (name, " | ".join(map(str, taken))), flush=True)
 
 
-def functions(program, own):
+def functions(program: str | Path, own: Path) -> None:
     told = own / "told"
     script = list(fleet.script(**next(iter(FLEETS.values()))))
     print("%d instructions" % counted(program, script, own, told))
@@ -144,14 +147,14 @@ def functions(program, own):
         print("| `%s` | %s |" % (name, share.strip()))
 
 
-def kinds_of_lines():
+def kinds_of_lines() -> Iterator[tuple[str, list[str], list[str]]]:
     """Lines of each kind, ten but for the founding, after lines that are carried out first."""
     desk = fleet.Fleet(vehicles=10, ecus=4, images=20, campaigns=5, seed=1)
     setup, few = list(desk.setup()), range(10)
     manifests = [fleet.line("deliver", body=fleet.body(told)) for told in desk.manifests(1)]
     ecus = [{"hardware": kind, "key": key} for _, kind, key in desk.vehicles["v000000"]]
 
-    def named(name):
+    def named(name: str) -> list[dict[str, str]]:
         return [ecu | {"ecu": "%s-e%d" % (name, at)} for at, ecu in enumerate(ecus)]
 
     items = [{"hardware": desk.images[0]["hardware"][0], "file": desk.images[0]["file"]}]
@@ -185,12 +188,12 @@ def kinds_of_lines():
         fleet.line("show", vehicle="v%06d" % at) for at in few]
 
 
-def numbered(desk, number, second):
+def numbered(desk: Any, number: int, second: Any) -> Iterator[str]:
     """A manifest of each vehicle, in which all ECUs report the factory's image, with a second
     hash or without.
     """
     for name, ecus in desk.vehicles.items():
-        report = {"counter": number, "time": fleet.START, **fleet.FACTORY, **second}
+        report: dict[str, Any] = {"counter": number, "time": fleet.START, **fleet.FACTORY, **second}
         reports = [report | {"ecu": ecu, "key": key} for ecu, _, key in ecus]
         told = {
             "vehicle": name, "primary": ecus[0][0], "key": ecus[0][2], "counter": number,
@@ -198,7 +201,7 @@ def numbered(desk, number, second):
         yield fleet.line("deliver", body=fleet.body(told))
 
 
-def commands(program, own):
+def commands(program: str | Path, own: Path) -> None:
     for name, before, lines in kinds_of_lines():
         answers = trials.printed(program, ":memory:", before + lines)
         assert answers is not None and not any(
@@ -208,12 +211,12 @@ def commands(program, own):
         print("| %s | %d | %d |" % (name, taken, blocks), flush=True)
 
 
-def seconds(program, path, script):
+def seconds(program: str | Path, path: str | Path, script: list[str]) -> Any:
     """The processor seconds that a script takes. What a disk takes to synchronise isn't in them."""
     return used([program, "run", str(path)], script)[0]
 
 
-def lines(program, own):
+def lines(program: str | Path, own: Path) -> None:
     for name, words in FLEETS.items():
         script = list(fleet.script(**words))
         memory = seconds(program, ":memory:", script)
@@ -222,7 +225,7 @@ def lines(program, own):
               (name, len(script) / file, len(script) / memory, memory / file))
 
 
-def manifests(vehicles, number, first=1, ecus=1):
+def manifests(vehicles: int, number: int, first: int = 1, ecus: int = 1) -> Iterator[str]:
     """So many manifests, one vehicle after another, each of so many ECUs with the factory's image.
     """
     names = ["v%06d" % at for at in range(vehicles)]
@@ -236,7 +239,8 @@ def manifests(vehicles, number, first=1, ecus=1):
         yield fleet.line("deliver", body=fleet.body(told))
 
 
-def prepared(vehicles, images, campaigns, ecus=1, ended=0, reach=("other", ), is_great=False):
+def prepared(vehicles: int, images: Any, campaigns: int, ecus: int = 1, ended: int = 0,
+             reach: Any = ("other", ), is_great: bool = False) -> Iterator[str]:
     """Founding, vehicles of so many ECUs, images of other hardware, campaigns for a vehicle that
     sends nothing, some of them ended.
     """
@@ -258,7 +262,7 @@ def prepared(vehicles, images, campaigns, ecus=1, ended=0, reach=("other", ), is
         yield fleet.line("close_campaign", campaign="d%d" % at)
 
 
-def greatest(at):
+def greatest(at: int) -> dict[str, Any]:
     """Members of an image that are as long and as many as they may be; the first one keeps its
     name.
     """
@@ -270,10 +274,10 @@ def greatest(at):
     return lists | ({"file": "%04d%s" % (at, 124 * "f")} if at else {})
 
 
-def asked(it, script):
+def asked(it: Any, script: Sequence[str]) -> list[bytes]:
     """The answers to the lines, of a program that is answering a script."""
 
-    def write():
+    def write() -> None:
         it.stdin.write("".join(line + "\n" for line in script).encode())
         it.stdin.flush()
 
@@ -284,13 +288,13 @@ def asked(it, script):
     return answers
 
 
-def processor(pid):
+def processor(pid: Any) -> float:
     """The processor microseconds that a program has taken so far."""
     with open("/proc/%d/schedstat" % pid, encoding="ascii") as told:
         return int(told.read().split()[0]) / 1000
 
 
-def cost(program, before, script):
+def cost(program: str | Path, before: Any, script: list[str]) -> Any:
     """The processor microseconds that a line of the script takes over memory, behind the lines
     before it.
     """
@@ -306,9 +310,9 @@ def cost(program, before, script):
 
 
 # what is there, of which a manifest of the 100 vehicles needs nothing but what is for all
-FEW = {"vehicles": 100, "images": 10, "campaigns": 10}
+FEW: dict[str, Any] = {"vehicles": 100, "images": 10, "campaigns": 10}
 MANY = ["v%06d" % at for at in range(100, 1100)]
-THERE = {
+THERE: dict[str, dict[str, Any]] = {
     "10 images, 10 campaigns, 100 vehicles": FEW, "no campaigns": FEW | {"campaigns": 0},
     "200 campaigns": FEW | {"campaigns": 200}, "1,000 campaigns": FEW | {"campaigns": 1000},
     "200 campaigns for all": FEW | {"campaigns": 200, "reach": "all"},
@@ -319,7 +323,7 @@ THERE = {
         }, "1,000 images": FEW | {"images": 1000}, "10,000 vehicles": FEW | {"vehicles": 10_000}}
 
 
-def growth(program, _):
+def growth(program: str | Path, _: Any) -> None:
     few, number = list(prepared(100, 10, 10)), 2000
     for kept in (1000, 10_000, 97_000):
         told = list(manifests(100, kept + number))
@@ -334,7 +338,8 @@ def growth(program, _):
             (name, cost(program, [*prepared(**words), *first[:100]], first[100:])), flush=True)
 
 
-def alone(program, path, script, before=(), answered=b"reply "):
+def alone(program: str | Path, path: Any, script: list[str], before: Any = (),
+          answered: bytes = b"reply ") -> int:
     """The instructions that a line takes behind a start over a file and the lines before, which
     callgrind leaves out.
     """
@@ -354,7 +359,8 @@ def alone(program, path, script, before=(), answered=b"reply "):
     return taken // len(script)
 
 
-def kept_replies(program, path, there, kept, ecus=1):
+def kept_replies(program: str | Path, path: str | Path, there: Any, kept: int,
+                 ecus: int = 1) -> int:
     """Adds manifests of 100 vehicles to a file that has so many of them, until it has so many."""
     while there < kept:
         more = min(kept - there, 90_000)
@@ -364,7 +370,8 @@ def kept_replies(program, path, there, kept, ecus=1):
     return there
 
 
-def growth_counts(program, own, most=MOST):
+def growth_counts(program: str | Path, own: Path, most: float = MOST) -> None:
+    there: Any
     path, there, lines = own / "kept", 0, 100
     trials.printed(program, path, prepared(100, 10, 10))
     for kept in [it for it in (1000, 10_000, 100_000) if it <= most]:
@@ -384,7 +391,7 @@ def growth_counts(program, own, most=MOST):
         print("| %s | %d |" % (name, alone(program, path, fresh, first)), flush=True)
 
 
-def forged(line):
+def forged(line: str) -> str:
     """The line with one digit of its Primary's signature changed, which is the first of its body.
     """
     asked = json.loads(line)
@@ -395,13 +402,13 @@ def forged(line):
 
 # what the files have over which manifests of four ECUs are counted
 ONE = {"vehicles": 100, "images": 1, "campaigns": 0, "ecus": 4}
-FILES = {
+FILES: dict[str, dict[str, Any]] = {
     "1 image": ONE, "10 campaigns": ONE | {"campaigns": 10}, "200 campaigns": ONE
     | {"campaigns": 200}, "200 campaigns for all": ONE | {"campaigns": 200, "reach": "all"},
     "10,000 closed campaigns": ONE | {"ended": 10_000}, "1,024 images": ONE | {"images": 1024}}
 
 
-def senders(program, own, lines=100):
+def senders(program: str | Path, own: Path, lines: int = 100) -> None:
     """Counters 1 and 3 are accepted first, so that 2 is stale and 4 is fresh. Before the lines
     that are counted each vehicle's first manifest comes again; before the last kind that of one
     vehicle alone.
@@ -418,12 +425,12 @@ def senders(program, own, lines=100):
         print("| %s | %s |" % (name, " | ".join(map(str, taken))), flush=True)
 
 
-def loading(program, own):
+def loading(program: str | Path, own: Path) -> None:
     """A repeat behind a start, less the same once more; and the peaks of memory of a start
     without it and with it.
     """
     first = list(manifests(100, 1, 1, 4))
-    wide = {
+    wide: dict[str, dict[str, Any]] = {
         "128 images of the greatest size": ONE | {"images": 128, "is_great": True},
         "200 campaigns for 1,000 vehicles each": ONE
         | {"vehicles": 1100, "campaigns": 200, "reach": MANY}}
@@ -437,7 +444,7 @@ def loading(program, own):
         print("| %s | %d | %d MB | %d MB |" % (name, whole - again, begun, loaded), flush=True)
 
 
-def used(words, script=()):
+def used(words: list[Path | str], script: Any = ()) -> tuple[Any, int]:
     """The processor seconds that a program takes for a script, and its peak memory in MB behind
     it. That is the kernel's own figure of the program: what `wait4` tells of memory counts the
     process that started it too.
@@ -453,8 +460,9 @@ def used(words, script=()):
     return usage.ru_utime + usage.ru_stime, memory
 
 
-def start(program, own, most=MOST):
+def start(program: str | Path, own: Path, most: float = MOST) -> None:
     for ecus in (1, 4):
+        there: Any
         path, there = own / ("kept of %d" % ecus), 0
         trials.printed(program, path, prepared(100, 10, 10, ecus))
         for kept in [it for it in (1000, 10_000, 100_000) if it <= most]:
@@ -471,20 +479,22 @@ PRELOADED = {
     "MALLOC_CONF": "background_thread:true,dirty_decay_ms:1000,muzzy_decay_ms:0"}
 
 
-def allocators_here():
+def allocators_here() -> Any:
     """The variables of each allocator, by its name."""
     if not os.path.exists(JEMALLOC):
         print("there is no %s, so jemalloc isn't measured" % JEMALLOC)
     return {"malloc": {}} | ({"jemalloc": PRELOADED} if os.path.exists(JEMALLOC) else {})
 
 
-def started(program, path, variables, script=()):
+def started(
+    program: str | Path, path: str | Path, variables: dict[str, str] | None,
+    script: Sequence[str] = ()) -> tuple[float, int, int, Any]:
     """Over a file, the processor seconds of a start, its peak of memory and what is resident
     four seconds and 800 lines later, in MB; and the processor microseconds of a line of the
     script after that.
     """
 
-    def status(it, name):
+    def status(it: Any, name: str) -> int:
         return int(
             re.search(name + r":\s+(\d+)",
                       open("/proc/%d/status" % it.pid, encoding="ascii").read())[1]) >> 10
@@ -506,7 +516,7 @@ def started(program, path, variables, script=()):
     return took, peak, stays, line
 
 
-def multiplied(path, vehicles, kept):
+def multiplied(path: Path, vehicles: int, kept: int) -> None:
     """Makes a file with one kept reply for each vehicle one with so many, by SQLite: the same
     texts with other counters and versions.
     """
@@ -526,17 +536,18 @@ def multiplied(path, vehicles, kept):
         db.execute("COMMIT")
     if not shutil.which("cc"):
         with open(path, "r+b") as file:
-            return page_sums.written(file, page_sums.page_size(file.read(100)))
+            page_sums.written(file, page_sums.page_size(file.read(100)))
+        return
     # (Python takes minutes for a gigabyte)
     summing, size = path.with_name("sums"), page_sums.page_size(path.open("rb").read(100))
     subprocess.run(
         ["cc", "-O2", "-o",
          str(summing),
          str(Path(__file__).resolve().parent / "sums.c")], check=True)
-    return subprocess.run([str(summing), str(path), str(size)], check=True)
+    subprocess.run([str(summing), str(path), str(size)], check=True)
 
 
-def millions(program, own, most=4_000_000):
+def millions(program: str | Path, own: Path, most: int = 4_000_000) -> None:
     vehicles = 1000
     for ecus, kept in dict.fromkeys(
         (ecus, min(kept, most)) for ecus, kept in ((1, 1_000_000), (4, 1_000_000), (1, 4_000_000))):
@@ -552,7 +563,7 @@ def millions(program, own, most=4_000_000):
         path.unlink()
 
 
-def allocators(program, own):
+def allocators(program: str | Path, own: Path) -> None:
     path, kept = own / "kept", 40_000
     trials.printed(program, path, [*prepared(100, 10, 10, 4), *manifests(100, 100, 1, 4)])
     multiplied(path, 100, kept)
@@ -568,7 +579,7 @@ def allocators(program, own):
         print("| %s | %d MB | %.2f | %d MB | %d MB | %d | %d |" % words, flush=True)
 
 
-def with_and_without(path, own):
+def with_and_without(path: str | Path, own: Path) -> tuple[Path, Path]:
     """The same rows, in files that SQLite packs alike: one with sums of pages and one without."""
     with_sums, without = own / "with", own / "without"
     with closing(sqlite3.connect(path)) as db:
@@ -580,7 +591,7 @@ def with_and_without(path, own):
     return with_sums, without
 
 
-def sums(program, own, most=10_000):
+def sums(program: str | Path, own: Path, most: int = 10_000) -> None:
     path, lines = own / "kept", 100
     trials.printed(program, path, prepared(100, 10, 10))
     kept = kept_replies(program, path, 0, most)
@@ -595,11 +606,11 @@ def sums(program, own, most=10_000):
 # ---- HTTP
 
 
-def posts(bodies):
+def posts(bodies: list[Any]) -> list[Any]:
     return [http_cases.POST % len(body) + body for body in bodies]
 
 
-def sent(running, requests):
+def sent(running: http_cases.Served, requests: list[Any]) -> bool:
     """Whether so many requests, a hundred a connection, are all answered by a 200."""
     well = 0
     for at in range(0, len(requests), 100):
@@ -607,7 +618,7 @@ def sent(running, requests):
     return well == len(requests)
 
 
-def kinds(number):
+def kinds(number: int) -> dict[str, tuple[Any, Any]]:
     """The requests of each kind, with the lines that ask the same; the second kind is the first
     once more.
     """
@@ -620,7 +631,7 @@ def kinds(number):
         "fetches": (gets, number * [fetch])}
 
 
-def rates(program, own, number=2000):
+def rates(program: str | Path, own: Path, number: int = 2000) -> Iterator[tuple[Any, Any, float]]:
     """Requests and lines of each kind for a second of a processor, over files."""
     for name in ("served", "script"):
         trials.printed(program, own / name, prepared(100, 10, 10))
@@ -633,7 +644,7 @@ def rates(program, own, number=2000):
         yield kind, number / took, number / seconds(program, own / "script", lines)
 
 
-def through(proxy, body):
+def through(proxy: proxy_cases.Proxy, body: bytes) -> int:
     """The status of the answer to a manifest, by a connection of its own."""
     return proxy_cases.asked(proxy, "POST", "/director/manifest", body)[0][0]
 
@@ -641,15 +652,15 @@ def through(proxy, body):
 class Directly:
     """The service itself, in the place of a proxy."""
 
-    def __init__(self, port):
+    def __init__(self, port: int) -> None:
         self.port = port
 
-    def client(self):
+    def client(self) -> Any:
         return http_cases.http.client.HTTPConnection("127.0.0.1", self.port,
                                                      timeout=proxy_cases.PATIENCE)
 
 
-def rate(ask, bodies, clients):
+def rate(ask: Any, bodies: list[Any], clients: Any) -> float:
     """Manifests a second, by so many clients at once."""
     with ThreadPoolExecutor(clients) as pool:
         begun = time.perf_counter()
@@ -657,7 +668,7 @@ def rate(ask, bodies, clients):
         return len(bodies) / (time.perf_counter() - begun)
 
 
-def proxied(program, own, number=600, clients=8):
+def proxied(program: str | Path, own: Path, number: int = 600, clients: int = 8) -> None:
     """Fresh manifests of four ECUs, a connection each; and what a synchronised write takes on
     this disk.
     """
@@ -677,7 +688,7 @@ def proxied(program, own, number=600, clients=8):
         path = own / name
         trials.printed(program, path, prepared(100, 10, 10, 4))
         with http_cases.served(program, path, 100_000) as running, contextlib.ExitStack() as up:
-            ask = Directly(running.port)
+            ask: Any = Directly(running.port)
             if name != "directly":
                 ask = proxy_cases.Proxy(own, name, http_cases.free_port(), running.port, secret)
                 up.enter_context(ask.running())
@@ -688,7 +699,7 @@ def proxied(program, own, number=600, clients=8):
             running.kill()
 
 
-def instructions(program, path, requests):
+def instructions(program: Any, path: Any, requests: list[Any]) -> Any:
     """The instructions that the program takes to serve a connection with these requests."""
     program = [*callgrind(path.parent / "requests"), program]
     with http_cases.served(program, path, 1) as running:
@@ -697,7 +708,7 @@ def instructions(program, path, requests):
     return collected(err)
 
 
-def http(program, own):
+def http(program: str | Path, own: Path) -> None:
     counts = {}
     path = own / "counted"
     trials.printed(program, path, prepared(100, 10, 10))
@@ -708,7 +719,7 @@ def http(program, own):
         print("| %s | %d | %d | %d |" % (kind, requests, lines, counts[kind]))
 
 
-def head(program, own):
+def head(program: str | Path, own: Path) -> None:
     """A head at its limit, that asks for a file which isn't there."""
     path = own / "head"
     trials.printed(program, path, prepared(1, 1, 1))
@@ -727,7 +738,7 @@ def head(program, own):
         print("| %s | %d |" % (name, collected(err)), flush=True)
 
 
-def repeated(size, front, item, between, end):
+def repeated(size: int, front: Any, item: Any, between: Any, end: bool | str) -> Any:
     """A text of nearly that size: the front, an item for each number with something between, the
     end.
     """
@@ -735,7 +746,7 @@ def repeated(size, front, item, between, end):
     return front + between.join(item(at) for at in range(count)) + end
 
 
-def shapes(size):
+def shapes(size: int) -> Iterator[tuple[str, str]]:
     """Bodies of nearly that size that are read to their end: envelopes whose signed member is
     long, and longer ones.
     """
@@ -759,7 +770,7 @@ def shapes(size):
     yield "a number of many digits", size * "1"
 
 
-def bodies(program, own):
+def bodies(program: str | Path, own: Path) -> None:
     path = own / "bodies"
     trials.printed(program, path, prepared(1, 1, 1))
     none = instructions(program, trials.copied(path, own / "none"), [])

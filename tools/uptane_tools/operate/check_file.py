@@ -4,19 +4,21 @@ column that an operator added.
     tools/run check_file FILE [FILE ..]
 
 The program knows its file by `meta` alone, so it takes a file whose other tables were changed by
-hand, and what is proved of lines and requests isn't proved over it (`docs/use/TABLES.md`). For
-each thing that is too much, missing or different a line is printed:
+hand, and what is proved of lines and requests isn't proved over it (`docs/use/TABLES.md`). Under
+Ed25519 it tells too which ECUs have a key that is none, which an older program took. For each
+thing that is too much, missing or different a line is printed:
 
     table retired: it is missing
     table ecu: the column note is too much
     index by_vehicle on ecu: it is too much
+    ecu P1 of V1: its key is no Ed25519 public key: ..
 
-Compared are the tables of the schema that `meta` names (1, 2 or 3; where it names none, of the
-one that is nearest) and what SQLite keeps as the file's own: tables, columns with their kinds
-and rules, keys, references, indexes, triggers and views. Rows are not looked at, but for that of
-`meta`. Give it a file that no program writes to, or a copy. It is only read: where a log lies
-beside it, it is read under another name, in a temporary folder. Of several files each line
-begins with its file's name.
+Compared are the tables of the schema that `meta` names (1, 2 or 3; where it names none, of the one
+that is nearest) and what SQLite keeps as the file's own: tables, columns with their kinds and
+rules, keys, references, indexes, triggers and views. Rows are not looked at, but for that of
+`meta`, and for ECUs' keys, of which a second has some hundreds. Give it a file that no program
+writes to, or a copy. It is only read: where a log lies beside it, it is read under another name, in
+a temporary folder. Of several files each line begins with its file's name.
 
 The status is 0 where the file has just what it has to, 1 where it hasn't or is no such database,
 and 2 where it can't be read.
@@ -32,7 +34,7 @@ from pathlib import Path
 from typing import Any, Iterable, Iterator
 
 from uptane_tools import arguments
-from uptane_tools.operate import fleet_tables
+from uptane_tools.operate import fleet_tables, points
 from uptane_tools.operate.statements import LACKS, made
 
 LOGS = ("-wal", "-journal")
@@ -158,6 +160,22 @@ def compared(db: sqlite3.Connection, here: Things, number: int) -> list[str]:
     return found
 
 
+def wrong_keys(db: sqlite3.Connection) -> list[str]:
+    """A line for each ECU of a file of Ed25519 whose key is no public key."""
+    try:
+        root = db.execute("SELECT body FROM repo_file WHERE repository = 'director' AND "
+                          "name = 'root.json'").fetchone()
+        if not root or '"method":"ed25519"' not in str(root[0]):
+            return []
+        rows = db.execute("SELECT ecu, vehicle, public_key FROM ecu ORDER BY vehicle, place")
+        return [
+            "ecu %s of %s: its key is %s; replace the ECU" % (ecu, vehicle, points.NO_PUBLIC_KEY)
+            for ecu, vehicle, key in rows if not (isinstance(key, bytes) and points.is_public(key))]
+    except sqlite3.OperationalError:
+        # (the tables are told of)
+        return []
+
+
 def ordered(things: Iterable[tuple[str, str]]) -> list[tuple[str, str]]:
     return sorted(things, key=lambda it: (KINDS.index(it[0]), it[1]))
 
@@ -172,9 +190,9 @@ def amiss(path: Path) -> list[str]:
     with opened(path) as db:
         here = listed(db)
         number, found = named(db, here)
-        return found + min(
-            (compared(db, here, it)
-             for it in ([number] if number else sorted(LACKS, reverse=True))), key=len)
+        return found + min((compared(db, here, it)
+                            for it in ([number] if number else sorted(LACKS, reverse=True))),
+                           key=len) + wrong_keys(db)
 
 
 def told(path: str, front: str) -> int:

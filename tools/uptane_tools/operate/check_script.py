@@ -14,12 +14,12 @@ line is printed:
                                                     line undoes it
 
 Looked for are: what is no JSON, words and members that the program doesn't know (it ignores a
-member that it doesn't know, so a misspelt `needs` is an image without needs for good), members
-that are missing, of a wrong kind or outside their limits, names past their limits, members that
-stand twice, moments more than a day (or DAYS) after now, in lines that make files also moments so
-far before now and moments that go back, a key that stands twice, and lines and scripts that are
-too long. Final are a version of the Image repository, a release of an image and a counter near
-their end, behind which no further one comes, and a filename that leaves the folder in which a
+member that it doesn't know, so a misspelt `needs` is an image without needs for good), members that
+are missing, of a wrong kind or outside their limits, names past their limits, members that stand
+twice, moments more than a day (or DAYS) after now, in lines that make files also moments so far
+before now and moments that go back, a key that stands twice or is nobody's, and lines and scripts
+that are too long. Final are a version of the Image repository, a release of an image and a counter
+near their end, behind which no further one comes, and a filename that leaves the folder in which a
 Primary puts images; `--final` calls them `look`. Whether a vehicle or an image is there, only the
 program can tell.
 
@@ -36,6 +36,7 @@ from pathlib import Path
 from typing import Any, Iterable, Iterator
 
 from uptane_tools import TOP, arguments
+from uptane_tools.operate import points
 from uptane_tools.operate.formats import (COUNT, FILE, HASH, IDENT, KEY, LAST_AT, LAST_MOMENT, LIST,
                                           MOST, NOTE, OBJECT, REPOSITORIES, ROLES, SECOND_HASH,
                                           Named, Test, is_count, value_of)
@@ -208,6 +209,9 @@ class Line:
         keys = [it.get("key") for it in asked.get("ecus", [])] if ecus else []
         if not distinct([key.lower() for key in keys if isinstance(key, str)]):
             self.look("key", "two ECUs have one key")
+        for key in [*keys, asked.get("key") if asked["do"] == "replace_ecu" else None]:
+            if is_key(key) and points.is_nobodys(key):
+                self.look("key", points.NOBODYS)
         if asked["do"] == "replace_ecu" and asked.get(
                 "old") is not None and asked["old"] == asked.get("ecu"):
             self.fault("ecu", "another identifier than the old ECU's")

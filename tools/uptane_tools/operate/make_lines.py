@@ -29,7 +29,7 @@ TABLE is a CSV whose first line is `vehicle,ecu,hardware,primary,key`, with a ro
 the column is called `keyfile` and names a file that has them, beside the table. The rows of a
 vehicle stand together, in inventory order. Under Ed25519 that is the ECU's public key, and the
 file may be one that `openssl pkey -pubout` writes; a private key is refused. Under HMAC it is
-the secret.
+the secret. What is nobody's key is refused: a blank, and a point of small order.
 
 Keys that stand in an example of this project are refused, since they are published. `--old COPY`
 refuses those that a copy of another file has: where a fleet goes on under another scheme of
@@ -60,7 +60,7 @@ from pathlib import Path
 from typing import Iterable, Iterator
 
 from uptane_tools import TOP, arguments
-from uptane_tools.operate import fleet_tables
+from uptane_tools.operate import fleet_tables, points
 from uptane_tools.operate.formats import (FILE, IDENT, MOST, REPOSITORIES, ROLES, Named, canonical)
 
 # seconds that the service has for an answer
@@ -88,6 +88,7 @@ BEFORE = {"PRIVATE": "302e020100300506032b657004220420", "PUBLIC": "302a30050603
 def hex_key(text: str, where: object) -> str:
     need(re.fullmatch(r"[0-9A-Fa-f]{64}", text.strip()), "%s: a key is 64 hexadecimal digits",
          where)
+    need(not points.is_nobodys(text.strip()), "%s: that is %s", where, points.NOBODYS)
     return text.strip().lower()
 
 
@@ -105,6 +106,9 @@ def pem_key(text: str, where: object, wanted: str) -> str:
     need(
         told.startswith(BEFORE[wanted]) and len(told) == len(BEFORE[wanted]) + 64,
         "%s: that is no Ed25519 key", where)
+    if wanted == "PUBLIC":
+        need(points.is_public(bytes.fromhex(told[-64:])), "%s: that is %s", where,
+             points.NO_PUBLIC_KEY)
     return told[-64:]
 
 

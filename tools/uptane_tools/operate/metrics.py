@@ -23,10 +23,15 @@ import sys
 import time
 from collections import Counter
 from pathlib import Path
+from typing import Any, Iterator
 
 from uptane_tools import arguments
 from uptane_tools.operate import fleet_tables
 from uptane_tools.operate.fleet_tables import DAY, IMAGES, ROOTS, VERSIONS, WEEK
+from uptane_tools.operate.formats import Named
+
+# the name, the labels and the value of each
+Samples = Iterator[tuple[str, dict[str, Any], int]]
 
 # a line of the service's log
 REFUSED = re.compile(r"uptane_desk: (?:vehicle \S+: )?refused (?:0 (.+)|\d+ (\w+))")
@@ -77,7 +82,7 @@ HELP = {
 }
 
 
-def long_open(db, vehicles, number):
+def long_open(db: sqlite3.Connection, vehicles: list[Named], number: int) -> int:
     """The ECUs whose assignment stands in the last so many plans of their vehicle."""
     sql = "SELECT plan_text FROM kept WHERE vehicle = ? AND version BETWEEN ? AND ?"
     found = 0
@@ -91,7 +96,7 @@ def long_open(db, vehicles, number):
     return found
 
 
-def of_files(db, meta):
+def of_files(db: sqlite3.Connection, meta: sqlite3.Row) -> Samples:
     for it in fleet_tables.files_of(db):
         yield "file_expires_timestamp_seconds", {
             "repository": it["repository"], "file": it["name"]
@@ -102,7 +107,7 @@ def of_files(db, meta):
         yield "version_limit", {"of": name}, most
 
 
-def of_vehicles(db, vehicles, now, number):
+def of_vehicles(db: sqlite3.Connection, vehicles: list[Named], now: int, number: int) -> Samples:
     yield "vehicles", {}, len(vehicles)
     yield "vehicles_never_seen", {}, sum(it["seen"] is None for it in vehicles)
     for name, span in (("day", DAY), ("week", WEEK)):
@@ -117,7 +122,7 @@ def of_vehicles(db, vehicles, now, number):
     yield "assignments_open_long", {"manifests": number}, long_open(db, vehicles, number)
 
 
-def of_growth(db, path, vehicles, now):
+def of_growth(db: sqlite3.Connection, path: Path, vehicles: list[Named], now: int) -> Samples:
     kept, day, size = sum(it["version"] for it in vehicles), fleet_tables.kept_since(
         db, now - DAY), fleet_tables.size_of(path)
     yield "kept_replies", {}, kept
@@ -126,7 +131,7 @@ def of_growth(db, path, vehicles, now):
     yield "growth_bytes_a_day", {}, day * size // kept if kept else 0
 
 
-def samples(path, now, number):
+def samples(path: Path, now: int, number: int) -> Samples:
     """The name, the labels and the value of each sample."""
     with fleet_tables.opened(path) as db:
         meta = fleet_tables.meta_of(db)
@@ -145,7 +150,7 @@ def samples(path, now, number):
         yield from of_growth(db, path, vehicles, now)
 
 
-def of_log(path):
+def of_log(path: Path) -> Samples:
     """How many lines tell each refusal."""
     with open(path, encoding="utf-8", errors="replace") as lines:
         found = Counter(told[1] or told[2] for told in map(REFUSED.match, lines) if told)
@@ -153,9 +158,9 @@ def of_log(path):
         yield "refusals_logged", {"refusal": name}, number
 
 
-def text_of(desks, now, number, logs):
+def text_of(desks: dict[str, Path], now: int, number: int, logs: dict[str, Path]) -> str:
     """All metrics, each with its help once. Names of desks, files and campaigns need no escape."""
-    made = {name: [] for name in HELP}
+    made: dict[str, list[str]] = {name: [] for name in HELP}
     for desk, path in desks.items():
         for name, labels, value in itertools.chain(samples(path, now, number),
                                                    of_log(logs[desk]) if desk in logs else ()):
@@ -166,7 +171,7 @@ def text_of(desks, now, number, logs):
                    if lines)
 
 
-def written(path, text):
+def written(path: Path, text: str) -> None:
     """Replaces the file whole; others may read it."""
     new = path.with_name(path.name + ".new")
     new.write_text(text, encoding="ascii")

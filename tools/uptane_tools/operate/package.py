@@ -131,10 +131,10 @@ def parts(program: Path) -> Parts:
     for path in sorted((SERVICE / "several").glob("*.service")):
         yield UNITS / path.name, path, 0o644
     tools = TOP / "tools" / "uptane_tools"
-    for path in sorted([RUN, *tools.glob("*.py"), *(tools / "operate").iterdir()]):
+    for path in sorted([Path(RUN), *tools.glob("*.py"), *(tools / "operate").iterdir()]):
         if path.suffix in ("", ".py", ".js", ".css") and path.name not in ("package.py",
                                                                            "__pycache__"):
-            yield LIBRARY / path.relative_to(TOP), path, 0o755 if path == RUN else 0o644
+            yield LIBRARY / path.relative_to(TOP), path, 0o755 if str(path) == RUN else 0o644
     examples = [it for it in (TOP / "examples").rglob("*") if it.is_file() and it.suffix != ".pyc"]
     for path in sorted([
             *(TOP / "docs").rglob("*.md"), *examples,

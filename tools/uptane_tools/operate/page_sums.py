@@ -40,11 +40,6 @@ def page_size(data: bytes) -> int:
     return 65536 if size == 1 else size
 
 
-def pages(data: bytes) -> list[bytes]:
-    size = page_size(data)
-    return [data[at:at + size] for at in range(0, len(data), size)]
-
-
 def written(file: BinaryIO, size: int) -> None:
     """Writes each sum that is wrong, a page after the other."""
     at = 0
@@ -60,12 +55,6 @@ def written(file: BinaryIO, size: int) -> None:
 
 def has_sums(data: bytes) -> bool:
     return data[:16] == b"SQLite format 3\0" and data[20] == RESERVED
-
-
-def wrong_sums(data: bytes) -> list[int]:
-    """The numbers, from 1, of the pages whose sum is wrong."""
-    return [
-        number for number, page in enumerate(pages(data), 1) if page[-RESERVED:] != sum_of(page)]
 
 
 def faults(path: str | Path) -> list[str]:

@@ -13,7 +13,7 @@ from uptane_tools import TOP
 PAGE = TOP / "docs" / "use" / "TABLES.md"
 SCHEMA = 3
 # which of the page's tables a database of an older schema lacks
-LACKS = {1: ["retired", "image_sha512"], 2: ["image_sha512"], SCHEMA: []}
+LACKS: dict[int, list[str]] = {1: ["retired", "image_sha512"], 2: ["image_sha512"], SCHEMA: []}
 FIRST = """
 CREATE TABLE meta (id INTEGER PRIMARY KEY, app TEXT NOT NULL, schema INTEGER NOT NULL, root INTEGER NOT NULL,
   image_version INTEGER NOT NULL, stamp INTEGER NOT NULL) STRICT;

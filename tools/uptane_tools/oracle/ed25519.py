@@ -1,6 +1,7 @@
 """Ed25519 by RFC 8032 in plain Python, as the small Primary has it (`examples/primary/ed25519.py`,
 which stands alone), and the test vectors of the RFC's section 7.1.
 """
+import functools
 import runpy
 from pathlib import Path
 from typing import Any
@@ -12,6 +13,18 @@ P, ORDER, BASE = _NAMES["P"], _NAMES["ORDER"], _NAMES["BASE"]
 digest, number, encode, decode = (_NAMES[it] for it in ("digest", "number", "encode", "decode"))
 add, multiple = _NAMES["add"], _NAMES["multiple"]
 public_of, sign, verify = _NAMES["public_of"], _NAMES["sign"], _NAMES["verify"]
+is_public = functools.lru_cache(None)(_NAMES["is_public"])
+
+
+def small_points() -> list[bytes]:
+    """The eight points of small order, encoded, the neutral one first."""
+    for y in range(2, 99):
+        point = decode(y.to_bytes(32, "little"))
+        if point is not None:
+            points = [encode(multiple(count, multiple(ORDER, point))) for count in range(8)]
+            if len(set(points)) == 8:
+                return points
+    raise AssertionError
 
 
 def vectors() -> list[list[bytes]]:

@@ -123,16 +123,14 @@ def source(chain: Chain, title: str, uses: str, text: str, name: str) -> str:
     """The Rattle file of a table."""
     lines = [
         f'//! {title} This file is made by `tools/run ed25519_tables`, with the proof of its '
-        f'numbers.', uses, text, '{'
-    ]
+        f'numbers.', uses, text, '{']
     lines.append(f'    static {name}: [Affine; {len(chain.shown)}] = [')
     for _, point in chain.shown:
         lines.append('        Affine {')
         for field, number in zip(('plus', 'minus', 't'), entry(point)):
             lines.append(f'            {field}: Words {{')
             lines += [
-                f'                {place}: {word},' for place, word in zip('abcd', words(number))
-            ]
+                f'                {place}: {word},' for place, word in zip('abcd', words(number))]
             lines.append('            },')
         lines.append('        },')
     return '\n'.join([*lines, '    ];', f'    &{name}', '}']) + '\n'
@@ -180,20 +178,19 @@ def files() -> dict[Path, str]:
     """The generated files and what stands in them."""
     rows, multiples, far = comb(), odd(64), odd(64, 129)
     return {
-        CRATE / 'src/comb_table.rt':
-        source(rows, "The base point's comb.", COMB_USES, COMB_TEXT, 'COMB'),
-        CRATE / 'proofs/CombSteps.antt':
-        proof(rows, "The points of the base point's comb, by sums."),
-        CRATE / 'src/odd_table.rt':
-        source(multiples, 'Odd multiples of the base point.', ODD_USES, ODD_TEXT, 'ODD'),
-        CRATE / 'proofs/OddSteps.antt':
-        proof(multiples, 'Odd multiples of the base point, by sums.'),
-        CRATE / 'src/far_table.rt':
-        source(far, 'Odd multiples of 2^129 times the base point.',
-               ODD_USES.replace('{◌≡◌}', '{◌≡◌, ◌^◌}'), FAR_TEXT, 'FAR'),
-        CRATE / 'proofs/FarSteps.antt':
-        proof(far, 'Odd multiples of 2^129 times the base point, by sums.'),
-    }
+        CRATE / 'src/comb_table.rt': source(rows, "The base point's comb.", COMB_USES, COMB_TEXT,
+                                            'COMB'), CRATE / 'proofs/CombSteps.antt': proof(
+                                                rows,
+                                                "The points of the base point's comb, by sums."),
+        CRATE / 'src/odd_table.rt': source(
+            multiples, 'Odd multiples of the base point.', ODD_USES, ODD_TEXT,
+            'ODD'), CRATE / 'proofs/OddSteps.antt': proof(
+                multiples,
+                'Odd multiples of the base point, by sums.'), CRATE / 'src/far_table.rt': source(
+                    far, 'Odd multiples of 2^129 times the base point.',
+                    ODD_USES.replace('{◌≡◌}', '{◌≡◌, ◌^◌}'), FAR_TEXT,
+                    'FAR'), CRATE / 'proofs/FarSteps.antt': proof(
+                        far, 'Odd multiples of 2^129 times the base point, by sums.')}
 
 
 def main(words: arguments.Words = None) -> int:

@@ -11,12 +11,13 @@ import json
 import os
 import subprocess
 import sys
-from typing import Any, Iterator
+from collections.abc import Iterable, Iterator
+from typing import Any
 
 from uptane_tools import RUN, TOP, arguments
 from uptane_tools.oracle import vector_forms, vector_rounds, vector_verdicts, verification
 from uptane_tools.oracle.reference import METHOD, SCHEME
-from uptane_tools.oracle.schemes import Ed25519, HmacSha256, key_identifier
+from uptane_tools.oracle.schemes import OF_PRODUCT, Ed25519, HmacSha256, key_identifier
 from uptane_tools.oracle.vector_answers import answers, files
 from uptane_tools.oracle.vector_chains import INSTALLS, VEHICLE, bases, chains, contents
 from uptane_tools.oracle.vector_fleet import FIRST, NOW, SECOND, SETUP, key, public
@@ -36,7 +37,7 @@ def listed(name: str, values: Iterator[Any] | list[str]) -> str:
     return ' "%s": [\n%s\n ]' % (name, ",\n".join("  " + json.dumps(value) for value in values))
 
 
-def text(about, *parts):
+def text(about: str, *parts: str) -> str:
     return '{\n "about": %s,\n%s\n}\n' % (json.dumps(about), ",\n".join(parts))
 
 
@@ -61,7 +62,7 @@ def shared() -> Iterator[tuple[str, str]]:
         listed("cases", answers()), listed("files", files()))
 
 
-def judged(told, cases):
+def judged(told: dict[str, Any], cases: Iterable[dict[str, Any]]) -> Iterator[dict[str, Any]]:
     """Each case with what the vehicle trusts behind it. The verdict that was written by hand has
     to be the one that is computed.
     """
@@ -129,11 +130,9 @@ def of_the_scheme() -> list[tuple[str, str]]:
     return [("%s/%s" % (METHOD, name), it) for name, it in zip(OF_A_SCHEME, contained, strict=True)]
 
 
-def names():
+def names() -> set[str]:
     """All files of the folder."""
-    return {
-        *SHARED,
-        *("%s/%s" % (it.method, name) for it in (HmacSha256, Ed25519) for name in OF_A_SCHEME)}
+    return {*SHARED, *("%s/%s" % (it.method, name) for it in OF_PRODUCT for name in OF_A_SCHEME)}
 
 
 def main(words: arguments.Words = None) -> int:
@@ -151,7 +150,7 @@ def main(words: arguments.Words = None) -> int:
             path.parent.mkdir(exist_ok=True)
             path.write_text(made, encoding="ascii")
     if SCHEME is HmacSha256:
-        again = [sys.executable, str(RUN), "make_vectors", *(["--check"] if check else [])]
+        again = [sys.executable, RUN, "make_vectors", *(["--check"] if check else [])]
         scheme = os.environ | {"SCHEME": Ed25519.method}
         differing += subprocess.run(again, env=scheme, check=False).returncode != 0
     return 1 if differing else 0

@@ -21,9 +21,10 @@ import json
 import os
 import sqlite3
 import sys
+from collections.abc import Callable, Iterator
 from contextlib import closing
 from datetime import datetime, timedelta
-from typing import Any, Callable
+from typing import Any
 
 from uptane_tools import arguments
 from uptane_tools.operate.formats import (
@@ -92,7 +93,7 @@ def member(value: Any, name: str, holds: Callable[..., Any]) -> Any:
     return value[name]
 
 
-def each(values, name, read):
+def each(values: list[Any], name: str, read: Callable[..., Any]) -> Iterator[Any]:
     """What `read` makes of each member of a list of objects."""
     for value in values:
         if not isinstance(value, dict):
@@ -101,12 +102,12 @@ def each(values, name, read):
 
 
 def names(value: dict[str, Any], name: str, holds: Callable[..., Any], least: int,
-          most: int) -> tuple[list[str], bool] | None:
+          most: int) -> tuple[list[str], bool]:
     found = member(value, name, lambda v: isinstance(v, list) and all(map(holds, v)))
     return found, not least <= len(found) <= most
 
 
-def hash_of(value: dict[str, Any]) -> bytes | None:
+def hash_of(value: dict[str, Any]) -> bytes:
     return bytes.fromhex(member(value, "sha256", HASH))
 
 
@@ -149,7 +150,7 @@ def is_signed(envelope: dict[str, Any], public: bytes) -> bool:
                for s in envelope["signatures"])
 
 
-def read_envelope(value: dict[str, Any]) -> dict[str, Any] | None:
+def read_envelope(value: dict[str, Any]) -> dict[str, Any]:
 
     def fits(v: list[dict[str, Any]] | str) -> bool:
         return isinstance(v, list) and 1 <= len(v) <= 8 and all(map(OBJECT, v))
@@ -177,7 +178,7 @@ def moment(seconds: int) -> str:
     return (datetime(1970, 1, 1) + timedelta(seconds=seconds)).strftime("%Y-%m-%dT%H:%M:%SZ")
 
 
-def read_report(value: dict[str, Any]) -> dict[str, Any] | None:
+def read_report(value: dict[str, Any]) -> dict[str, Any]:
     signed = read_envelope(value)
     member(signed, "type", lambda v: v == "report")
     told = {"ecu": member(signed, "ecu", IDENT), "counter": member(signed, "counter", COUNT)}
@@ -190,7 +191,7 @@ def read_report(value: dict[str, Any]) -> dict[str, Any] | None:
     return told | {"envelope": value, "text": canonical(signed)}
 
 
-def read_manifest(body: bytes) -> dict[str, Any] | None:
+def read_manifest(body: bytes) -> dict[str, Any]:
     if len(body) > 262_144:
         raise Refused(4)
     value = read_json(body)
@@ -211,26 +212,26 @@ def read_manifest(body: bytes) -> dict[str, Any] | None:
 # ---- lines
 
 
-def read_role(value: dict[str, Any]) -> tuple[list[bytes], int] | None:
+def read_role(value: dict[str, Any]) -> tuple[list[bytes], int]:
     keys = member(value, "keys", lambda v: isinstance(v, list) and all(map(KEY, v)))
     return [bytes.fromhex(k) for k in keys], member(value, "threshold",
                                                     lambda v: is_count(v, 0, 2**32 - 1))
 
 
-def read_keys(line):
+def read_keys(line: dict[str, Any]) -> dict[str, Any]:
 
-    def keys(told):
+    def keys(told: dict[str, Any]) -> dict[str, tuple[list[bytes], int]]:
         return {role: read_role(member(told, role, OBJECT)) for role in ROLES}
 
     return {repository: keys(member(line, repository, OBJECT)) for repository in REPOSITORIES}
 
 
-def read_ecu(value: dict[str, Any]) -> tuple[str, str, bytes] | None:
+def read_ecu(value: dict[str, Any]) -> tuple[str, str, bytes]:
     return member(value, "ecu", IDENT), member(value, "hardware", IDENT), bytes.fromhex(
         member(value, "key", KEY))
 
 
-def read_vehicle(line: dict[str, Any]) -> tuple[str, str, list[tuple[str, str, bytes]]] | None:
+def read_vehicle(line: dict[str, Any]) -> tuple[str, str, list[tuple[str, str, bytes]]]:
     told = member(line, "vehicle", IDENT), member(line, "primary", IDENT)
     ecus = list(each(member(line, "ecus", LIST), "ecus", read_ecu))
     if not 1 <= len(ecus) <= 32:
@@ -240,12 +241,12 @@ def read_vehicle(line: dict[str, Any]) -> tuple[str, str, list[tuple[str, str, b
     return *told, ecus
 
 
-def read_need(value: dict[str, Any]) -> dict[str, Any] | None:
+def read_need(value: dict[str, Any]) -> dict[str, Any]:
     return {
         "hardware": member(value, "hardware", IDENT), "release": member(value, "release", COUNT)}
 
 
-def read_image(line):
+def read_image(line: dict[str, Any]) -> dict[str, Any]:
     image = {"file": member(line, "file", FILE), "length": member(line, "length", COUNT)}
     image |= {"sha256": hash_of(line), "sha512": second_hash_of(line)}
     image["hardware"], few = names(line, "hardware", IDENT, 1, 16)
@@ -261,11 +262,11 @@ def read_image(line):
     return image
 
 
-def read_item(value: dict[str, str]) -> dict[str, str] | None:
+def read_item(value: dict[str, str]) -> dict[str, str]:
     return {"hardware": member(value, "hardware", IDENT), "file": member(value, "file", FILE)}
 
 
-def read_campaign(line):
+def read_campaign(line: dict[str, Any]) -> tuple[str, Any, list[dict[str, str]]]:
     name, reach, bad = member(line, "campaign", IDENT), line.get("vehicles"), False
     if reach != "all":
         reach, bad = names(line, "vehicles", IDENT, 1, 1000)
@@ -277,14 +278,14 @@ def read_campaign(line):
     return name, reach, items
 
 
-def fitting_key(value: dict[str, Any]) -> bytes | None:
+def fitting_key(value: dict[str, Any]) -> bytes:
     key = bytes.fromhex(member(value, "key", KEY))
     if len(key) != 32:
         raise Refused(7, "key")
     return key
 
 
-def bench_report(value):
+def bench_report(value: dict[str, Any]) -> str:
     told = {"ecu": member(value, "ecu", IDENT)}
     key = fitting_key(value)
     told["counter"] = member(value, "counter", COUNT)
@@ -295,7 +296,7 @@ def bench_report(value):
     return sealed([key], canonical(told | {"image": image, "type": "report"}))
 
 
-def bench_body(line):
+def bench_body(line: dict[str, Any]) -> bytes:
     vehicle, primary, key = member(line, "vehicle", IDENT), member(line, "primary",
                                                                    IDENT), fitting_key(line)
     counter = member(line, "counter", lambda v: is_count(v, 1))
@@ -308,9 +309,9 @@ def bench_body(line):
 # ---- plans
 
 
-def level(image, ecu):
+def level(image: dict[str, dict[str, Any]], ecu: dict[str, Any]) -> dict[str, Any] | None:
     """The registered image of what the ECU reported, if there is one for its hardware."""
-    it = image.get(ecu["file"])
+    it: Any = image.get(ecu["file"])
     same = it and (it["length"], it["sha256"]) == (ecu["length"], ecu["sha256"])
     both = it and it["sha512"] and ecu["sha512"]
     agree = same and (not both or it["sha512"] == ecu["sha512"])
@@ -381,13 +382,13 @@ class Desk:
                     self.db.execute(statement)
             self.db.execute(named, (SCHEMA, ))
 
-    def one(self, sql, *given):
+    def one(self, sql: str, *given: str | int) -> Any:
         return self.db.execute(sql, given).fetchone()
 
-    def all(self, sql, *given):
+    def all(self, sql: str, *given: int | str) -> list[sqlite3.Row]:
         return self.db.execute(sql, given).fetchall()
 
-    def founded(self) -> sqlite3.Row | None:
+    def founded(self) -> sqlite3.Row:
         meta = self.one("SELECT * FROM meta")
         if not meta["root"]:
             raise Refused(8)
@@ -416,21 +417,21 @@ class Desk:
     def role_files(self, repository: str, at: int, version: int, targets: list[dict[str, Any]],
                    more: dict[str, str]) -> dict[str, str]:
 
-        def made(role, members):
-            told = {
+        def made(role: str, members: dict[str, Any]) -> str:
+            told: dict[str, Any] = {
                 "expires": moment(at + 86400 * DAYS[repository][role]), "repository": repository}
             told |= {"type": role, "version": version}
             return sealed(self.keys(repository, role), canonical(told | members | more))
 
         snapshot = made("snapshot", {"meta": {"targets.json": {"version": version}}})
-        entry = {
+        entry: dict[str, Any] = {
             "hashes": {"sha256": hashlib.sha256(snapshot.encode()).hexdigest()}, "version": version}
         timestamp = made("timestamp", {"meta": {"snapshot.json": entry}})
         return {
             "targets": made("targets", {"targets": targets}), "snapshot": snapshot,
             "timestamp": timestamp}
 
-    def put_root(self, keys, at, root):
+    def put_root(self, keys: dict[str, Any], at: int, root: int) -> None:
         """The keys and Root files of a new root version."""
         self.db.execute("UPDATE meta SET root = ?", (root, ))
         for repository in REPOSITORIES:
@@ -443,7 +444,8 @@ class Desk:
             signers = self.keys(repository, "root", root)
             before = self.keys(repository, "root", root - 1) if root > 1 else []
             signers += [k for k in before if k not in signers]
-            payload = {"expires": moment(at + 86400 * 365), "repository": repository}
+            payload: dict[str, Any] = {
+                "expires": moment(at + 86400 * 365), "repository": repository}
             payload |= {"type": "root", "version": root}
             publics = {
                 role: list(map(SCHEME.public_of, keys[repository][role][0])) for role in ROLES}
@@ -467,7 +469,7 @@ class Desk:
 
     # -- commands
 
-    def new_keys(self, line):
+    def new_keys(self, line: dict[str, Any]) -> dict[str, Any]:
         keys = read_keys(line)
         self.in_range(line)
         for repository in REPOSITORIES:
@@ -484,7 +486,7 @@ class Desk:
         if line["at"] > LAST_AT:
             raise Refused(3)
 
-    def found(self, line: dict[str, Any]) -> str | None:
+    def found(self, line: dict[str, Any]) -> str:
         keys = self.new_keys(line)
         if self.one("SELECT root FROM meta")[0]:
             raise Refused(9)
@@ -492,7 +494,7 @@ class Desk:
         self.put_image_files(line["at"], 1)
         return "done"
 
-    def rotate(self, line):
+    def rotate(self, line: dict[str, Any]) -> str:
         keys = self.new_keys(line)
         meta = self.founded()
         if meta["root"] == 64:
@@ -503,7 +505,7 @@ class Desk:
         self.put_image_files(line["at"], meta["image_version"] + 1)
         return "done"
 
-    def add_image(self, line):
+    def add_image(self, line: dict[str, Any]) -> str:
         image = read_image(line)
         self.in_range(line)
         meta, images = self.founded(), self.images()
@@ -524,7 +526,7 @@ class Desk:
         self.put_image_files(line["at"], meta["image_version"] + 1)
         return "done"
 
-    def refresh(self, line):
+    def refresh(self, line: dict[str, Any]) -> str:
         version = member(line, "version", COUNT)
         self.in_range(line)
         if version <= self.founded()["image_version"]:
@@ -532,10 +534,10 @@ class Desk:
         self.put_image_files(line["at"], version)
         return "done"
 
-    def add_vehicle(self, line):
+    def add_vehicle(self, line: dict[str, Any]) -> str:
         name, primary, ecus = read_vehicle(line)
         self.in_range(line)
-        if any(len(key) != 32 for _, _, key in ecus):
+        if not all(SCHEME.fits(key) for _, _, key in ecus):
             raise Refused(7, "key")
         self.founded()
         there = self.one("SELECT primary_ecu FROM vehicle WHERE vehicle = ?", name)
@@ -563,11 +565,11 @@ class Desk:
             if self.one("SELECT 1 FROM %s WHERE ecu = ?" % table, ecu):
                 raise Refused(23, ecu)
 
-    def replace_ecu(self, line):
+    def replace_ecu(self, line: dict[str, Any]) -> str:
         name, old = member(line, "vehicle", IDENT), member(line, "old", IDENT)
         ecu, hardware, key = read_ecu(line)
         self.in_range(line)
-        if len(key) != 32:
+        if not SCHEME.fits(key):
             raise Refused(7, "key")
         self.founded()
         vehicle = self.one("SELECT primary_ecu FROM vehicle WHERE vehicle = ?", name)
@@ -585,7 +587,7 @@ class Desk:
         self.db.execute("INSERT INTO retired VALUES (?, ?)", (old, name))
         return "done"
 
-    def open_campaign(self, line):
+    def open_campaign(self, line: dict[str, Any]) -> str:
         name, reach, items = read_campaign(line)
         self.in_range(line)
         self.founded()
@@ -606,7 +608,7 @@ class Desk:
         self.db.execute("INSERT INTO campaign VALUES (?, ?, ?, ?)", row)
         return "done"
 
-    def close_campaign(self, line: dict[str, Any]) -> str | None:
+    def close_campaign(self, line: dict[str, Any]) -> str:
         name = member(line, "campaign", IDENT)
         self.in_range(line)
         self.founded()
@@ -616,7 +618,7 @@ class Desk:
         self.db.execute("UPDATE campaign SET running = 0 WHERE name = ?", (name, ))
         return "done" if there[0] else "already"
 
-    def fetch(self, line: dict[str, Any]) -> str | None:
+    def fetch(self, line: dict[str, Any]) -> str:
         repository, name = member(line, "repository", lambda v: v in REPOSITORIES), member(
             line, "file", FILE)
         self.in_range(line)
@@ -627,7 +629,7 @@ class Desk:
             raise Refused(29)
         return "file " + found[0]
 
-    def show(self, line: dict[str, Any]) -> str | None:
+    def show(self, line: dict[str, Any]) -> str:
         name = member(line, "vehicle", IDENT)
         vehicle = self.one("SELECT version, last_counter FROM vehicle WHERE vehicle = ?", name)
         if not vehicle:
@@ -642,24 +644,24 @@ class Desk:
                         (">" + assigned[ecu] if ecu in assigned else ""))
         return " ".join(told)
 
-    def deliver(self, line: dict[str, Any]) -> str | None:
+    def deliver(self, line: dict[str, Any]) -> str:
         body = member(line, "body", lambda v: isinstance(v, str)).encode()
         self.in_range(line)
         return self.delivered(body, line["at"])
 
-    def bench(self, line: dict[str, Any]) -> str | None:
+    def bench(self, line: dict[str, Any]) -> str:
         body = bench_body(line)
         self.in_range(line)
         return self.delivered(body, line["at"])
 
-    def reply_to(self, body, at):
+    def reply_to(self, body: bytes, at: int) -> str:
         """The reply to a manifest that is accepted, or was."""
         self.delivered(body, at)
         sent = read_manifest(body)
         return self.one("SELECT reply FROM kept WHERE vehicle = ? AND counter = ?", sent["vehicle"],
                         sent["counter"])[0]
 
-    def delivered(self, body, at):
+    def delivered(self, body: bytes, at: int) -> str:
         told = read_manifest(body)
         self.founded()
         vehicle = self.one("SELECT * FROM vehicle WHERE vehicle = ?", told["vehicle"])
@@ -728,8 +730,8 @@ class Desk:
         reply = form % words
         sql = "UPDATE vehicle SET version = ?, last_counter = ? WHERE vehicle = ?"
         self.db.execute(sql, (version, told["counter"], name))
-        row = (name, told["counter"], version, at, root, told["text"], canonical(made), reply)
-        self.db.execute("INSERT INTO kept VALUES (?, ?, ?, ?, ?, ?, ?, ?)", row)
+        kept = (name, told["counter"], version, at, root, told["text"], canonical(made), reply)
+        self.db.execute("INSERT INTO kept VALUES (?, ?, ?, ?, ?, ?, ?, ?)", kept)
         return self.printed({"vehicle": name, "version": version, "plan_text": canonical(made)})
 
     def printed(self, kept: dict[str, Any] | sqlite3.Row) -> str:
@@ -759,7 +761,7 @@ class Desk:
             return refused.text
 
 
-def opened(path):
+def opened(path: str) -> Desk:
     db = sqlite3.connect(path, timeout=0)
     db.execute("PRAGMA locking_mode = EXCLUSIVE")
     desk = Desk(db)
@@ -768,7 +770,7 @@ def opened(path):
     return desk
 
 
-def cause_of(fault):
+def cause_of(fault: sqlite3.Error) -> str:
     """Why a file can't be opened, in the product's words."""
     told = str(fault)
     if "locked" in told:
@@ -782,7 +784,7 @@ LABEL = ("reference.py: this is the reference in plain Python and not the produc
          "proved\n")
 
 
-def run(desk):
+def run(desk: Desk) -> int:
     """Answers the lines of standard input."""
     for line in sys.stdin.buffer:
         line = line.removesuffix(b"\n")

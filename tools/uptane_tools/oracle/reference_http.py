@@ -11,6 +11,7 @@ import re
 import socket
 import sys
 import time
+from collections.abc import Iterator
 from typing import Any, NamedTuple
 
 from uptane_tools.oracle import reference
@@ -57,11 +58,12 @@ class Next(NamedTuple):
 # ---- requests
 
 
-def head_of(came, ended):
+def head_of(came: bytes, ended: bool) -> tuple[list[bytes], bytes] | None:
     """The lines of the head at the front, and what follows it; none where more bytes may come
     and complete one.
     """
-    lines, at = [], 0
+    lines: list[bytes] = []
+    at = 0
     while (end := came.find(b"\n", at)) >= 0:
         line, at = came[at:end].removesuffix(b"\r"), end + 1
         if at > MOST_HEAD or (line and not (FIELD if lines else START).fullmatch(line)):
@@ -76,9 +78,9 @@ def head_of(came, ended):
     return None
 
 
-def values(lines, name):
+def values(lines: list[bytes], name: bytes) -> list[bytes]:
     """The values of the fields of a name, without the white space around them."""
-    fields = (FIELD.fullmatch(line).groups() for line in lines[1:])
+    fields = (it.groups() for it in map(FIELD.fullmatch, lines[1:]) if it)
     return [value.strip(b" \t") for found, value in fields if found.lower() == name]
 
 
@@ -108,7 +110,7 @@ def routed(method: str, target: str, stated: int | None, body: bytes) -> tuple[A
     return (found, "") if method == allow else ("method not allowed", allow)
 
 
-def first(came, before, ended):
+def first(came: bytes, before: int, ended: bool) -> tuple[Next, bytes] | None:
     """The first request of the bytes, of which so many stood before, and what is left; none
     where more bytes are needed.
     """
@@ -117,7 +119,7 @@ def first(came, before, ended):
         if found is None:
             return None
         lines, after = found
-        method, target, minor = START.fullmatch(lines[0]).groups()
+        method, target, minor = re.findall(START, lines[0])[0]
         method, target = method.decode(), target.decode()
     except (BadRequest, UnicodeDecodeError):
         return Next("bad request"), b""
@@ -142,7 +144,7 @@ class Stream:
     def __init__(self) -> None:
         self.rest, self.given, self.ended = b"", 0, False
 
-    def feed(self, piece, end=False):
+    def feed(self, piece: bytes, end: bool = False) -> Iterator[Next]:
         """The requests that are whole once these bytes came, with which the input ends or not."""
         self.rest += piece
         while self.rest and not self.ended:
@@ -171,7 +173,7 @@ def response(status: int, body: Any, asked: Next) -> bytes:
                    for line in lines).encode() + b"\r\n" + (b"" if asked.head else body.encode())
 
 
-def carried_out(desk: Any, at: int, what: Any) -> str | None:
+def carried_out(desk: Any, at: int, what: Any) -> str:
     """The text that answers a command."""
     if isinstance(what, tuple):
         return desk.fetch({"at": at, "repository": what[0], "file": what[1]}).removeprefix("file ")
@@ -219,7 +221,7 @@ def answer(desk: Any, at: int, asked: Next, log: Log | None = None) -> Any:
 # ---- connections
 
 
-def connection(desk, peer, log):
+def connection(desk: reference.Desk, peer: socket.socket, log: Log) -> str | None:
     """Answers a client until it ends its half, or a request ends the stream; then what it still
     sends is read and dropped.
     """
@@ -246,7 +248,7 @@ def connection(desk, peer, log):
     return None
 
 
-def serve(desk, port, count=None):
+def serve(desk: reference.Desk, port: int, count: int | None = None) -> int:
     """Serves so many connections one after the other, or for ever, and gives the status."""
     with socket.socket() as listener:
         try:

@@ -22,6 +22,10 @@ class HmacSha256:
         return secret
 
     @staticmethod
+    def fits(public: bytes) -> bool:
+        return len(public) == 32
+
+    @staticmethod
     def shown(public: bytes) -> str:
         return ""
 
@@ -42,9 +46,10 @@ class Ed25519:
     public_of = staticmethod(functools.lru_cache(None)(ed25519.public_of))
     sign = staticmethod(functools.lru_cache(10_000)(ed25519.sign))
     verify = staticmethod(functools.lru_cache(10_000)(ed25519.verify))
+    fits = staticmethod(ed25519.is_public)
 
     @staticmethod
-    def shown(public):
+    def shown(public: bytes) -> str:
         return public.hex()
 
 
@@ -60,21 +65,31 @@ class Sha256Tag:
         return hashlib.sha256(b"public " + secret).digest()
 
     @staticmethod
-    def shown(public):
+    def fits(public: bytes) -> bool:
+        return len(public) == 32
+
+    @staticmethod
+    def shown(public: bytes) -> str:
         return "hash"
 
     @classmethod
-    def sign(cls, secret, message):
+    def sign(cls, secret: bytes, message: bytes) -> bytes:
         return hashlib.sha256(cls.public_of(secret) + message).digest()
 
     @staticmethod
-    def verify(public, message, signature):
+    def verify(public: bytes, message: bytes, signature: bytes) -> bool:
         return hashlib.sha256(public + message).digest() == signature
 
 
-ALL: tuple[Any, ...] = (HmacSha256, Ed25519, Sha256Tag)
+OF_PRODUCT: tuple[Any, ...] = (HmacSha256, Ed25519)
+ALL = (*OF_PRODUCT, Sha256Tag)
 SCHEMES = {it.method: it for it in ALL}
 TRIED = SCHEMES[os.environ.get("SCHEME", HmacSha256.method)]
+
+
+def other_method_of(scheme: Any) -> str:
+    """The method of the product's other scheme."""
+    return next(it.method for it in OF_PRODUCT if it is not scheme)
 
 
 def key_identifier(public: Any) -> str:

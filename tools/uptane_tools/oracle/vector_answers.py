@@ -1,6 +1,7 @@
 """Test vectors of the service's answers, and of what a Primary does behind each."""
 import json
-from typing import Any, Iterator
+from collections.abc import Iterator
+from typing import Any
 
 from uptane_tools.operate.formats import MOST
 
@@ -17,6 +18,7 @@ ANSWERS = [
     ("a reply that was cut", 200, '{"root":1', "again", None),
     ("a list with status 200", 200, "[5]", "again", None),
     ("want of memory", 503, told(1, "Memory"), "again", None),
+    ("the same with another status", 400, told(1, "Memory"), "again", None),
     ("a fault of the database", 503, told(2, "Store"), "again", None),
     ("a clock that is wrong", 503, told(3, "MomentOutOfRange"), "again", None),
     ("a service that isn't founded yet", 503, told(8, "NotFounded"), "again", None),
@@ -27,11 +29,13 @@ ANSWERS = [
     ("a body in chunks, though none was sent", 501, told(0, "not implemented"), "again", None),
     ("a proxy's page", 502, "<html>502 Bad Gateway</html>", "again", None),
     ("a proxy's page of another status", 413, "<html>413</html>", "again", None),
+    ("a redirect, which isn't followed", 307, "", "again", None),
     ("a proxy's own JSON", 403, '{"message":"forbidden"}', "again", None),
     ("JSON that is no object", 400, "[5]", "again", None),
     ("JSON whose error is a text", 409, '{"error":"13","text":"Stale 7"}', "again", None),
     ("a body that was cut", 409, '{"error":13,"te', "again", None),
     ("an error without a text", 409, '{"error":13}', "again", None),
+    ("an error whose text is a number", 409, '{"error":13,"text":7}', "again", None),
     ("a busy proxy's JSON with a number of the service", 503, told(12, "Busy"), "again", None),
     ("a number of the service with a status of 500", 500, told(13, "Stale 7"), "again", None),
     ("a counter that was used", 409, told(13, "Stale 7"), "counter", 7),
@@ -40,7 +44,12 @@ ANSWERS = [
     ("a counter above the greatest", 409, told(13, "Stale %d" % (MOST + 1)), "mend", 13),
     ("a counter that was used, without a number", 409, told(13, "Stale"), "mend", 13),
     ("a counter that was used, with two numbers", 409, told(13, "Stale 7 8"), "mend", 13),
+    ("a counter that was used, under another name", 409, told(13, "Other 7"), "counter", 7),
+    ("a counter that was used, with zeros before it", 409, told(13, "Stale 007"), "counter", 7),
+    ("a counter that was used, of 17 digits", 409, told(13, "Stale %017d" % 7), "mend", 13),
+    ("a counter that was used, behind two spaces", 409, told(13, "Stale  7"), "mend", 13),
     ("a report that was used", 409, told(18, "ReportReplayed left"), "report", "left"),
+    ("a report that was used, under another name", 409, told(18, "Other left"), "report", "left"),
     ("a report that was used, without an ECU", 409, told(18, "ReportReplayed"), "mend", 18),
     ("a body that is too large", 413, told(4, "TooLarge"), "mend", 4),
     ("a body that is no JSON", 400, told(5, "NotJson"), "mend", 5),
@@ -74,6 +83,7 @@ FILES = [
     ("a file that was cut", 200, '{"signatures":[],"signed":{', "again"),
     ("a list with status 200", 200, "[5]", "again"),
     ("a service that isn't founded yet", 503, told(8, "NotFounded"), "again"),
+    ("that with status 404", 404, told(8, "NotFounded"), "again"),
     ("a refusal of manifests", 403, told(12, "BadManifestSignature"), "end"), ]
 
 

@@ -3,16 +3,20 @@ install what the reply assigns.
 """
 import copy
 import json
-from typing import Any, Callable, Iterator
+from collections.abc import Callable, Iterator
+from typing import Any
 
 from uptane_tools.oracle import ed25519
 from uptane_tools.oracle.reference import METHOD, SCHEME, canonical, moment
-from uptane_tools.oracle.schemes import Ed25519, HmacSha256, key_identifier
+from uptane_tools.oracle.schemes import HmacSha256, key_identifier, other_method_of
 from uptane_tools.oracle.vector_fleet import (CONTENT, DAY, ECUS, FIRST, NOW, ROTATE, SECOND, SETUP,
                                               UPDATE, desk, digest, image_of, key, line, manifest,
                                               public, reports_of, signed_by)
 
 # ---- chains: all that a vehicle gets, with one thing wrong
+
+# of each case the attack, its name, the verdict, the texts that are replaced, and further members
+Cases = Iterator[tuple[str, str, str, dict[str, Any], dict[str, Any]]]
 
 
 class Chain:
@@ -42,11 +46,12 @@ class Chain:
             if not name.endswith("/root.json")}
         self.files["reply"], self.old, self.keys = kept, old, SECOND if rotated else FIRST
 
-    def reply(self, **members):
+    def reply(self, **members: Any) -> dict[str, str]:
         """The reply with other members."""
         return {"reply": canonical(json.loads(self.files["reply"]) | members)}
 
-    def director(self, role, change, keys=None, rehash=True, **more):
+    def director(self, role: str, change: Callable[..., Any], keys: list[str] | None = None,
+                 rehash: bool = True, **more: int) -> dict[str, str]:
         """The reply after a change of what one of its files has signed, which these keys sign,
         or the role's. The Timestamp names the Snapshot anew, unless that is what is to be wrong.
         The reply may have other members.
@@ -123,11 +128,11 @@ def named(snapshot: dict[str, Any]) -> dict[str, Any]:
         "hashes": {"sha256": digest(canonical(snapshot))}, "version": snapshot["signed"]["version"]}
 
 
-def members(**more):
+def members(**more: Any) -> Callable[..., Any]:
     return lambda signed: signed.update(more)
 
 
-def target(**more):
+def target(**more: Any) -> Callable[..., Any]:
     return lambda signed: signed["targets"][0].update(more)
 
 
@@ -162,7 +167,7 @@ def of_key(secret: str, change: Callable[..., Any]) -> Callable[..., Any]:
 nothing = members()
 
 
-def trusted(repository, **versions):
+def trusted(repository: str, **versions: int) -> dict[str, Any]:
     return {"trusted": {repository: versions}}
 
 
@@ -185,7 +190,7 @@ def upper(signature: dict[str, str]) -> dict[str, str]:
     return signature | {"sig": signature["sig"].upper()}
 
 
-def of_update(it):
+def of_update(it: Chain) -> Cases:
     """The cases of an update of three ECUs. The first three signatures of Targets are of keys of
     which two have to sign.
     """
@@ -290,7 +295,7 @@ def of_update(it):
         it, lambda own: [own[0], own[0], own[1]]), {}
 
 
-def signed_otherwise(it):
+def signed_otherwise(it: Chain) -> Cases:
     """Each file of the two repositories but the Director's Targets, which has other cases: under
     another role's key.
     """
@@ -305,7 +310,7 @@ def signed_otherwise(it):
                 whose, role.capitalize()), no, of(role, nothing, other[:1]), {}
 
 
-def of_forms(it):
+def of_forms(it: Chain) -> Cases:
     """Cases of one repository's members and texts."""
     yes, no = "accepted", "refused"
     yield "mix and match", "the Image repository's Timestamp names another version of the Snapshot", no, it.image(
@@ -325,7 +330,7 @@ def of_forms(it):
                    "its files is needed"), yes, empty, {"installs": {}, "now": NOW + 2 * DAY}
 
 
-def of_new_roots(it):
+def of_new_roots(it: Chain) -> Cases:
     """A second Root after a change of the first, of a vehicle that has verified greater versions.
     """
     yes, no = "accepted", "refused"
@@ -338,7 +343,7 @@ def of_new_roots(it):
         more = {"root": 2} if repository == "director" else {}
         told = {"reply": it.reply(**more)["reply"]} if more else {}
 
-        def greater(**versions):
+        def greater(**versions: int) -> dict[str, Any]:
             return trusted(repository, **versions)
 
         yield "none", "%s new Root has the same keys" % whose, yes, root(nothing) | told, {}
@@ -365,13 +370,13 @@ def of_new_roots(it):
                 " (%s, %s)" % (repository, name)), no, replaced, greater(timestamp=99)
 
 
-def of_root_keys(it):
+def of_root_keys(it: Chain) -> Cases:
     """A second Root that isn't of the form of a Root, though enough other keys sign all files."""
     no, roots = "refused", FIRST["director"]["root"]["keys"]
     spare = FIRST["director"]["targets"]["keys"][2]
     told, signed = it.reply(root=2), it.director("targets", nothing,
                                                  FIRST["director"]["targets"]["keys"][:2], root=2)
-    other_method = next(one.method for one in (HmacSha256, Ed25519) if one is not SCHEME)
+    other_method = other_method_of(SCHEME)
     cases = [("a key of another method",
               of_key(spare, lambda name, it: (name, it | {"method": other_method}))),
              ("a key under another name", of_key(spare, lambda name, it: (64 * "0", it)))]
@@ -400,7 +405,7 @@ def of_root_keys(it):
         stranger(known)
         signed["keys"] |= known["keys"]
 
-    def listed(**more):
+    def listed(**more: int) -> Callable[..., Any]:
         return lambda signed: signed["roles"]["targets"].update(more)
 
     yield "arbitrary software", "a Root with a key of no role", no, it.root(of_no_role,
@@ -439,7 +444,7 @@ def of_root_keys(it):
                        "image/3.root.json": later}, {}
 
 
-def of_image_rotation(it):
+def of_image_rotation(it: Chain) -> Cases:
     """The cases of the Image repository's second Root."""
     yes, no = "accepted", "refused"
     first, second = ROOTS["image"]
@@ -457,18 +462,20 @@ def of_image_rotation(it):
                        ("by one of its own two keys", second[:1] + first)):
         yield "too few signatures", "the Image repository's Root " + name, no, root(nothing,
                                                                                     keys), {}
-    for attack, name, more in [
-        ("rollback", "of a later version", {"version": 3}),
-        ("rollback", "of version 1", {"version": 1}),
-        ("arbitrary software", "of the Director", {"repository": "director"}),
-        ("arbitrary software", "of another type", {"type": "targets"})]:
+    of_others: list[tuple[str, str, dict[str, Any]]] = [("rollback", "of a later version", {
+        "version": 3}), ("rollback", "of version 1", {"version": 1}),
+                                                        ("arbitrary software", "of the Director", {
+                                                            "repository": "director"}),
+                                                        ("arbitrary software", "of another type", {
+                                                            "type": "targets"})]
+    for attack, name, more in of_others:
         yield attack, "a Root %s in place of the Image repository's" % name, no, root(
             members(**more), second + first), {}
     yield "freeze", "the Image repository's new Root has expired", no, root(
         members(expires=moment(NOW)), second + first), {}
 
 
-def of_rotation(it):
+def of_rotation(it: Chain) -> Cases:
     """The cases after a rotation, of a vehicle that trusts root version 1 of both repositories."""
     yes, no, old = "accepted", "refused", "old"
     first, second = BOTH_ROOTS
@@ -531,7 +538,7 @@ VEHICLE: dict[str, Any] = {
                                                   for ecu, (kind, _) in ECUS["VIN-1"].items()]}
 INSTALLS = {"gw": "gateway-2.bin", "left": "brake-2.bin", "right": "brake-2.bin"}
 
-CASES = {
+CASES: dict[str, tuple[Callable[[Chain], Cases], ...]] = {
     "update": (of_update, signed_otherwise, of_forms, of_new_roots, of_root_keys),
     "rotation": (of_rotation, of_image_rotation)}
 
@@ -540,7 +547,8 @@ def bases() -> dict[str, Chain]:
     return {"update": Chain(False), "rotation": Chain(True)}
 
 
-def chains(made, more_cases):
+def chains(made: dict[str, Chain], more_cases: dict[str, tuple[Callable[[Chain], Cases],
+                                                               ...]]) -> Iterator[dict[str, Any]]:
     """The cases over these bases. Beside each verdict stands what the vehicle trusts then, which
     `verification` computes.
     """

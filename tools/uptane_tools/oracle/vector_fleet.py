@@ -3,6 +3,7 @@ manifests that the vehicles send.
 """
 import hashlib
 import sqlite3
+from collections.abc import Iterable
 from contextlib import closing
 from typing import Any
 
@@ -22,7 +23,7 @@ def public(secret: str) -> Any:
     return SCHEME.public_of(bytes.fromhex(secret)).hex()
 
 
-def unhex(keys: list[str]) -> list[bytes]:
+def unhex(keys: Iterable[str]) -> list[bytes]:
     return [bytes.fromhex(it) for it in keys]
 
 
@@ -30,8 +31,8 @@ def digest(words: str, kind: str = "sha256") -> str:
     return hashlib.new(kind, words.encode()).hexdigest()
 
 
-def line(do, at=NOW, **members):
-    return canonical({"do": do, "at": at, **members})
+def line(do: str, **members: Any) -> str:
+    return canonical({"do": do, "at": NOW, **members})
 
 
 def signed_by(keys: list[str], payload: dict[str, Any] | str) -> str:
@@ -100,7 +101,7 @@ UPDATE = [
 ROTATE = line("rotate", **SECOND)
 
 
-def report(ecu, secret, counter, image, /, **more):
+def report(ecu: str, secret: str, counter: int, image: dict[str, Any], /, **more: Any) -> str:
     payload = {
         "attack": "", "counter": counter, "ecu": ecu, "image": image, "time": moment(NOW),
         "type": "report"}
@@ -115,7 +116,7 @@ def reports_of(vehicle: str, counter: int, images: dict[str, str] | None = None)
         for ecu, (kind, secret) in ECUS[vehicle].items()]
 
 
-def payload_of(vehicle, counter, reports, /, **more):
+def payload_of(vehicle: str, counter: int, reports: list[str], /, **more: Any) -> str:
     """A manifest's payload, canonical; the reports stand in it as they are."""
     told = {
         "counter": counter, "primary": PRIMARY[vehicle], "reports": "@", "type": "manifest",
@@ -123,7 +124,8 @@ def payload_of(vehicle, counter, reports, /, **more):
     return canonical(told).replace('"@"', "[%s]" % ",".join(reports))
 
 
-def manifest(vehicle, counter, reports, /, secret=None, **more):
+def manifest(vehicle: str, counter: int, reports: list[str], /, secret: str | None = None,
+             **more: Any) -> str:
     return signed_by([secret or ECUS[vehicle][PRIMARY[vehicle]][1]],
                      payload_of(vehicle, counter, reports, **more))
 

@@ -1,13 +1,14 @@
 """More test vectors of chains: what needs no key or one key alone, files of another form, and what
 a vehicle knows of its ECUs. Each has one thing wrong, and is signed correctly otherwise."""
 import json
-from typing import Any, Callable
+from collections.abc import Callable
+from typing import Any
 
 from uptane_tools.oracle import ed25519
 from uptane_tools.oracle.reference import SCHEME, canonical, moment
-from uptane_tools.oracle.schemes import Ed25519, HmacSha256, key_identifier
-from uptane_tools.oracle.vector_chains import (members, nothing, of_key, of_role, resigned, target,
-                                               trusted)
+from uptane_tools.oracle.schemes import Ed25519, HmacSha256, key_identifier, other_method_of
+from uptane_tools.oracle.vector_chains import (Cases, Chain, members, nothing, of_key, of_role,
+                                               resigned, target, trusted)
 from uptane_tools.oracle.vector_fleet import (DAY, FIRST, NOW, SECOND, digest, image_of, public,
                                               unhex)
 
@@ -18,14 +19,14 @@ OF = {"director": "the Director's", "image": "the Image repository's"}
 ROLES = ("timestamp", "snapshot", "targets")
 
 
-def spliced(it, *roles):
+def spliced(it: Chain, *roles: str) -> dict[str, str]:
     """The reply with these files of another vehicle's, as the Director signed them."""
     other = json.loads(it.other)
     return {
         "reply": canonical(json.loads(it.files["reply"]) | {role: other[role] for role in roles})}
 
 
-def of_splices(it):
+def of_splices(it: Chain) -> Cases:
     """What someone between the vehicle and the service can put together without any key."""
     kind = "mix and match"
     for roles in (("targets", ), ("snapshot", ), ("timestamp", ), ("timestamp", "snapshot")):
@@ -48,8 +49,8 @@ def of_splices(it):
     for repository in OF:
         for role, other in (("timestamp", "snapshot"), ("snapshot", "timestamp")):
             made = getattr(it, repository)(role, members(type=other))
-            words = OF[repository], role.capitalize(), other
-            yield "arbitrary software", "%s %s says it is a %s" % words, NO, made, {}
+            what = "%s %s says it is a %s" % (OF[repository], role.capitalize(), other)
+            yield "arbitrary software", what, NO, made, {}
 
 
 def of_other(it: Any) -> dict[str, str]:
@@ -79,7 +80,7 @@ def numbered(it: Any, version: int) -> dict[str, str]:
     return {"reply": canonical(told)}
 
 
-def both(it, **more):
+def both(it: Chain, **more: Any) -> dict[str, str]:
     """The gateway's image with other members in both repositories."""
 
     def change(signed: dict[str, Any]) -> None:
@@ -90,7 +91,7 @@ def both(it, **more):
     return it.director("targets", change) | it.image("targets", change)
 
 
-def of_images(it):
+def of_images(it: Chain) -> Cases:
     """The two repositories agree on an image, whose form may be wrong."""
     two = image_of(GATEWAY)["hashes"]
     first, second = {"sha256": two["sha256"]}, two["sha512"]
@@ -144,7 +145,7 @@ def target_named(signed: dict[str, Any]) -> dict[str, Any]:
     return next(it for it in signed["targets"] if it["file"] == GATEWAY)
 
 
-def of_files(it):
+def of_files(it: Chain) -> Cases:
     """Files of another form than FORMATS has."""
     kind = "arbitrary software"
     yield kind, "files of version 0", NO, numbered(it, 0), {}
@@ -195,30 +196,30 @@ def of_files(it):
     yield kind, "a reply whose version is a text", NO, it.reply(version="1"), {}
     snapshot = it.files["image/snapshot.json"]
 
-    def name(text: str) -> Callable[..., Any]:
+    def named(text: str) -> Callable[..., Any]:
         hashes = {"sha256": digest(text)}
         return lambda signed: signed["meta"]["snapshot.json"].update(hashes=hashes)
 
     ends = {"image/snapshot.json": snapshot + "\n"}
     yield "none", ("the Image repository's Snapshot ends in a newline, and the Timestamp has the "
                    "SHA-256 of that text"), YES, ends | it.image("timestamp",
-                                                                 name(snapshot + "\n")), {}
+                                                                 named(snapshot + "\n")), {}
     yield "mix and match", ("the Image repository's Snapshot ends in a newline, which its "
                             "Timestamp doesn't know"), NO, ends, {}
 
 
-def of_signatures(it):
+def of_signatures(it: Chain) -> Cases:
     """Other signatures of the Director's Targets, whose first two of three keys sign enough."""
     told = json.loads(it.files["reply"])
     own = told["targets"]["signatures"][:2]
 
-    def signed(*signatures):
+    def signed(*signatures: dict[str, str]) -> dict[str, str]:
         return {
             "reply": canonical(told | {"targets": told["targets"] | {"signatures": [*signatures]}})}
 
     strange = own[0] | {"keyid": 64 * "0"}
     kind = "too few signatures"
-    other = next(one.method for one in (HmacSha256, Ed25519) if one is not SCHEME)
+    other = other_method_of(SCHEME)
     yield "none", "eight signatures, six of them of strangers", YES, signed(*own,
                                                                             *6 * [strange]), {}
     yield "arbitrary software", "nine signatures", NO, signed(*own, *7 * [strange]), {}
@@ -241,10 +242,10 @@ def of_signatures(it):
         yield "arbitrary software", name, NO, signed(*by_public[:2]), {}
 
 
-def of_ecus(it):
+def of_ecus(it: Chain) -> Cases:
     """What a vehicle knows of its ECUs."""
 
-    def of(**gateway):
+    def of(**gateway: Any) -> dict[str, Any]:
         return {"installed": {"gw": gateway}}
 
     yield "none", "the gateway has this release already", YES, {}, of(release=2)
@@ -264,7 +265,7 @@ def of_ecus(it):
     yield "freeze", "the second at which it expires", NO, {}, {"now": NOW + DAY}
 
 
-def of_forgetting(it):
+def of_forgetting(it: Chain) -> Cases:
     """A second Root that gives one role other keys, of a vehicle that has verified greater
     versions.
     """
@@ -275,7 +276,7 @@ def of_forgetting(it):
         more = {"root": 2} if repository == "director" else {}
         told = it.reply(**more) if more else {}
 
-        def greater(**versions):
+        def greater(**versions: int) -> dict[str, Any]:
             return trusted(repository, **versions)
 
         kept = it.root(nothing, roots, repository) | told
@@ -310,7 +311,7 @@ def of_forgetting(it):
         yield "freeze", name % whose, verdict, change | late, greater(timestamp=99)
 
 
-def of_more_roots(it):
+def of_more_roots(it: Chain) -> Cases:
     """Roots of another form, though enough other keys sign all files."""
     roots, kind = FIRST["director"]["root"]["keys"], "arbitrary software"
     told = it.reply(root=2)
@@ -340,11 +341,18 @@ def of_more_roots(it):
     if SCHEME is Ed25519:
         none = next(it for it in (n.to_bytes(32, "little") for n in range(2, 99))
                     if ed25519.decode(it) is None)
-        named = of_key(spare[2], lambda name, it:
-                       (key_identifier(none), it | {"public": none.hex()}))
-        signed = it.director("targets", nothing, spare[:2], root=2)
-        name = "a Root with a key that is no point, though enough others sign"
-        yield kind, name, NO, it.root(named, roots) | signed, {}
+        parts, signed = map(ed25519.decode, ed25519.small_points()), it.director(
+            "targets", nothing, spare[:2], root=2)
+        kinds = {
+            "is no point": none, "is the neutral point": ed25519.small_points()[0],
+            "is a point of order 4": bytes(32), "has a part of small order": ed25519.encode(
+                ed25519.add(ed25519.BASE, [*parts][1]))}
+        for name, other in kinds.items():
+            named = of_key(
+                spare[2], lambda name, it, other=other:
+                (key_identifier(other), it | {"public": other.hex()}))
+            name = "a Root with a key that %s, though enough others sign" % name
+            yield kind, name, NO, it.root(named, roots) | signed, {}
 
 
 CASES = {

@@ -1,6 +1,7 @@
 """Test vectors of manifests, with the refusal that each gets, and of replies."""
 import json
-from typing import Any, Iterator
+from collections.abc import Iterator
+from typing import Any
 
 from uptane_tools.oracle import reference_http
 from uptane_tools.oracle.reference import canonical, moment
@@ -23,7 +24,7 @@ def without(text: str, name: str) -> str:
 def manifests() -> Iterator[tuple[str, str]]:
     three, solo = reports_of("VIN-1", 1), key(0xA4)
 
-    def one(**more):
+    def one(**more: Any) -> str:
         return report("solo", solo, 1, image_of("gateway-1.bin"), **more)
 
     def as_told(payload: str) -> str:
@@ -39,7 +40,7 @@ def manifests() -> Iterator[tuple[str, str]]:
     def of_report(made: str) -> str:
         return as_told(payload_of("VIN-2", 1, [made]))
 
-    def of_image(**more):
+    def of_image(**more: Any) -> str:
         return of_report(one(image=image | more))
 
     yield "no bytes", ""
@@ -122,19 +123,20 @@ def respelt(text: str) -> str:
     return json.dumps(turned(json.loads(text)), indent=1)
 
 
-def builds():
+def builds() -> Iterator[dict[str, Any]]:
     """What the ECUs of a vehicle are to report, with their secrets, and the body of the manifest.
     Each is taken by the service.
     """
     image, other = image_of("gateway-1.bin"), image_of("brake-1.bin")
     unknown = {"file": "unknown", "length": 0, "hashes": {"sha256": digest("")}}
     three = [("gw", key(0xA1), image), ("left", key(0xA2), other), ("right", key(0xA3), other)]
-    for name, vehicle, counter, ecus, more in [
+    cases: list[tuple[str, str, int, list[Any], dict[str, Any]]] = [
         ("one ECU", "VIN-2", 1, [("solo", key(0xA4), image)], {"counter": 0, "time": NOW}),
         ("three ECUs, the second of which tells of an attack", "VIN-1", 1, three, {
             "attack": 'bus "CAN/1" \\ flooded', "counter": 7, "time": 253402300799}),
         ("no time was verified, and the installed image isn't known", "VIN-2", 2**53 - 1, [
-            ("solo", key(0xA4), unknown)], {"counter": 2**53 - 1, "time": 0})]:
+            ("solo", key(0xA4), unknown)], {"counter": 2**53 - 1, "time": 0})]
+    for name, vehicle, counter, ecus, more in cases:
         reports = [{
             "ecu": ecu, "key": secret, "counter": more["counter"] + place, "time": more["time"],
             "attack": more.get("attack", "") if place == 1 else "", "file": has["file"],
@@ -152,7 +154,7 @@ def builds():
             "name": name, "build": build | {"counter": counter, "reports": reports}, "body": body}
 
 
-def delivered():
+def delivered() -> Iterator[dict[str, Any]]:
     """Each manifest with what the program prints for it, and the status and body of the answer
     over HTTP where it is refused.
     """
@@ -164,28 +166,27 @@ def delivered():
             status = reference_http.STATUS.get(int(printed.split()[1]),
                                                503) if printed.startswith("refused") else 200
             long = len(body) > 262144
-            yield {
-                "name": name,
-                **({"spaces": len(body)} if long else {"body": body}), "printed": printed,
-                "status": status}
+            sent: dict[str, Any] = {"spaces": len(body)} if long else {"body": body}
+            yield {"name": name, **sent, "printed": printed, "status": status}
 
 
 # ---- replies: what an accepted manifest is answered, byte for byte
 
 
 def replies() -> Iterator[dict[str, Any]]:
-    steps = [("nothing is assigned", [], "VIN-1", 1, None),
-             ("three images, one of them with two hashes", UPDATE, "VIN-1", 2, None),
-             ("one ECU has its image", [], "VIN-1", 3, {"gw": "gateway-2.bin"}),
-             ("a need that isn't met: nothing is assigned", [
-                 line("add_image", file="gateway-3.bin", length=3, sha256=digest("abc"), hardware=[
-                     "GW"], release=3, needs=[{"hardware": "BR", "release": 9}]),
-                 line("open_campaign", campaign="summer", vehicles=["VIN-1"], items=[{
-                     "hardware": "GW", "file": "gateway-3.bin"}])], "VIN-1", 4, None),
-             ("another vehicle", [], "VIN-2", 1, None),
-             ("after a rotation: root version 2", [ROTATE], "VIN-2", 2, None),
-             ("a repeat of a manifest before it: the kept reply, of root version 1", [], "VIN-2", 1,
-              None)]
+    steps: list[tuple[str, list[str], str, int, dict[str, str] | None]] = [
+        ("nothing is assigned", [], "VIN-1", 1, None),
+        ("three images, one of them with two hashes", UPDATE, "VIN-1", 2, None),
+        ("one ECU has its image", [], "VIN-1", 3, {"gw": "gateway-2.bin"}),
+        ("a need that isn't met: nothing is assigned", [
+            line("add_image", file="gateway-3.bin", length=3, sha256=digest("abc"), hardware=["GW"],
+                 release=3, needs=[{"hardware": "BR", "release": 9}]),
+            line("open_campaign", campaign="summer", vehicles=["VIN-1"], items=[{
+                "hardware": "GW", "file": "gateway-3.bin"}])], "VIN-1", 4, None),
+        ("another vehicle", [], "VIN-2", 1, None),
+        ("after a rotation: root version 2", [ROTATE], "VIN-2", 2, None),
+        ("a repeat of a manifest before it: the kept reply, of root version 1", [], "VIN-2", 1,
+         None)]
     with desk() as it:
         for given in SETUP:
             assert it.answer(given) == "done"

@@ -1,10 +1,11 @@
 """Test vectors of canonical texts, key identifiers, signatures and envelopes."""
 import json
-from typing import Iterator
+from collections.abc import Callable, Iterator
+from typing import Any
 
 from uptane_tools.oracle import ed25519, reference
 from uptane_tools.oracle.reference import METHOD, SCHEME, canonical
-from uptane_tools.oracle.schemes import Ed25519, HmacSha256, key_identifier
+from uptane_tools.oracle.schemes import HmacSha256, key_identifier, other_method_of
 from uptane_tools.oracle.vector_fleet import key, payload_of, public, reports_of, signed_by
 
 # ---- canonical texts
@@ -49,7 +50,7 @@ def canonical_texts() -> Iterator[dict[str, str]]:
                                                                                             2)[2]}
 
 
-def refusal(call, *given):
+def refusal(call: Callable[..., Any], *given: str) -> str:
     try:
         call(*given)
     except reference.Refused as refused:
@@ -60,17 +61,17 @@ def refusal(call, *given):
 # ---- key identifiers and signatures
 
 
-def key_identifiers():
+def key_identifiers() -> Iterator[dict[str, str]]:
     ascending = bytes(range(32)).hex()
     for name, it in [("zeros", key(0)), ("0x11 repeated", key(0x11)), ("0xff repeated", key(0xFF)),
                      ("0x00 to 0x1f", ascending)]:
         yield {
             "name": "32 bytes, " + name, "public": it, "keyid": key_identifier(bytes.fromhex(it))}
     for size in (1, 64, 65, 256):
-        it = size * bytes([0x5A])
+        none = size * bytes([0x5A])
         yield {
-            "name": "%d bytes; no key of these schemes" % size, "public": it.hex(),
-            "keyid": key_identifier(it)}
+            "name": "%d bytes; no key of these schemes" % size, "public": none.hex(),
+            "keyid": key_identifier(none)}
 
 
 # RFC 4231, test cases 1 to 3, 6 and 7: key, data, tag
@@ -112,13 +113,13 @@ def signatures() -> Iterator[dict[str, str]]:
         "sig": sig.hex()}
 
 
-def encodings():
+def encodings() -> Iterator[dict[str, Any]]:
     """Public keys and signatures of Ed25519 in other encodings than RFC 8032 has."""
     secret, data = bytes.fromhex(key(0xA4)), canonical({"a": 1}).encode()
     of, sig = ed25519.public_of(secret), ed25519.sign(secret, data)
     first, last = sig[:32], ed25519.number(sig[32:])
 
-    def bytes_of(it):
+    def bytes_of(it: int) -> bytes:
         return it.to_bytes(32, "little")
 
     # with the neutral point as the key any s and s * B fit: what is tried is how the key is decoded
@@ -142,13 +143,13 @@ def encodings():
 # ---- envelopes round the first manifest of VIN-2, in several forms
 
 
-def envelopes():
+def envelopes() -> Iterator[dict[str, Any]]:
     payload, secret, other = payload_of("VIN-2", 1, reports_of("VIN-2", 1)), key(0xA4), key(0xA1)
     good = json.loads(signed_by([secret], payload))["signatures"][0]
     wrong = json.loads(signed_by([other], payload))["signatures"][0]
     sig, identifier = good["sig"], good["keyid"]
     changed = sig[:-1] + ("1" if sig[-1] == "0" else "0")
-    other_method = next(it.method for it in (HmacSha256, Ed25519) if it is not SCHEME)
+    other_method = other_method_of(SCHEME)
     forms = [
         ("one signature", [good]), ("upper case digits in sig", [good | {"sig": sig.upper()}]),
         ("another signature before it", [wrong, good]),
@@ -170,7 +171,7 @@ def envelopes():
         yield {"name": name, "envelope": body} | judged(body, public(secret))
 
 
-def judged(body, of):
+def judged(body: str, of: str) -> dict[str, Any]:
     """Whether this key signed the envelope, or the refusal of an envelope that has another form."""
     try:
         told = reference.read_manifest(body.encode())

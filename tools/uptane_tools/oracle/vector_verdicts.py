@@ -6,14 +6,14 @@ import json
 from typing import Any
 
 from uptane_tools.oracle.reference import SCHEME, canonical, moment
-from uptane_tools.oracle.schemes import Ed25519, HmacSha256
-from uptane_tools.oracle.vector_chains import (BOTH_ROOTS, Chain, members, nothing, of_key, of_role,
-                                               one_key, resigned, trusted)
+from uptane_tools.oracle.schemes import Ed25519, other_method_of
+from uptane_tools.oracle.vector_chains import (BOTH_ROOTS, Cases, Chain, members, nothing, of_key,
+                                               of_role, one_key, resigned, trusted)
 from uptane_tools.oracle.vector_fleet import DAY, FIRST, NOW, key
 
 YES, NO, OLD = "accepted", "refused", "old"
 EXPIRED = {"expires": moment(NOW)}
-OTHER_METHOD = HmacSha256.method if SCHEME is Ed25519 else Ed25519.method
+OTHER_METHOD = other_method_of(SCHEME)
 REPLACED = {"replaced": {"left": "left-2"}}
 
 
@@ -24,7 +24,7 @@ def behind(it: Chain, replaced: dict) -> Chain:
     return found
 
 
-def of_order(it):
+def of_order(it: Chain) -> Cases:
     """Two faults: the first in the order of checks decides."""
     late, kind = it.director("timestamp", members(**EXPIRED)), "freeze"
     strange = it.keys["director"]["timestamp"]["keys"]
@@ -32,8 +32,12 @@ def of_order(it):
     yield kind, name, OLD, behind(it, late).director("targets", nothing, strange), {}
     name = "the Timestamp has expired, and the reply is of another version: the first decides"
     yield kind, name, OLD, behind(it, late).reply(version=9), {}
+    name = "the Timestamp has expired, and Targets are null: each file is read in its own turn"
+    yield kind, name, OLD, behind(it, late).reply(targets=None), {}
     name = "the Timestamp has expired, and is for another vehicle: expiry is looked at last"
     yield kind, name, NO, it.director("timestamp", members(**EXPIRED, vehicle="VIN-2")), {}
+    yield kind, "no time is known, and the Timestamp expires as 1970 begins", OLD, it.director(
+        "timestamp", members(expires=moment(0))), {"now": 0}
     yield kind, "the Timestamp has expired, and is signed by another role's key", NO, it.director(
         "timestamp", members(**EXPIRED), one_key("snapshot")), {}
     yield kind, "the Timestamp has expired, and goes back to an older version", NO, late, trusted(
@@ -56,24 +60,28 @@ def of_order(it):
     yield kind, name + "its image: the ECU is looked at first", OLD, lacks(1), REPLACED
     yield kind, name + "the image of a target before it", NO, lacks(0), REPLACED
     yield kind, name + "the image of a target behind it", OLD, lacks(2), REPLACED
+    own = json.loads(it.files["reply"])["targets"]["signed"]["targets"]
+    many = [own[1], *(own[2] | {"ecu": "e%d" % at} for at in range(32))]
+    name = "an ECU was replaced, and is the first of 33 targets: their number has no limit"
+    yield kind, name, OLD, it.director("targets", members(targets=many)), REPLACED
     yield "none", "an ECU was replaced, and the reply names the one in its place", YES, it.director(
         "targets", lambda signed: signed["targets"][1].update(ecu="left-2")), REPLACED | {
             "installs": {"gw": "gateway-2.bin", "left-2": "brake-2.bin", "right": "brake-2.bin"}}
 
 
-def with_others(text, *more):
+def with_others(text: str, *more: dict[str, str]) -> str:
     """The text of an envelope with more signatures before its own."""
     told = json.loads(text)
     return canonical(told | {"signatures": [*more, *told["signatures"]]})
 
 
-def of_more_signatures(it):
+def of_more_signatures(it: Chain) -> Cases:
     """Signatures that don't count, beside enough that do."""
     told = json.loads(it.files["reply"])["targets"]
     own, kind = told["signatures"], "none"
     wrong, other = own[2] | {"sig": own[0]["sig"]}, own[2] | {"method": OTHER_METHOD}
 
-    def signed(*signatures):
+    def signed(*signatures: dict[str, str]) -> dict[str, str]:
         return it.reply(targets=told | {"signatures": [*signatures]})
 
     yield kind, "a third signature that is wrong", YES, signed(*own[:2], wrong), {}
@@ -95,7 +103,7 @@ def of_more_signatures(it):
     yield kind, name, YES, it.reply(targets=told | more), {}
 
 
-def of_image_targets(it):
+def of_image_targets(it: Chain) -> Cases:
     """The Image repository's Targets in another order, and with a filename twice."""
 
     def twice(place: int) -> dict[str, str]:
@@ -113,7 +121,7 @@ def of_image_targets(it):
     yield "none", name % "first", YES, twice(99), {}
 
 
-def of_trusted_roots(it):
+def of_trusted_roots(it: Chain) -> Cases:
     """What the trusted Root is, which nobody looks at again; and what has no limit."""
     roots, spare = FIRST["director"]["root"]["keys"], FIRST["director"]["targets"]["keys"][2]
     shown = of_key(spare, lambda name, it: (name, it | {"method": OTHER_METHOD}))
@@ -136,7 +144,7 @@ def of_trusted_roots(it):
     yield "arbitrary software", "a reply whose root is 1.0", NO, {"reply": whole}, {}
 
 
-def of_old_replies(it):
+def of_old_replies(it: Chain) -> Cases:
     """The reply from before a rotation, with another fault."""
     old = json.loads(it.old)
     kind = "rollback"

@@ -7,11 +7,13 @@ NAMES, "director": TRUST, "image": TRUST}`, a trust `{"root": ROOT, "versions": 
 is served: `director_roots` and `image_roots`, the texts behind the trusted one; `reply` and
 `image`, the texts of three files each, and the reply's own members.
 """
+import functools
 import hashlib
 import json
 import re
+from collections.abc import Callable
 from datetime import datetime, timezone
-from typing import Any, Callable
+from typing import Any
 
 from uptane_tools.operate.formats import FILE, IDENT, KEYID, METHODS, SIG, is_count, value_of
 from uptane_tools.oracle import ed25519
@@ -21,6 +23,11 @@ from uptane_tools.oracle.schemes import SCHEMES, key_identifier
 FILES = ("timestamp", "snapshot", "targets")
 ROLES = ("root", *FILES)
 NONE_YET = dict.fromkeys(FILES, 0)
+# signatures and the canonical text that they sign; a Root and the versions that are trusted; the
+# repository, the vehicle whose files they are, and the moment
+Sealed = tuple[list[dict[str, str]], str]
+Trust = dict[str, Any]
+Asked = tuple[str, str | None, int]
 # the refusals of a target, which come once both repositories are verified
 CHECKED_LAST = ("ReplacedEcu", "UnknownEcu", "UnknownImage", "WrongHardware", "LowerRelease")
 
@@ -33,12 +40,12 @@ class Refused(Exception):
     """Why what was served isn't accepted: the words of a refusal."""
 
 
-def need(holds: bool | re.Match[str]) -> None:
+def need(holds: object) -> None:
     if not holds:
         raise Unread
 
 
-def refuse_unless(holds, *words):
+def refuse_unless(holds: bool, *words: str) -> None:
     if not holds:
         raise Refused(words)
 
@@ -56,9 +63,14 @@ def count(told: dict[str, Any], name: str, least: int = 0) -> int:
     return told[name]
 
 
-def envelope(bytes_):
+def envelope(bytes_: str) -> tuple[Sealed, Any]:
     """The signatures and the canonical text of what is signed, and its value."""
     need(isinstance(bytes_, str) and len(bytes_) <= 4_194_304)
+    return _envelope(bytes_)
+
+
+@functools.lru_cache(maxsize=1024)
+def _envelope(bytes_: str) -> tuple[Sealed, Any]:
     try:
         value = value_of(bytes_)
     except ValueError:
@@ -73,7 +85,7 @@ def envelope(bytes_):
     return (signatures, canonical(signed)), signed
 
 
-def head(told: dict[str, Any], kind: str) -> dict[str, Any] | None:
+def head(told: dict[str, Any], kind: str) -> dict[str, Any]:
     need(text(told, "type", lambda it: True) == kind)
     repository = text(told, "repository", lambda it: it in ("director", "image"))
     shape = "[0-9]{4}-[0-9]{2}-[0-9]{2}T[0-9]{2}:[0-9]{2}:[0-5][0-9]Z"
@@ -84,18 +96,18 @@ def head(told: dict[str, Any], kind: str) -> dict[str, Any] | None:
         raise Unread from None
     need(at.timestamp() >= 0)
     return {
-        "repository": repository,
-        "version": count(told, "version", 1),
-        "expires": int(at.timestamp())
-    }
+        "repository": repository, "version": count(told, "version", 1),
+        "expires": int(at.timestamp())}
 
 
 def vehicle_of(told: dict[str, Any], repository: str) -> str | None:
     return text(told, "vehicle", IDENT) if repository == "director" else None
 
 
-def root_in(bytes_):
+def root_in(bytes_: str) -> tuple[dict[str, Any], Sealed]:
     sealed, told = envelope(bytes_)
+    keys: Any
+    roles: Any
     file, keys, roles = head(told, "root"), told.get("keys"), told.get("roles")
     need(isinstance(keys, dict) and isinstance(roles, dict))
     for name, it in keys.items():
@@ -121,9 +133,9 @@ def second_in(hashes: dict[str, str]) -> str | None:
     return second if is_one else None
 
 
-def target_in(it, repository):
+def target_in(it: dict[str, Any], repository: str) -> dict[str, Any]:
     need(isinstance(it, dict) and isinstance(it.get("hashes"), dict))
-    hardware = it.get("hardware")
+    hardware: Any = it.get("hardware")
     need(isinstance(hardware, list) and 1 <= len(hardware) <= 16 and all(map(IDENT, hardware)))
     need(len({*hardware}) == len(hardware))
     first = text(it["hashes"], "sha256", lambda digits: re.fullmatch("[0-9a-f]{64}", digits))
@@ -133,7 +145,7 @@ def target_in(it, repository):
     return {"ecu": ecu, "image": (text(it, "file", FILE), hashes, tuple(hardware), *numbers)}
 
 
-def targets_in(bytes_):
+def targets_in(bytes_: str) -> tuple[dict[str, Any], Sealed]:
     sealed, told = envelope(bytes_)
     file = head(told, "targets")
     file["vehicle"] = vehicle_of(told, file["repository"])
@@ -144,7 +156,7 @@ def targets_in(bytes_):
     return file, sealed
 
 
-def listing(bytes_, kind, name):
+def listing(bytes_: str, kind: str, name: str) -> tuple[dict[str, Any], Sealed, dict[str, Any]]:
     """A Timestamp or a Snapshot, and its entry of the file that it names."""
     sealed, told = envelope(bytes_)
     file = head(told, kind)
@@ -155,11 +167,11 @@ def listing(bytes_, kind, name):
     return file, sealed, entry
 
 
-def snapshot_in(bytes_):
+def snapshot_in(bytes_: str) -> tuple[dict[str, Any], Sealed]:
     return listing(bytes_, "snapshot", "targets.json")[:2]
 
 
-def timestamp_in(bytes_):
+def timestamp_in(bytes_: str) -> tuple[dict[str, Any], Sealed]:
     file, sealed, entry = listing(bytes_, "timestamp", "snapshot.json")
     need(isinstance(entry.get("hashes"), dict))
     is_hash = re.compile("[0-9a-f]{64}").fullmatch
@@ -168,7 +180,6 @@ def timestamp_in(bytes_):
 
 
 READERS = {"timestamp": timestamp_in, "snapshot": snapshot_in, "targets": targets_in}
-
 
 # ---- who signed
 
@@ -179,14 +190,14 @@ class Verifier:
     def __init__(self, method: str, held: Any) -> None:
         self.scheme, self.held = SCHEMES[method], {key_identifier(it): it for it in held}
 
-    def shown(self, digits):
+    def shown(self, digits: str) -> bytes | None:
         """The public part that a Root shows so, if it is one."""
         if self.scheme.method != "ed25519" or not re.fullmatch("[0-9a-f]{64}", digits):
             return None
         public = bytes.fromhex(digits)
-        return public if ed25519.decode(public) is not None else None
+        return public if ed25519.is_public(public) else None
 
-    def candidates(self, name, key):
+    def candidates(self, name: str, key: tuple[str, str]) -> list[bytes]:
         """The public parts of this identifier: the one that a Root shows, and one that is held."""
         parts = (self.shown(key[1]), self.held.get(name))
         return [it for it in parts if it is not None and key_identifier(it) == name]
@@ -214,7 +225,8 @@ class Verifier:
 # ---- Roots
 
 
-def next_root(verifier, repository, before, bytes_):
+def next_root(verifier: Verifier, repository: str, before: dict[str, Any],
+              bytes_: str) -> dict[str, Any]:
     try:
         root, sealed = root_in(bytes_)
     except Unread:
@@ -230,7 +242,7 @@ def next_root(verifier, repository, before, bytes_):
     return root
 
 
-def with_root(trust: dict[str, dict[str, Any]], root: Any) -> dict[str, dict[str, Any]]:
+def with_root(trust: Trust, root: Any) -> Trust:
     """What is trusted with a new Root. Versions under a role's old keys are forgotten: those of
     Timestamp and Snapshot together, that of Targets alone."""
     same = {role: {*trust["root"][role]["keys"]} == {*root[role]["keys"]} for role in FILES}
@@ -242,8 +254,8 @@ def with_root(trust: dict[str, dict[str, Any]], root: Any) -> dict[str, dict[str
     return {"root": root, "versions": versions}
 
 
-def follow(verifier: Verifier, repository: str, trust: dict[str, dict[str, Any]],
-           roots: list[str]) -> tuple[dict[str, dict[str, Any]], Refused | None]:
+def follow(verifier: Verifier, repository: str, trust: Trust,
+           roots: list[str]) -> tuple[Trust, Refused | None]:
     """What is trusted once each Root was looked at in its turn, and the first refusal, if any."""
     for bytes_ in roots:
         try:
@@ -253,8 +265,7 @@ def follow(verifier: Verifier, repository: str, trust: dict[str, dict[str, Any]]
     return trust, None
 
 
-def latest(verifier: Verifier, repository: str, now: int, trust: dict[str, dict[str, Any]],
-           roots: list[str]) -> dict[str, dict[str, Any]] | None:
+def latest(verifier: Verifier, repository: str, now: int, trust: Trust, roots: list[str]) -> Trust:
     trust, refused = follow(verifier, repository, trust, roots)
     if refused:
         raise refused
@@ -265,7 +276,8 @@ def latest(verifier: Verifier, repository: str, now: int, trust: dict[str, dict[
 # ---- files
 
 
-def check_file(verifier, asked, role, trust, bytes_, is_named):
+def check_file(verifier: Verifier, asked: Asked, role: str, trust: Trust, bytes_: Any,
+               is_named: Callable[[dict[str, Any]], bool]) -> dict[str, Any]:
     repository, vehicle, now = asked
     try:
         file, sealed = READERS[role](bytes_)
@@ -281,11 +293,12 @@ def check_file(verifier, asked, role, trust, bytes_, is_named):
     return file
 
 
-def check_files(verifier, asked, trust, texts):
+def check_files(verifier: Verifier, asked: Asked, trust: Trust,
+                texts: dict[str, Any]) -> tuple[dict[str, int], dict[str, Any]]:
     """The versions of a repository's files, and its Targets."""
     digest = hashlib.sha256((texts["snapshot"] or "").encode()).hexdigest()
 
-    def check(role: str, is_named: Callable[..., Any]) -> dict[str, Any] | None:
+    def check(role: str, is_named: Callable[[dict[str, Any]], bool]) -> dict[str, Any]:
         return check_file(verifier, asked, role, trust, texts[role], is_named)
 
     timestamp = check("timestamp", lambda file: True)
@@ -296,7 +309,8 @@ def check_files(verifier, asked, trust, texts):
     return {role: file["version"] for role, file in found}, targets
 
 
-def check_reply(verifier, now, primary, trust, reply):
+def check_reply(verifier: Verifier, now: int, primary: dict[str, Any], trust: Trust,
+                reply: dict[str, Any]) -> tuple[dict[str, int], dict[str, Any]]:
     root = trust["root"]["version"]
     refuse_unless(reply["vehicle"] == primary["vehicle"], "WrongVehicle")
     refuse_unless(reply["root"] <= root, "UnknownRoot")
@@ -307,8 +321,8 @@ def check_reply(verifier, now, primary, trust, reply):
     return versions, targets
 
 
-def check_target(primary: dict[str, Any], images: list[dict[str, Any]],
-                 target: dict[str, Any]) -> None:
+def check_target(primary: dict[str, Any], images: list[dict[str, Any]], target: dict[str,
+                                                                                     Any]) -> None:
     name, (file, _, hardware, _, release) = target["ecu"], target["image"]
     refuse_unless(name in primary["ecus"] or name not in primary["replaced"], "ReplacedEcu", name)
     refuse_unless(name in primary["ecus"], "UnknownEcu", name)
@@ -321,7 +335,8 @@ def check_target(primary: dict[str, Any], images: list[dict[str, Any]],
 # ---- all of it
 
 
-def verify(verifier, now, primary, served):
+def verify(verifier: Verifier, now: int, primary: dict[str, Any],
+           served: dict[str, Any]) -> tuple[dict[str, Any], dict[str, str]]:
     """What the Primary trusts from then on, and the file to install by ECU."""
     director = latest(verifier, "director", now, primary["director"], served["director_roots"])
     versions, targets = check_reply(verifier, now, primary, director, served["reply"])
@@ -342,7 +357,7 @@ def is_old(words: tuple) -> bool:
     return words[0] in ("OldRoot", "ReplacedEcu") or is_expired and words[1] != "root"
 
 
-def behind(trust: dict[str, dict[str, Any]], repository: str, texts: dict[str, Any]) -> list[str]:
+def behind(trust: Trust, repository: str, texts: dict[str, Any]) -> list[str]:
     """The texts of a repository's Roots behind the trusted one, up to the first that is missing."""
     found, number = [], trust["root"]["version"] + 1
     while texts.get("%s/%d.root.json" % (repository, number)) is not None:
@@ -357,16 +372,15 @@ def is_reply(reply: dict[str, Any]) -> bool:
     return has_all and is_count(reply["root"], 1) and is_count(reply["version"], 1)
 
 
-def judged(verifier, now, primary, texts, reply):
+def judged(verifier: Verifier, now: int, primary: dict[str, Any], texts: dict[str, Any],
+           reply: dict[str, Any]) -> tuple[str, dict[str, str] | None, dict[str, Any]]:
     """The verdict on what a vehicle receives, what is due, and what it trusts from then on: Roots
     that were verified stay, whatever came behind them. Of a repository that it needn't have asked,
     where a newer Root would be, that is left open. Behind what is no reply nothing is asked."""
     roots = {it: behind(primary[it], it, texts) for it in ("director", "image")}
     if not is_reply(reply):
         return "refused", None, {
-            it: primary[it]
-            for it in roots if it == "director" or not roots[it]
-        }
+            it: primary[it] for it in roots if it == "director" or not roots[it]}
     files = {role: texts.get("image/%s.json" % role) for role in FILES}
     served = {"director_roots": roots["director"], "image_roots": roots["image"]}
     try:
@@ -384,29 +398,33 @@ def judged(verifier, now, primary, texts, reply):
 # ---- what vectors have
 
 
-def reply_in(text_):
+def reply_in(text_: str) -> dict[str, Any]:
     """A reply's own members, and the text of each file as it stands there."""
     value, decoder, at = value_of(text_), json.JSONDecoder(), text_.index("{") + 1
-    texts, between = {}, re.compile(r"[ \t\n\r,:]*")
-    while text_[at := between.match(text_, at).end()] != "}":
+
+    def past(at: int) -> int:
+        """Where the next name or value begins."""
+        return len(text_) - len(text_[at:].lstrip(" \t\n\r,:"))
+
+    texts, at = {}, past(at)
+    while text_[at] != "}":
         name, at = decoder.raw_decode(text_, at)
-        begins = between.match(text_, at).end()
+        begins = past(at)
         at = decoder.raw_decode(text_, begins)[1]
-        texts[name] = text_[begins:at]
+        texts[name], at = text_[begins:at], past(at)
     return {it: value.get(it) for it in ("vehicle", "root", "version")} | {
-        "files": {role: texts.get(role) for role in FILES}
-    }
+        "files": {role: texts.get(role) for role in FILES}}
 
 
-def state_of(known: dict[str, dict[str, dict[str, Any]]]) -> dict[str, dict[str, int]]:
+def state_of(known: dict[str, Trust]) -> dict[str, dict[str, int]]:
     """What is trusted, as vectors say it: the number of the Root, and the versions."""
     return {
         repository: {"root": trust["root"]["version"], **trust["versions"]}
-        for repository, trust in known.items()
-    }
+        for repository, trust in known.items()}
 
 
-def of_case(method, told, case):
+def of_case(method: str, told: dict[str, Any],
+            case: dict[str, Any]) -> tuple[str, dict[str, str] | None, dict[str, dict[str, int]]]:
     """The verdict on a case of chains, what is due, and the state behind it."""
     texts = told["files of " + case["base"]] | case.get("replace", {})
     verifier = Verifier(method, map(bytes.fromhex, told["vehicle"]["role_keys"].values()))

@@ -7,9 +7,10 @@ Each answer is written here by hand, beside what is wrong with the file.
 promise: brought-root, brought-keys, brought-targets
 """
 import json
-from typing import Any, Iterator
+from collections.abc import Iterator
+from typing import Any
 
-from uptane_tools.oracle.ed25519 import P, decode, public_of, sign
+from uptane_tools.oracle.ed25519 import (P, add, decode, encode, public_of, sign, small_points)
 from uptane_tools.oracle.schemes import key_identifier
 from uptane_tools.rows.ed25519_cases import little, stdin, stdout
 
@@ -72,7 +73,7 @@ def targets(listed: list[dict[str, Any]], version: int = 1,
         "version": version}
 
 
-def hexes(*names):
+def hexes(*names: str) -> str:
     return ",".join(secret(it).hex() for it in names)
 
 
@@ -80,6 +81,9 @@ def shown_rows() -> Iterator[tuple[str, str]]:
     public = public_of(secret("ann")).hex()
     no_point = next(y for y in range(2, 99) if decode(little(y)) is None)
     yield public, public
+    mixed = [encode(add(decode(bytes.fromhex(public)), decode(it))) for it in small_points()[1:]]
+    for text in ("ff" * 32, *(it.hex() for it in small_points() + mixed)):
+        yield text, "none"
     for text in (public.upper(), public[:-1], public[:-2], public + "00", "", "-", "x" * 64,
                  little(no_point).hex(), little(P + 3).hex(), little(1 | 1 << 255).hex()):
         yield text, "none"
@@ -113,6 +117,10 @@ def root_rows() -> Iterator[tuple[str, str]]:
     others = {it: told | {"method": "hmac-sha256"} for it, told in listed.items()}
     for keys in (upper, others):
         yield row(sealed(root(roles, keys=keys), ["ann", "bob"]), "BadShape keys")
+    (name, bob), text = key("bob"), canonical(root(roles))
+    for free in (little(1), little(0)):
+        mended = text.replace(name, key_identifier(free)).replace(bob["public"], free.hex())
+        yield row(sealed(json.loads(mended), ["ann", "eve"]), "BadShape keys")
     yield row(first, "RootFull", last=(64, first))
     yield row(first, "wrong version 3", last=(2, first))
     yield row(sealed(root(roles, 2), ["ann", "bob"]), "wrong version 1")

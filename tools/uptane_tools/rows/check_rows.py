@@ -16,8 +16,9 @@ import socket
 import subprocess
 import sys
 import time
+from collections.abc import Iterator
 from pathlib import Path
-from typing import Iterator
+from typing import Any
 
 from uptane_tools import arguments
 from uptane_tools.rows import computed, expected_files, row_texts, translated
@@ -33,7 +34,7 @@ def read(path: Path) -> str:
     return path.read_text(encoding="ascii")
 
 
-def ran(path, *words, given=""):
+def ran(path: str | Path, *words: Any, given: str = "") -> tuple[int, str]:
     """The status of a program of Python's, and what it prints."""
     done = subprocess.run([sys.executable, path, *words], input=given.encode(), capture_output=True,
                           check=False)
@@ -50,7 +51,7 @@ def scripts() -> Iterator[tuple[str, bool]]:
                 read(script).split("\n")) == wanted
 
 
-def scripts_under_ed25519():
+def scripts_under_ed25519() -> Iterator[tuple[str, bool]]:
     """Each of them under Ed25519, as it stands or translated."""
     for script in sorted([*EXAMPLES.glob("*/script"), *ROWS.glob("*/script")]):
         lines, wanted = translated.under(script.parent, "ed25519")
@@ -92,12 +93,12 @@ def primary() -> Iterator[tuple[str, bool]]:
 
 
 @contextlib.contextmanager
-def served(path):
+def served(path: Path) -> Iterator[int]:
     """The port at which the independent rules answer over HTTP."""
     with socket.socket() as it:
         it.bind(("127.0.0.1", 0))
         port = it.getsockname()[1]
-    words = [sys.executable, trials.RUN, "reference", "serve", path, str(port)]
+    words = [sys.executable, trials.RUN, "reference", "serve", str(path), str(port)]
     with subprocess.Popen(words, stdout=subprocess.DEVNULL, stderr=subprocess.DEVNULL) as running:
         try:
             for _ in range(100):
@@ -127,7 +128,7 @@ def reference() -> Iterator[tuple[str, bool]]:
                     "(?m)^    ", "", shown).strip()
 
 
-def cases():
+def cases() -> Iterator[tuple[str, bool]]:
     gaps = list(expected_files.gaps())
     yield from ((gap, False) for gap in gaps)
     yield "nothing is missing", not gaps

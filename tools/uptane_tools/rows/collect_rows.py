@@ -5,8 +5,9 @@ the first row, and those that are wrong on purpose.
 """
 import json
 import sqlite3
+from collections.abc import Iterator
 from pathlib import Path
-from typing import Any, Iterator
+from typing import Any
 from uptane_tools import TOP
 from uptane_tools.oracle import reference
 from uptane_tools.trial import each_line
@@ -50,7 +51,7 @@ class Row:
     printed and the text of its reply.
     """
 
-    def __init__(self, name: str, method: str, steps: list[tuple[str, str, str]]) -> None:
+    def __init__(self, name: str, method: str, steps: Any) -> None:
         self.name, self.method, self.steps = name, method, steps
 
     def given(self) -> str:
@@ -81,7 +82,7 @@ def row_of(folder: Path) -> Row:
     return Row(folder.name, (lines_of(folder / "under") or ["hmac-sha256"])[0], steps)
 
 
-def row_of_section(words, rows):
+def row_of_section(words: str, rows: list[tuple[str, str | None, str | None]]) -> Row:
     """The lines of a section. A body that is no text is none, and is left out."""
     desk, steps = each_line.Desk(), []
     for given, text, wanted in rows:

@@ -9,8 +9,8 @@ the first alone.
 Each program has to tell what is computed with them.
 """
 import subprocess
+from collections.abc import Callable, Iterator
 from pathlib import Path
-from typing import Callable, Iterator
 
 from uptane_tools import TOP, arguments
 from uptane_tools.rows import (brought_cases, cases, collect_rows, ed25519_cases, expected_stops,

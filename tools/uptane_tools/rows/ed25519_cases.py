@@ -17,11 +17,13 @@ promise: ed25519-laws, ed25519-sign, ed25519-verify
 """
 import random
 import subprocess
+from collections.abc import Iterator
 from typing import Any
 
 from uptane_tools import arguments
-from uptane_tools.oracle.ed25519 import (BASE, ORDER, P, add, decode, digest, encode, multiple,
-                                         number, public_of, sign, vectors, verify)
+from uptane_tools.oracle.ed25519 import (BASE, ORDER, P, add, decode, digest, encode, is_public,
+                                         multiple, number, public_of, sign, small_points, vectors,
+                                         verify)
 
 
 def little(count: int) -> bytes:
@@ -33,10 +35,10 @@ def turned(data: bytes, at: int, bit: int = 1) -> bytes:
 
 
 def key_row(data: bytes) -> str:
-    fits = "true" if len(data) == 32 else "false"
+    fits, is_key = ("true" if it else "false" for it in (len(data) == 32, is_public(data)))
     public = public_of(data).hex() if len(data) == 32 else "none"
     shown = data.hex() if len(data) == 32 else ""
-    return (f"{data.hex()} => ed25519: secret {fits}, public {fits}, its public key {public}, "
+    return (f"{data.hex()} => ed25519: secret {fits}, public {is_key}, its public key {public}, "
             f"shown as [{shown}]")
 
 
@@ -49,7 +51,8 @@ def verified_row(public: bytes, message: bytes, signature: bytes) -> str:
     return f"{public.hex()} x{message.hex()} {signature.hex()} => {answer}"
 
 
-def changed(public, message, signature):
+def changed(public: bytes, message: bytes,
+            signature: bytes) -> Iterator[tuple[bytes, bytes, bytes]]:
     """Each byte of R, S, A and M changed in turn, by a bit that goes on."""
     for at in range(64):
         yield public, message, turned(signature, at, 1 << at % 8)
@@ -59,7 +62,7 @@ def changed(public, message, signature):
         yield public, turned(message, at, 1 << at % 8), signature
 
 
-def sizes(public, message, signature):
+def sizes(public: bytes, message: bytes, signature: bytes) -> Iterator[tuple[bytes, bytes, bytes]]:
     yield public, message, signature[:63]
     yield public, message, signature + b"\0"
     yield public, message, b""
@@ -70,7 +73,7 @@ def sizes(public, message, signature):
     yield public, message, signature[32:] + signature[:32]
 
 
-def later(public, message, signature):
+def later(public: bytes, message: bytes, signature: bytes) -> Iterator[tuple[bytes, bytes, bytes]]:
     """S and the order, as often as 256 bits allow, and S with high bits."""
     s = number(signature[32:])
     for more in range(ORDER, 2**256 - s, ORDER):
@@ -79,24 +82,14 @@ def later(public, message, signature):
         yield public, message, signature[:32] + little(s | 1 << bit)
 
 
-def small_points():
-    """The eight points of small order, encoded."""
-    for y in range(2, 99):
-        point = decode(little(y))
-        if point is not None:
-            points = [encode(multiple(count, multiple(ORDER, point))) for count in range(8)]
-            if len(set(points)) == 8:
-                return points
-
-
-def small(message):
+def small(message: bytes) -> Iterator[tuple[bytes, bytes, bytes]]:
     """Signatures with S = 0 under keys of small order, by R of small order."""
     for public in small_points():
         for first in small_points():
             yield public, message, first + little(0)
 
 
-def mixed(secret, message):
+def mixed(secret: bytes, message: bytes) -> Iterator[tuple[bytes, bytes, bytes]]:
     """Signatures by keys and nonces with a part of small order, made as the equation asks, and
     without the part.
     """
@@ -115,7 +108,7 @@ def mixed(secret, message):
         yield plain, message, nonce + little((7 + k * scalar) % ORDER)
 
 
-def unwritten(message, signature):
+def unwritten(message: bytes, signature: bytes) -> Iterator[tuple[bytes, bytes, bytes]]:
     """Keys and R that write no point or aren't in their least form: y from 2^255 - 19 on, x = 0
     with its sign, no root.
     """
@@ -128,12 +121,21 @@ def unwritten(message, signature):
         yield little(1), message, data + signature[32:]
 
 
+def keys(public: bytes) -> list[bytes]:
+    """Bytes that are no public key, and some that are: of wrong sizes; points of small order, in
+    their encoding and in others; a key with each of them added; no point.
+    """
+    wrong = [b"", b"\x07" * 31, b"\x07" * 33, b"\0" * 32, b"\xff" * 32, *small_points()]
+    wrong += [encode(add(decode(public), decode(it))) for it in small_points()]
+    wrong += [little(y | sign << 255) for y in range(P, 2**255) for sign in (0, 1)]
+    return wrong + [little(it | 1 << 255) for it in (1, P - 1)] + [little(y) for y in range(2, 30)]
+
+
 def sections() -> Any:
     known = vectors()
     secrets = [vector[0] for vector in known]
-    yield "key", [
-        key_row(data)
-        for data in secrets + [b"", b"\x07" * 31, b"\x07" * 33, b"\0" * 32, b"\xff" * 32]]
+    publics = [vector[1] for vector in known]
+    yield "key", [key_row(data) for data in secrets + publics + keys(publics[0])]
     messages = [
         b"\0" * length for length in (0, 1, 47, 48, 63, 64, 79, 80, 111, 112, 127, 128, 239, 240)]
     yield "signature", [signature_row(vector[0], vector[2]) for vector in known] + [
@@ -191,7 +193,7 @@ def cached_sections() -> list[tuple[str, list[str]]]:
             ("verified", [row for it in plain["verified"] for row in (it, it)])]
 
 
-def drawn(word, count):
+def drawn(word: str, count: int) -> list[tuple[str, list[str]]]:
     draw = random.Random(word)
     signatures, checks, keys = [], [], []
     for _ in range(count):

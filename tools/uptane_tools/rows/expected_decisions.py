@@ -11,16 +11,17 @@ import hashlib
 import hmac
 import json
 import re
+from typing import Any
 
 from uptane_tools import arguments
 from uptane_tools.rows import cases
 
 
-def H(b):
+def H(b: bytes) -> str:
     return hashlib.sha256(b).hexdigest()
 
 
-def canon(v):
+def canon(v: dict[str, Any] | list[dict[str, str]]) -> str:
     return json.dumps(v, sort_keys=True, separators=(",", ":"))
 
 
@@ -38,22 +39,22 @@ class Hashed:
     sign = staticmethod(lambda k, m: H(hashlib.sha256(b"public " + k).digest() + m))
 
 
-def keyid(s, k):
+def keyid(s: Any, k: bytes) -> str:
     return hmac.new(s.public(k), b"uptane-key-id", hashlib.sha256).hexdigest()
 
 
-def seal(s, keys, payload):
+def seal(s: Any, keys: list[bytes], payload: dict[str, Any]) -> str:
     p = canon(payload)
     return '{"signatures":' + canon([{
         "keyid": keyid(s, k), "method": s.method, "sig": s.sign(k, p.encode())}
                                      for k in keys]) + ',"signed":' + p + '}'
 
 
-def time(t):
+def time(t: int) -> str:
     return datetime.datetime.fromtimestamp(t, datetime.timezone.utc).strftime("%Y-%m-%dT%H:%M:%SZ")
 
 
-def K(b):
+def K(b: Any) -> bytes:
     return bytes([b]) * 32
 
 
@@ -62,18 +63,19 @@ T0 = 1767225600
 MOST = 2**53 - 1
 
 
-def roles(first):
+def roles(first: int) -> dict[str, tuple[list[bytes], int]]:
     return {
         r: ([K(first + i)], 1) for i, r in enumerate(["root", "targets", "snapshot", "timestamp"])}
 
 
-def keyset(first):
+def keyset(first: int) -> dict[str, Any]:
     return {"director": roles(first), "image": roles(first + 4)}
 
 
-def root(s, repo, n, keys, at, before=None):
+def root(s: Any, repo: str, n: int, keys: dict[str, Any], at: int,
+         before: dict[str, Any] | None = None) -> str:
     ks = keys[repo]
-    payload = {
+    payload: Any = {
         "expires": time(at + 365 * DAY), "keys": {}, "repository": repo, "roles": {},
         "type": "root", "version": n}
     for r, (secrets, t) in ks.items():
@@ -89,7 +91,8 @@ def root(s, repo, n, keys, at, before=None):
 LIFE = {"director": (7, 7, 7), "image": (90, 30, 1)}
 
 
-def three(s, repo, keys, version, at, targets, vehicle=None):
+def three(s: Any, repo: str, keys: dict[str, Any], version: int, at: int,
+          targets: list[dict[str, Any]], vehicle: str | None = None) -> tuple[str, str, str]:
     ks = keys[repo]
     a, b, c = LIFE[repo]
     v = {"vehicle": vehicle} if vehicle else {}
@@ -109,28 +112,31 @@ def three(s, repo, keys, version, at, targets, vehicle=None):
     return t, sn, ts
 
 
-def SECOND(text):
+def SECOND(text: str) -> dict[str, str]:
     return {"sha512": hashlib.sha512(text.encode()).hexdigest()}
 
 
-def target(file, content, hardware, release, ecu=None, second={}):
+def target(file: str, content: Any, hardware: list[str], release: int, ecu: str | None = None,
+           second: dict[str, str] = {}) -> dict[str, Any]:
     hashes = {"sha256": H(content.encode()), **second}
     return {
         "file": file, "hardware": hardware, "hashes": hashes, "length": len(content),
         "release": release, **({"ecu": ecu} if ecu else {})}
 
 
-def reply(s, keys, rootn, vehicle, version, at, targets):
+def reply(s: Any, keys: dict[str, Any], rootn: int, vehicle: str, version: int, at: int,
+          targets: list[dict[str, Any]]) -> str:
     t, sn, ts = three(s, "director", keys, version, at, targets, vehicle)
     return '{"root":%d,"snapshot":%s,"targets":%s,"timestamp":%s,"vehicle":"%s","version":%d}' % (
         rootn, sn, t, ts, vehicle, version)
 
 
-def digest(*texts):
+def digest(*texts: str) -> str:
     return H("".join(t + "\n" for t in texts).encode())
 
 
-def founded(s, n, version, at, keys, before=None):
+def founded(s: Any, n: int, version: int, at: int, keys: dict[str, Any],
+            before: dict[str, Any] | None = None) -> str:
     """A founding, or a rotation: the row, and a digest of both Root files and the image
     repository's three.
     """
@@ -139,12 +145,12 @@ def founded(s, n, version, at, keys, before=None):
     return f"root {n} version {version} at {at} {digest(*files)}"
 
 
-def registered_of(number, s):
+def registered_of(number: int, s: Any) -> str:
     """So many images, each registered by itself."""
     return registered(s, number + 1, T0, IMAGES[:number])
 
 
-def registered(s, version, at, images):
+def registered(s: Any, version: int, at: int, images: list[dict[str, Any]]) -> str:
     """A new image, or a refresh: the row, and a digest of the image repository's three files."""
     images = sorted(images, key=lambda t: t["file"])
     return (f"root 1 version {version} at {at} "
@@ -152,12 +158,13 @@ def registered(s, version, at, images):
 
 
 # what an ECU may report: a text, and its hashes
-CONTENTS = {
+CONTENTS: dict[str, tuple[str, dict[str, str]]] = {
     "empty": ("", {}), "abc": ("abc", {}), "both": ("abc", SECOND("abc")), "unlike": ("abc",
                                                                                       SECOND(""))}
 
 
-def report(s, ecu, byte, counter, file, content="empty"):
+def report(s: Any, ecu: Any, byte: Any, counter: Any, file: str,
+           content: str = "empty") -> dict[str, Any]:
     text, second = CONTENTS[content]
     image = {"file": file, "hashes": {"sha256": H(text.encode()), **second}, "length": len(text)}
     return {
@@ -165,12 +172,13 @@ def report(s, ecu, byte, counter, file, content="empty"):
         "type": "report"}
 
 
-def vehicle(s, name, number, last, ecus):
+def vehicle(s: Any, name: str, number: int, last: int, ecus: Any) -> str:
     """A vehicle's row, and a digest of those of its ECUs (name, hardware, key), each with its
     last report (counter, file) where there is one.
     """
 
-    def line(e, h, b, counter=None, file="none", content="empty"):
+    def line(e: Any, h: str, b: int, counter: int | None = None, file: str = "none",
+             content: str = "empty") -> str:
         installed = "+".join([file, *CONTENTS[content][1].values()])
         return (
             f"{e} {h} {s.public(K(b)).hex()} {counter or 0} {installed} "
@@ -180,7 +188,10 @@ def vehicle(s, name, number, last, ecus):
             f"{digest(''.join(line(*e) for e in ecus))}")
 
 
-def accepted(s, name, n, at, ecus, plan, image=("a7.bin", "abc", ["HS"], 7, {})):
+def accepted(
+    s: Any, name: str, n: int, at: int, ecus: Any, plan: list[str],
+    image: tuple[str, str, list[str], int, dict[str, str]] = ("a7.bin", "abc", ["HS"], 7, {})
+) -> str:
     """The vehicle after its n-th manifest, which has the counter n, by these reports of its
     ECUs, and the kept row.
     """
@@ -201,7 +212,7 @@ V2_AFTER = [("P2", "HP", 68, 1, "factory.bin"), ("S3", "HS", 119),
 V2_REPORTED = [V2_AFTER[0], ("S3", "HS", 119, 0, "factory.bin"), V2_AFTER[2]]
 
 
-def factory(ecus):
+def factory(ecus: list[tuple[str, str, int]]) -> list[tuple[str, str, int, int, str]]:
     return [(*e, 1, "factory.bin") for e in ecus]
 
 
@@ -214,7 +225,7 @@ A_BOTH, Z_ONE = target("a.bin", "abc", ["HS"], 2, second=SECOND("abc")), target(
     "z.bin", "", ["HS"], 1)
 
 
-def by_second_hash(s, n, report, plan):
+def by_second_hash(s: Any, n: int, report: list[str], plan: list[str]) -> str:
     """The n-th manifest of V2, by this report of its Secondary, where the image `a.bin` has both
     hashes.
     """
@@ -222,13 +233,13 @@ def by_second_hash(s, n, report, plan):
                     ("a.bin", "abc", ["HS"], 2, SECOND("abc")))
 
 
-def one_role(keys, threshold):
+def one_role(keys: list[int], threshold: int) -> dict[str, Any]:
     some = keyset(1)
     some["image"]["snapshot"] = ([K(b) for b in keys], threshold)
     return some
 
 
-def two_root_keys(first, keys, threshold):
+def two_root_keys(first: int, keys: list[int], threshold: int) -> dict[str, Any]:
     some = keyset(first)
     some["director"]["root"] = ([K(b) for b in keys], threshold)
     return some
@@ -268,7 +279,7 @@ EXPECTED = {
     "manifest_of_32": lambda s: accepted(s, "V32", 1, T0, factory(V32), [e for e, h, b in V32[1:]])}
 
 
-def both(name):
+def both(name: str) -> str:
     one, other = EXPECTED[name](Hmac), EXPECTED[name](Hashed)
     return one if one == other else f"{one} / {other}"
 

@@ -3,8 +3,8 @@
     tools/run expected_files       tells it
 """
 import re
+from collections.abc import Iterator
 from pathlib import Path
-from typing import Iterator
 
 from uptane_tools import TOP, arguments
 from uptane_tools.rows import row_texts
@@ -41,7 +41,7 @@ def listed(page: Path) -> set[str]:
     return set(re.findall(r"^\| `(\w+)/?` \|", page.read_text(encoding="utf-8"), re.MULTILINE))
 
 
-def apart(what, wanted, there):
+def apart(what: str, wanted: set[str], there: set[str]) -> Iterator[str]:
     """A line for each name that stands in one of two sets alone."""
     yield from ("%s: %s is missing" % (what, name) for name in sorted(wanted - there))
     yield from ("%s: nothing speaks of %s" % (what, name) for name in sorted(there - wanted))
@@ -51,7 +51,7 @@ def lines(path: Path) -> list[str]:
     return path.read_text(encoding="ascii").split("\n")[:-1]
 
 
-def row_gaps(folder):
+def row_gaps(folder: Path) -> Iterator[str]:
     """What a row lacks: files, printed lines, texts of replies."""
     what = "rows/" + folder.name
     if not ROW <= names(folder):
@@ -68,7 +68,7 @@ def row_gaps(folder):
                          any(line.startswith("file ") for line in printed))
 
 
-def text_gaps(row, has_replies, has_files):
+def text_gaps(row: str, has_replies: bool, has_files: bool) -> Iterator[str]:
     """Whether the texts of a row are computed from the formats."""
     if has_replies != (row in row_texts.REPLIES):
         yield "row_texts: the replies of %s" % row

@@ -26,7 +26,7 @@ def bench(counter: int) -> str:
 LINES = [expected_streams.FOUND, expected_streams.VEHICLE, bench(1), bench(2)]
 
 
-def answers(lines):
+def answers(lines: list[str]) -> list[str]:
     """What each line is answered, with the text of a reply behind its line."""
     desk = each_line.Desk()
     return [desk.answer(it.encode()).replace("\n", " ") for it in lines]
@@ -47,10 +47,11 @@ def steps() -> list[tuple]:
     return found + [("version V1", "2"), ("installed P1", "factory.bin 0 " + row_texts.NOTHING)]
 
 
-def wrong(steps, row, **other):
+def wrong(steps: list[tuple[str, ...]], row: int,
+          **other: str) -> tuple[list[tuple[str, ...]], str]:
     """The steps with another answer to one row, and what is told of it."""
     changed = list(steps)
-    asked, first, again = (*steps[row - 1], None)[:3]
+    asked, first, again = (*steps[row - 1], "")[:3]
     changed[row - 1] = (asked, other.get("first",
                                          first), *([other.get("again", again)] if again else []))
     return changed, "row %d is answered %s" % (row, again if "again" in other else first)

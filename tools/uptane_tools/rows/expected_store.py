@@ -13,6 +13,8 @@ rows that are put in as the page on tables has them. Once it is taken it has to 
 as a created database answers it.
 """
 import json
+from collections.abc import Iterator
+from typing import Any
 
 from uptane_tools import arguments
 from uptane_tools.rows import cases
@@ -122,7 +124,7 @@ ONE_HASH, OTHER_HASH = "5c" * 64, "c5" * 32 + "0a" * 32
 HARDWARE = {"b-v": "hw", "a-v": "hv", "a-x": "hz"}
 
 
-def report(ecu, counter, file, sha256, second=""):
+def report(ecu: str, counter: int, file: str, sha256: str, second: str = "") -> str:
     """The signed text of an ECU's report. In the file's hashes stands `second` behind the first
     one.
     """
@@ -131,11 +133,12 @@ def report(ecu, counter, file, sha256, second=""):
             '"time":"2026-01-01T00:00:00Z","type":"report"}')
 
 
-def member(digits):
+def member(digits: str) -> str:
     return f',"sha512":"{digits}"'
 
 
-def told(ecu, key, file, sha256, counter, second, hash=None):
+def told(ecu: str, key: str, file: str, sha256: str, counter: int, second: str,
+         hash: str | None = None) -> str:
     """An ECU's row after a report: the second hash is the one that the report's text has, in
     lower case.
     """
@@ -181,7 +184,7 @@ SECOND_HASH_READS = ["image a.bin", "image b.bin", "image c.bin", "image d.bin",
 FEW_READS = ["founding", "image x/y.bin", "ecus v", "kept v 3", "latest v"]
 
 
-def spelled(write):
+def spelled(write: tuple[Any, ...]) -> str:
     word, *rest = write
     if word in ("found", "rotate"):
         root, version, stamp, director, image, texts = rest
@@ -200,17 +203,18 @@ def spelled(write):
 
 class State:
 
-    def __init__(self):
+    def __init__(self) -> None:
         self.founding = "none"
-        self.files, self.images, self.campaigns = {}, {}, {}
-        self.vehicles, self.ecus, self.kept = {}, {}, {}
-        self.retired = {}
+        self.files, self.images, self.campaigns = dict[Any, Any](), dict[Any, Any](), dict[Any,
+                                                                                           Any]()
+        self.vehicles, self.ecus, self.kept = dict[Any, Any](), dict[Any, Any](), dict[Any, Any]()
+        self.retired = dict[Any, Any]()
 
-    def texts(self, texts):
+    def texts(self, texts: str) -> None:
         for name, text in zip(("targets", "snapshot", "timestamp"), texts.split()):
             self.files["image", f"{name}.json"] = text
 
-    def write(self, word, *rest):
+    def write(self, word: Any, *rest: Any) -> None:
         if word in ("found", "rotate"):
             root, version, stamp, director, image, texts = rest
             for repository, text in (("director", director), ("image", image)):
@@ -235,21 +239,21 @@ class State:
             self.founding = f"{root} {version} {stamp} {KEYS[root]}"
             self.texts(texts)
 
-    def replace(self, vehicle, old, ecu, hardware, key):
+    def replace(self, vehicle: str, old: str, ecu: str, hardware: str, key: str) -> None:
         new = f"{ecu} {hardware} {key} - 0 -"
         self.ecus[vehicle] = [new if row.split()[0] == old else row for row in self.ecus[vehicle]]
         self.retired[old] = vehicle
 
-    def running(self):
+    def running(self) -> list[str]:
         return [row for _, row in sorted(self.campaigns.items()) if row.split()[3] == "runs"]
 
-    def reaching(self, vehicle):
+    def reaching(self, vehicle: str) -> Iterator[str]:
         for row in self.running():
             reach = row.split()[1]
             if reach == "*" or vehicle in reach.split(","):
                 yield row
 
-    def read(self, word, *rest):
+    def read(self, word: str, *rest: str) -> str:
         if word == "founding":
             return self.founding
         if word == "founded":
@@ -275,15 +279,15 @@ class State:
         return {"image": self.images, "campaign": self.campaigns,
                 "vehicle": self.vehicles}[word].get(rest[0], "none")
 
-    def second_hashes(self):
+    def second_hashes(self) -> Iterator[tuple[str, str]]:
         """The images that have one, in the order in which they were put in, each with it."""
         for file, row in self.images.items():
             if "+" in row:
                 yield file, row.split()[2].split("+")[1]
 
-    def inserts(self, schema):
+    def inserts(self, schema: int) -> list[str]:
         """The statements that put these rows into tables of a schema."""
-        root, version, stamp = self.founding.split()[:3] if self.founding != "none" else (0, 0, 0)
+        root, version, stamp = (self.founding if self.founding != "none" else "0 0 0").split()[:3]
         rows = {
             "meta": [f"1, 'uptane_desk', {schema}, {root}, {version}, {stamp}"], "role_key": [
                 row for last in range(1,
@@ -306,15 +310,15 @@ class State:
 # ---- columns
 
 
-def text_of(value):
+def text_of(value: Any) -> str:
     return "'" + json.dumps(value, separators=(",", ":"), sort_keys=True) + "'"
 
 
-def listed(words):
+def listed(words: str) -> list[str]:
     return [] if words == "-" else words.split(",")
 
 
-def role_keys(root):
+def role_keys(root: int) -> Iterator[str]:
     for repository, roles in zip(("director", "image"), KEYS[root].split()):
         for role, keys in zip(("root", "targets", "snapshot", "timestamp"), roles.split(";")):
             secrets, threshold = keys.split("/")
@@ -322,7 +326,8 @@ def role_keys(root):
                 yield f"{root}, '{repository}', '{role}', {place}, x'{secret}', {threshold}"
 
 
-def image_columns(file, length, sha256, hardware, release, needs, conflicts):
+def image_columns(file: str, length: str, sha256: str, hardware: str, release: str, needs: Any,
+                  conflicts: str) -> str:
     needs = [
         dict(zip(("hardware", "release"), (need.split(":")[0], int(need.split(":")[1]))))
         for need in listed(needs)]
@@ -330,17 +335,19 @@ def image_columns(file, length, sha256, hardware, release, needs, conflicts):
             f"{release}, {text_of(needs)}, {text_of(listed(conflicts))}")
 
 
-def campaign_columns(name, reach, items, state):
+def campaign_columns(name: str, reach: Any, items: Any, state: str) -> str:
     items = [dict(zip(("hardware", "file"), item.split(":"))) for item in listed(items)]
     reach = "all" if reach == "*" else listed(reach)
     return f"'{name}', {text_of(reach)}, {text_of(items)}, {int(state == 'runs')}"
 
 
-def vehicle_columns(vehicle, primary, version, last):
+def vehicle_columns(vehicle: str, primary: str, version: str, last: str) -> str:
     return f"'{vehicle}', '{primary}', {version}, {last}"
 
 
-def ecu_columns(vehicle, place, ecu, hardware, public, installed, counter, report):
+def ecu_columns(vehicle: str, place: int, ecu: str, hardware: str, public: str, installed: str,
+                counter: str, report: str) -> str:
+    sha256: Any
     file, length, sha256 = installed.split(":") if installed != "-" else (None, "NULL", None)
     file, sha256 = (f"'{file}'", f"x'{sha256.split('+')[0]}'") if file else ("NULL", "NULL")
     report = "NULL" if report == "-" else f"'{report}'"
@@ -348,16 +355,19 @@ def ecu_columns(vehicle, place, ecu, hardware, public, installed, counter, repor
             f" {counter}, {report}")
 
 
-def kept_columns(vehicle, counter, version, moment, root, signed, plan, reply):
+def kept_columns(vehicle: str, counter: str, version: str, moment: str, root: str, signed: str,
+                 plan: str, reply: str) -> str:
+    assigned: Any
     assigned, cause = plan.split("!")
     assigned = [dict(zip(("ecu", "file"), pair.split("="))) for pair in listed(assigned)]
-    ecu, kind, what = cause.split("=") if cause != "-" else (None, None, None)
+    ecu, kind, what = cause.split("=") if cause != "-" else ("", "", "")
     withheld = {"ecu": ecu, {"needs": "hardware", "conflicts": "file"}[kind]: what} if ecu else None
     plan = text_of({"assigned": assigned, "withheld": withheld})
     return f"'{vehicle}', {counter}, {version}, {moment}, {root}, '{signed}', {plan}, '{reply}'"
 
 
-def section(name, writes, refused, reads):
+def section(name: str, writes: list[tuple[Any, ...]], refused: list[tuple[Any, ...]],
+            reads: list[str]) -> str:
     state = State()
     rows = ["ask SELECT name FROM sqlite_schema => rows", "create => done"]
     for write, answer in [(None, None)] + [(write, "done") for write in writes] + [
@@ -370,11 +380,11 @@ def section(name, writes, refused, reads):
     return name + "\n" + "\n".join(rows) + "\n"
 
 
-def rows_text(rows):
+def rows_text(rows: Any) -> str:
     return "rows" + "".join(" ; " + " ".join(str(column) for column in row) for row in rows)
 
 
-def asked(state, schema):
+def asked(state: State, schema: int) -> list[str]:
     """Questions to the database itself, in this schema, about its tables and the texts that are
     kept.
     """
@@ -391,7 +401,8 @@ def asked(state, schema):
                                    if schema > 2 else [])
 
 
-def older(name, schema, writes, further, reads):
+def older(name: str, schema: int, writes: list[tuple[Any, ...]], further: list[tuple[Any, ...]],
+          reads: list[str]) -> str:
     """A database of an older schema in which the rows of these writes stand, before and after it
     is taken.
     """
@@ -416,7 +427,7 @@ def older(name, schema, writes, further, reads):
     return name + "\n" + "\n".join(rows) + "\n"
 
 
-def second_hashes():
+def second_hashes() -> str:
     """Images and reports with a second hash and without, and what the database has of them."""
     state = State()
     for write in SECOND_HASHES:
@@ -427,7 +438,7 @@ def second_hashes():
                    SECOND_HASH_READS) + "\n".join(rows) + "\n"
 
 
-def of_both(write):
+def of_both(write: tuple[Any, ...]) -> tuple[Any, ...]:
     """The write with a second hash, where it puts in an image or a report."""
     if write[0] == "image":
         return write[:1] + (write[1].replace(FIVE, f"{FIVE}+{ONE_HASH}"), *write[2:])
@@ -438,7 +449,7 @@ def of_both(write):
     return write
 
 
-def damaged():
+def damaged() -> str:
     """A second hash that no call of this product writes."""
     state = State()
     rows = ["create => done"]
@@ -463,7 +474,7 @@ def damaged():
     return "damaged second hashes\n" + "\n".join(rows) + "\n"
 
 
-def older_reports(name, schema):
+def older_reports(name: str, schema: int) -> str:
     """A database of an older schema with reports whose texts have second hashes, which that
     schema knew nothing of.
     """
@@ -482,7 +493,7 @@ def older_reports(name, schema):
         "latest v"])
 
 
-def computed():
+def computed() -> list[str]:
     once = {
         write[0]: write for write in reversed(WRITES)
         if write[-1] != "some v,w hw:x/y.bin,hv:a.bin runs"}

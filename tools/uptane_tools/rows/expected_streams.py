@@ -4,7 +4,8 @@ crate `up_test_service`, whose input has the short ones. In a case `|` stands fo
 of HTTP, `\\n` for that of a script.
 """
 import json
-from typing import Any, Iterator
+from collections.abc import Iterator
+from typing import Any
 
 from uptane_tools import TOP
 from uptane_tools.rows import row_texts
@@ -101,7 +102,7 @@ FILES = {
     "director": ["root", "1.root"], "image": ["root", "1.root", "targets", "snapshot", "timestamp"]}
 
 
-def get(repository: str, name: str) -> str:
+def get(repository: str, name: Any) -> str:
     return "GET /%s/%s.json HTTP/1.1|Host: d||" % (repository, name)
 
 

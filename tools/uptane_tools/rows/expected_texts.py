@@ -10,6 +10,8 @@ import hashlib
 import hmac
 import json
 import re
+from collections.abc import Iterator
+from typing import Any
 
 from uptane_tools import arguments
 from uptane_tools.rows import cases
@@ -18,19 +20,19 @@ UTC = datetime.timezone.utc
 FORM = "%Y-%m-%dT%H:%M:%SZ"
 
 
-def time(second):
+def time(second: int) -> str:
     return datetime.datetime.fromtimestamp(second, UTC).strftime(FORM)
 
 
-def second(text):
+def second(text: str) -> int:
     return int(datetime.datetime.strptime(text, FORM).replace(tzinfo=UTC).timestamp())
 
 
-def canon(value):
+def canon(value: Any) -> str:
     return json.dumps(value, sort_keys=True, separators=(",", ":"))
 
 
-def by_hmac(key, message):
+def by_hmac(key: bytes, message: bytes) -> str:
     return hmac.new(key, message, hashlib.sha256).hexdigest()
 
 
@@ -52,31 +54,31 @@ class Hashed:
 SCHEMES = {"hmac-sha256": Hmac, "sha256-tag": Hashed}
 
 
-def key_of(word):
+def key_of(word: str) -> bytes:
     return bytes.fromhex(word[:-1] * 32 if word.endswith("*") else word)
 
 
-def keyid(public):
+def keyid(public: bytes) -> str:
     return by_hmac(public, b"uptane-key-id")
 
 
-def seal(scheme, keys, text):
+def seal(scheme: Any, keys: list[bytes], text: str) -> str:
     signatures = [{
         "keyid": keyid(scheme.public(k)), "method": scheme.method, "sig": scheme.sign(
             k, text.encode())} for k in keys]
     return '{"signatures":%s,"signed":%s}' % (canon(signatures), text)
 
 
-def valid(scheme, public, signature, message):
+def valid(scheme: Any, public: bytes, signature: str, message: bytes) -> bool:
     wanted = by_hmac(public, message) if scheme is Hmac else hashlib.sha256(public +
                                                                             message).hexdigest()
     return signature == wanted
 
 
-def accepted(scheme, publics, threshold, envelope):
+def accepted(scheme: Any, publics: list[bytes], threshold: int, envelope: dict[str, Any]) -> bool:
     text = canon(envelope["signed"]).encode()
 
-    def signed(public, s):
+    def signed(public: bytes, s: dict[str, str]) -> bool:
         return s["keyid"] == keyid(public) and s["method"] == scheme.method and valid(
             scheme, public, s["sig"], text)
 
@@ -87,25 +89,25 @@ def accepted(scheme, publics, threshold, envelope):
 LOWER, EITHER = r"[0-9a-f]{128}", r"[0-9A-Fa-f]{128}"
 
 
-def second_hash(hashes, digits):
+def second_hash(hashes: dict[str, Any], digits: str) -> str | None:
     """The second hash among the hashes, none where it hasn't 128 such digits."""
     hash = hashes.get("sha512")
     return hash.lower() if isinstance(hash, str) and re.fullmatch(digits, hash) else None
 
 
-def hash_words(hashes, digits):
+def hash_words(hashes: dict[str, Any], digits: str) -> str:
     second = second_hash(hashes, digits)
     return hashes["sha256"].lower() + ("+" + second if second else "")
 
 
-def known_target(target):
+def known_target(target: dict[str, Any]) -> dict[str, Any]:
     """The members of a target that its format has, and the hashes that are hashes."""
     second = second_hash(target["hashes"], LOWER)
     return target | {
         "hashes": {"sha256": target["hashes"]["sha256"]} | ({"sha512": second} if second else {})}
 
 
-def known(v):
+def known(v: dict[str, Any]) -> dict[str, Any]:
     """The members of a payload that its format has."""
     v = {name: value for name, value in v.items() if name != "more"}
     v.update({"targets": [known_target(t) for t in v["targets"]]} if "targets" in v else {})
@@ -116,7 +118,7 @@ def known(v):
     return v
 
 
-def file_fields(v):
+def file_fields(v: dict[str, Any]) -> str:
     director = v["repository"] == "director"
     out = "%s %d %d %s" % (v["repository"], v["version"], second(
         v["expires"]), v["vehicle"] if director and v["type"] != "root" else "none")
@@ -137,7 +139,7 @@ def file_fields(v):
     return out
 
 
-def role_file(scheme, given):
+def role_file(scheme: Any, given: str) -> str:
     words, body = given.split(" ", 1)
     envelope = json.loads(body)
     v, text = envelope["signed"], seal(scheme, [key_of(w) for w in words.split(",")],
@@ -147,7 +149,7 @@ def role_file(scheme, given):
     return file_fields(v) + (", signed anew" if known(v) == v else ", written " + text)
 
 
-def manifest(body):
+def manifest(body: str) -> str:
     v = json.loads(body)["signed"]
     out = "%s %s %d" % (v["vehicle"], v["primary"], v["counter"])
     for r in (envelope["signed"] for envelope in v["reports"]):
@@ -158,20 +160,20 @@ def manifest(body):
     return out
 
 
-def member_hash(given):
+def member_hash(given: str) -> str:
     """The second hash of an object, where another member counts as none, and where it is a fault.
     """
     hash = second_hash(json.loads(given), EITHER)
     return "%s, wanted %s" % (hash or "none", hash or "sha512")
 
 
-def report_hash(text):
+def report_hash(text: str) -> str:
     """The second hash in a report's signed text, which is canonical."""
     value = json.loads(text)
     return canon(value) == text and second_hash(value["image"]["hashes"], EITHER) or "none"
 
 
-def built(scheme, given):
+def built(scheme: Any, given: str) -> str:
     word, body = given.split(" ", 1)
     key, v = key_of(word), json.loads(body)
     v["signed"]["reports"] = [
@@ -180,37 +182,37 @@ def built(scheme, given):
         v["signed"])) == body else "another body"
 
 
-def key_fields(scheme, word):
+def key_fields(scheme: Any, word: str) -> str:
     key = key_of(word)
     told = (scheme.method, scheme.fits(key), len(key) == 32, scheme.public(key).hex(), scheme.shown)
     return "%s: secret %s, public %s, its public part %s, shown as [%s]" % tuple(
         str(t).lower() if isinstance(t, bool) else t for t in told)
 
 
-def sealed(scheme, given):
+def sealed(scheme: Any, given: str) -> str:
     words, text = given.split(" ", 1)
     return seal(scheme, [key_of(word) for word in words.split(",")], text)
 
 
-def verified(scheme, given):
+def verified(scheme: Any, given: str) -> str:
     public, signature, message = given.split(" ", 2)
     return str(valid(scheme, key_of(public), signature, message.encode())).lower()
 
 
-def is_accepted(scheme, given):
+def is_accepted(scheme: Any, given: str) -> str:
     words, threshold, envelope = given.split(" ", 2)
     return str(
         accepted(scheme, [key_of(w) for w in words.split(",")], int(threshold),
                  json.loads(envelope))).lower()
 
 
-def envelope_fields(given):
+def envelope_fields(given: str) -> str:
     v = json.loads(given)
     return "".join("%s by %s: %s; " % (s["keyid"], s["method"], s["sig"].lower())
                    for s in v["signatures"]) + canon(v["signed"])
 
 
-def keys_kept(given):
+def keys_kept(given: str) -> str:
     """The identifiers of the public parts that are found once all were kept in turn: the last of
     each slot.
     """
@@ -236,9 +238,9 @@ UNDER = {
     "root": role_file, "targets": role_file, "snapshot": role_file, "timestamp": role_file}
 
 
-def in_full(text):
+def in_full(text: str) -> str:
 
-    def many(found):
+    def many(found: re.Match[str]) -> str:
         number, one = int(found.group(1)), found.group(2)
         return ",".join(
             one.replace("#", str(i)) for i in range(number)) if "#" in one else one * number
@@ -246,7 +248,7 @@ def in_full(text):
     return re.sub(r"<\*(\d+)\*(.*?)\*>", many, text)
 
 
-def rows(section):
+def rows(section: str) -> Iterator[tuple[str, str]]:
     base = ""
     for line in section.split("\n")[1:]:
         if line.startswith("of "):
@@ -261,7 +263,7 @@ def rows(section):
             yield in_full(given), wanted
 
 
-def computed(call, given):
+def computed(call: str, given: str) -> str:
     call, _, scheme = call.partition(" under ")
     return UNDER[call](SCHEMES[scheme], given) if scheme else CALLS[call](given)
 

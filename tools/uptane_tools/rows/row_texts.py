@@ -44,7 +44,7 @@ BOTH_FOR_S2 = A_OF_BOTH | {"ecu": "S2"}
 A7_FOR_31 = [A7 | {"ecu": "E%d" % number} for number in range(1, 32)]
 
 # each reply of a row: the vehicle, its version, the root version, and the targets
-REPLIES = {
+REPLIES: dict[str, list[Any]] = {
     "first_manifest": [("V1", 1, 1, [])], "first_manifest_under_a_second_scheme": [
         ("V2", 1, 1, [])], "changed_signature": [("V1", 1, 1, [])], "greatest_counts": 2 * [
             ("V1", 1, 1, [])], "withheld_for_a_conflict": [
@@ -102,7 +102,7 @@ REPLIES = {
 # each fetched file of a row: a repository's Root with its version and how many hours after the
 # founding it was made, or a role's file of the Image repository with the root version, those hours,
 # its own version, and the targets
-FILES = {
+FILES: dict[str, list[Any]] = {
     "files_of_the_image_repository": [(role, 1, 0, 2, [Z]) for role in ROLES[1:]] + [
         ("image", 1, 0)], "root_signed_by_the_old_key_too": [("director", 2, 0)],
     "commands_between_manifests": [("timestamp", 2, 0, 40, [A, S])], "second_hash_in_the_files": [
@@ -120,10 +120,12 @@ class HmacSha256:
 
     method, shown = "hmac-sha256", ""
 
-    def public(secret) -> Any:
+    @staticmethod
+    def public(secret: bytes) -> bytes:
         return secret
 
-    def tag(secret, text):
+    @staticmethod
+    def tag(secret: bytes, text: bytes) -> str:
         return hmac.new(secret, text, hashlib.sha256).hexdigest()
 
 
@@ -134,10 +136,12 @@ class Sha256Tag:
 
     method, shown = "sha256-tag", "hash"
 
-    def public(secret):
+    @staticmethod
+    def public(secret: bytes) -> bytes:
         return hashlib.sha256(b"public " + secret).digest()
 
-    def tag(secret, text: bytes) -> str:
+    @staticmethod
+    def tag(secret: bytes, text: bytes) -> str:
         return hashlib.sha256(Sha256Tag.public(secret) + text).hexdigest()
 
 
@@ -204,7 +208,7 @@ def reply(scheme: Any, vehicle: str, version: int, root: int, targets: list[dict
     return form % named
 
 
-def replies(row):
+def replies(row: str) -> str:
     return "".join(reply(scheme_of(row), *told) + "\n" for told in REPLIES[row])
 
 
@@ -215,7 +219,7 @@ def file(scheme: Any, which: str, root: int, hours: int, version: int = 0,
     return role_texts(scheme, "image", root, hours, version, targets, {})[which]
 
 
-def files(row):
+def files(row: str) -> str:
     return "".join(file(scheme_of(row), *told) + "\n" for told in FILES[row])
 
 

@@ -10,6 +10,7 @@ over what is signed now where it was valid, and else over another text. All else
 spelled.
 """
 import sys
+from collections.abc import Iterator
 from pathlib import Path
 from typing import Any
 
@@ -36,7 +37,7 @@ def ecus_of(line: dict[str, Any]) -> list[dict[str, Any]]:
     ]
 
 
-def secrets_in(line, old):
+def secrets_in(line: dict[str, Any], old: type) -> Iterator[str]:
     """The secrets that a line names. Where secrets are public too, the inventory names them."""
     if line.get("do") == "bench":
         reports = line["reports"] if LIST(line.get("reports")) else []

@@ -13,6 +13,7 @@ promise: script-ends
 """
 import subprocess
 from pathlib import Path
+from typing import Any
 
 from uptane_tools import arguments
 from uptane_tools.measure import fleet
@@ -22,7 +23,7 @@ from uptane_tools.rows.check_rows import EXAMPLES, PRIMARY, ROWS, ran, read
 from uptane_tools.trial import program_cases, trials
 
 
-def printed(program, script, path=":memory:"):
+def printed(program: str | Path, script: Any, path: str = ":memory:") -> str:
     done = subprocess.run([program, "run", path], input=script.encode(), capture_output=True,
                           check=False)
     if done.returncode or done.stderr:
@@ -30,7 +31,7 @@ def printed(program, script, path=":memory:"):
     return done.stdout.decode("ascii")
 
 
-def scripts(program):
+def scripts(program: str | Path) -> trials.Cases:
     """Each script over memory and over a new file: under the scheme that is tried as it stands,
     or translated to it. HMAC stands in for no other.
     """
@@ -45,7 +46,7 @@ def scripts(program):
             yield name + " over a file", over_file and trials.faults(own / "desk") == []
 
 
-def limits(program):
+def limits(program: str | Path) -> trials.Cases:
     """1,024 images and 64 root versions over a file, which another start opens before one more
     of each; and bodies of 262,144 bytes and of one more.
     """
@@ -66,7 +67,7 @@ def limits(program):
                                            bodies) == "refused 5 NotJson\nrefused 4 TooLarge\n"
 
 
-def first_reply(rows, given, reply):
+def first_reply(rows: Any, given: Any, reply: str) -> list[str]:
     """What is said of a row in which the desk answers the Primary's manifest by this text: a
     line over memory, and one over files.
     """
@@ -78,7 +79,7 @@ def first_reply(rows, given, reply):
     return done.stdout.decode("utf-8", "replace").splitlines() if done.returncode == 0 else []
 
 
-def primaries(program, rows):
+def primaries(program: str | Path, rows: Any) -> trials.Cases:
     given, reply = (read(PRIMARY / name) for name in ("manifest-input.json", "reply.json"))
     # the bench line of the first path builds the same manifest: delivered again it is a repeat, and
     # the version stays
@@ -96,7 +97,7 @@ def primaries(program, rows):
         yield "the desk doesn't answer a changed reply", differs == [True, True]
 
 
-def primary_of_ed25519(program):
+def primary_of_ed25519(program: str | Path) -> trials.Cases:
     """The Primary's messages under Ed25519 are what the program takes and answers."""
     folder = PRIMARY / "ed25519"
     given, body, reply, root = (read(folder / name)
@@ -123,7 +124,7 @@ def primary_of_ed25519(program):
                 "SELECT reply FROM kept").fetchall() == [(reply.strip(), )]
 
 
-def cases(program, rows):
+def cases(program: str | Path, rows: Any) -> trials.Cases:
     missing = [it for it in (program, rows) if it and not Path(it).is_file()]
     yield from (("%s is built" % it, False) for it in missing)
     if not missing:

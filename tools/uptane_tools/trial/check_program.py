@@ -17,6 +17,8 @@ import shutil
 import subprocess
 import sys
 from concurrent.futures import ThreadPoolExecutor
+from pathlib import Path
+from typing import Any
 
 from uptane_tools import RUN, arguments
 
@@ -35,7 +37,7 @@ QUICK = [("check_examples", ), ("fuzz", "1", "5"), ("fuzz_http", "1", "5"),
 SWEPT = {"memory": "997", "disk": "31", "reading": "211", "http": "199"}
 
 
-def ran(program, words):
+def ran(program: str | Path, words: Any) -> tuple[str, int, int]:
     """What the tool prints, and how many cases passed and failed; a tool that doesn't end well
     is a case that failed.
     """
@@ -54,7 +56,7 @@ def ran(program, words):
     return told, passed, max(failed, int(done.returncode != 0))
 
 
-def tried(word):
+def tried(word: str) -> list[tuple[str, ...]]:
     """The words of each tool. Without a C compiler no call can be made to fail."""
     if word in ("", "quick"):
         return QUICK if word else TRIED

@@ -19,7 +19,10 @@ import sqlite3
 import subprocess
 import threading
 import time
+from collections.abc import Iterator
 from contextlib import closing
+from pathlib import Path
+from typing import Any, BinaryIO
 
 from uptane_tools import arguments
 from uptane_tools.measure import http_fleet
@@ -32,12 +35,12 @@ class Posting:
     hundred of them.
     """
 
-    def __init__(self, running, parts):
-        self.running, self.parts, self.answered = running, parts, []
+    def __init__(self, running: http_cases.Served, parts: list[list[bytes]]) -> None:
+        self.running, self.parts, self.answered = running, parts, list[Any]()
         self.thread = threading.Thread(target=self.post_all)
         self.thread.start()
 
-    def post_all(self):
+    def post_all(self) -> None:
         with contextlib.suppress(OSError):
             for part in self.parts:
                 with http_cases.connected(self.running) as client, client.makefile("rb") as reader:
@@ -46,7 +49,7 @@ class Posting:
                         self.answered.append((body, whole_answer(reader)))
 
 
-def whole_answer(reader):
+def whole_answer(reader: BinaryIO) -> bytes:
     """The body of an answer whose status is 200."""
     head = b"".join(iter(reader.readline, b"\r\n"))
     if not head.startswith(b"HTTP/1.1 200 OK\r\n"):
@@ -58,13 +61,13 @@ def whole_answer(reader):
     return text
 
 
-def has_all(path, answered):
+def has_all(path: str | Path, answered: Any) -> bool:
     """Whether the replies that were given are those that the file keeps."""
     replies = http_fleet.kept(path, "reply")
     return all(replies.get(http_fleet.named(body)) == reply.decode() for body, reply in answered)
 
 
-def is_taken(program, path, answered):
+def is_taken(program: str | Path, path: str | Path, answered: Any) -> bool:
     """Whether the program takes the file, and answers the last manifests as before."""
     some = answered[-40:]
     with http_cases.served(program, path, 1) as running:
@@ -73,7 +76,7 @@ def is_taken(program, path, answered):
             http_cases.answer(b"200 OK", reply) for _, reply in some) and http_cases.ended(running)
 
 
-def under_load(program, own, copies, number):
+def under_load(program: Path, own: Path, copies: int, number: int) -> trials.Cases:
     lines, bodies = http_fleet.day(number)
     path, taken = own / "served", []
     yield "a file of a fleet", trials.printed(program, path, lines) is not None
@@ -84,6 +87,7 @@ def under_load(program, own, copies, number):
             while len(posting.answered) < (at + 1) * len(bodies) // (
                     copies + 2) and posting.thread.is_alive():
                 time.sleep(0.001)
+            one: Any
             answered, to, one = list(posting.answered), own / ("copy%d" % at), ["--one"] * (at % 2)
             status, _, err = trials.tool("copy_served", running.pid, path, to, *one)
             taken.append((to, answered, (status, err) == (0, "")))
@@ -103,7 +107,7 @@ def under_load(program, own, copies, number):
         yield "the program takes it, and answers as before", is_taken(program, to, answered)
 
 
-def waiting(program, own):
+def waiting(program: str | Path, own: Path) -> trials.Cases:
     """A client that is in the middle of its request when the program is stopped is answered all
     the same.
     """
@@ -121,7 +125,7 @@ def waiting(program, own):
         yield "a client that waits meanwhile", well and http_cases.ended(running)
 
 
-def taking(program, own):
+def taking(program: str | Path, own: Path) -> trials.Cases:
     """A client that takes nothing of its answers while the program is stopped gets them all the
     same.
     """
@@ -139,7 +143,7 @@ def taking(program, own):
 
 
 @contextlib.contextmanager
-def that_clones(own, size):
+def that_clones(own: Path, size: int) -> Iterator[Path | None]:
     """A folder on a filesystem that can clone files, made in a file of that size; none where this
     machine makes or mounts none.
     """
@@ -148,7 +152,7 @@ def that_clones(own, size):
     with open(image, "wb") as file:
         file.truncate(size)
 
-    def ran(*words):
+    def ran(*words: Any) -> Any | bool:
         return shutil.which(words[0]) and subprocess.run(words, capture_output=True,
                                                          check=False).returncode == 0
 
@@ -162,7 +166,7 @@ def that_clones(own, size):
         subprocess.run(["umount", "--lazy", str(folder)], check=True)
 
 
-def cloned(program, own):
+def cloned(program: str | Path, own: Path) -> Iterator[tuple[str, bool]]:
     """Where the filesystem can, the copy is a clone; the tool says so, and where it can't, how
     long the program stood still.
     """
@@ -185,7 +189,7 @@ def cloned(program, own):
             print("no filesystem that clones can be mounted here, so no clone is tried")
 
 
-def removed(program, own):
+def removed(program: str | Path, own: Path) -> trials.Cases:
     """A file that was removed is copied from the process that still has it; so is its log."""
     for number, ends in enumerate((["", "-wal"], [""])):
         path, to = own / ("removed%d" % number), own / ("saved%d" % number)
@@ -201,7 +205,7 @@ def removed(program, own):
                 path, running.pid) and trials.rows(to) == rows
 
 
-def refused(program, own):
+def refused(program: str | Path, own: Path) -> trials.Cases:
     """What can't be copied, and what gets no sums, stays as it was."""
     path = own / "refused"
     trials.printed(program, path, http_cases.FIRST_PATH)
@@ -228,7 +232,7 @@ def refused(program, own):
         yield "no sums for a file with " + name, well and (own / name).read_bytes() == before
 
 
-def cases(program, copies=6, number=2000):
+def cases(program: Path, copies: int = 6, number: int = 2000) -> trials.Cases:
     with trials.folder() as own:
         yield from under_load(program, own, copies, number)
         yield from waiting(program, own)

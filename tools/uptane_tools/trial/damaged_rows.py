@@ -24,9 +24,12 @@ import os
 import re
 import shutil
 import sqlite3
+from collections.abc import Iterator
 from concurrent.futures import ThreadPoolExecutor
 from contextlib import closing
 from itertools import repeat
+from pathlib import Path
+from typing import Any
 
 from uptane_tools import arguments
 from uptane_tools.measure import fleet
@@ -41,29 +44,29 @@ START = fleet.START
 # ---- the story
 
 
-def vehicle(name, *ecus):
+def vehicle(name: str, *ecus: Any) -> str:
     told = [{"ecu": ecu, "hardware": kind, "key": fleet.key(7)} for ecu, kind in ecus]
     return fleet.line("add_vehicle", vehicle=name, primary=ecus[0][0], ecus=told)
 
 
-def image(file, kind, release, **more):
+def image(file: str, kind: str, release: int, **more: Any) -> str:
     told = {
         "file": file, "length": 3, "sha256": fleet.digest(file), "hardware": [kind],
         "release": release, **more}
     return fleet.line("add_image", **told)
 
 
-def campaign(name, vehicles, *items):
+def campaign(name: str, vehicles: list[str] | str, *items: Any) -> str:
     return fleet.line("open_campaign", campaign=name, vehicles=vehicles,
                       items=[{"hardware": k, "file": f} for k, f in items])
 
 
-def replaced(name, old, ecu):
+def replaced(name: str, old: str, ecu: str) -> str:
     return fleet.line("replace_ecu", vehicle=name, old=old, ecu=ecu, hardware="HS",
                       key=fleet.key(7))
 
 
-def delivered(name, counter, *ecus, key=7, **others):
+def delivered(name: str, counter: int, *ecus: str, key: int = 7, **others: int) -> str:
     """A manifest with a report of each ECU at the same counter, but for those of which it is
     told, of the factory's image.
     """
@@ -77,19 +80,19 @@ def delivered(name, counter, *ecus, key=7, **others):
     return fleet.line("deliver", body=fleet.body(told))
 
 
-def fetch(repository, file):
+def fetch(repository: str, file: str) -> str:
     return fleet.line("fetch", repository=repository, file=file)
 
 
-def show(name):
+def show(name: str) -> str:
     return fleet.line("show", vehicle=name)
 
 
-def close(name):
+def close(name: str) -> str:
     return fleet.line("close_campaign", campaign=name)
 
 
-def of_two():
+def of_two() -> dict[str, Any]:
     """Keys for a rotation: a role of each repository has two, and asks for both."""
     keys = fleet.key_set(9)
     for repository, role in (("director", "targets"), ("image", "root")):
@@ -101,7 +104,7 @@ def of_two():
 NEEDED, REFUSED = [{"hardware": "HS", "release": 9}], ["factory.bin"]
 
 
-def told_before():
+def told_before() -> Iterator[str]:
     """V1 has updates, V2 one that is withheld for a need, V3 one that is withheld for a
     conflict, V4 has no manifest.
     """
@@ -128,7 +131,7 @@ FILES += [("image", "targets.json"), ("image", "snapshot.json"), ("image", "time
           ("image", "none")]
 
 
-def asked():
+def asked() -> Iterator[str]:
     """Lines of each command: views and files, refusals and repeats, then what changes rows, and
     manifests in between.
     """
@@ -186,7 +189,7 @@ TEXT = ["''", "'x'", "substr(%s, 2)", NO_UTF8]
 JSON = TEXT + ["'null'", "'{}'", "'[7]'", "'[{}]'"]
 
 
-def json_of(*values):
+def json_of(*values: Any) -> list[str]:
     """What is no JSON or of another kind, and these values."""
     return JSON + ["'%s'" % reference.canonical(value) for value in values]
 
@@ -241,7 +244,7 @@ ROWS = {
                         "file = 'a'"]}
 
 
-def damages():
+def damages() -> Iterator[tuple[str, str, str, str]]:
     """A table, a column, where its row is, and the value that is put there. A value of another
     type is tried in one row of a table.
     """
@@ -257,12 +260,12 @@ def damages():
             yield from ((table, column, row, way.replace("%s", column)) for way in ways)
 
 
-def loose(statement):
+def loose(statement: str) -> str:
     """The statement of a table without types, so that any value goes into any column; keys stay."""
     return re.sub(r" (TEXT|BLOB|INTEGER)( NOT NULL)?(?! PRIMARY KEY, app)|STRICT$", "", statement)
 
 
-def connected(path):
+def connected(path: Path) -> sqlite3.Connection:
     """A connection to a file that need not last."""
     db = sqlite3.connect(path, isolation_level=None)
     db.execute("PRAGMA synchronous = OFF")
@@ -271,13 +274,13 @@ def connected(path):
     return db
 
 
-def set_statement(db, table, statement):
+def set_statement(db: sqlite3.Connection, table: str, statement: str) -> None:
     db.execute("PRAGMA writable_schema = ON")
     db.execute("UPDATE sqlite_schema SET sql = ? WHERE type = 'table' AND name = ?",
                (statement, table))
 
 
-def loosened(path, to, table):
+def loosened(path: Path, to: Path, table: str) -> tuple[Path, str]:
     """A copy in which a table takes any value, and the table's own statement."""
     shutil.copy(path, to)
     with closing(connected(to)) as db:
@@ -288,7 +291,8 @@ def loosened(path, to, table):
     return to, strict.decode()
 
 
-def damaged(made, to, table, column, row, value):
+def damaged(made: tuple[Path, str], to: Path, table: str, column: str, row: str,
+            value: str) -> Path:
     """A copy with one damaged value; none where the value stood there already."""
     path, strict = made
     shutil.copy(path, to)
@@ -329,7 +333,7 @@ OTHERWISE = KEYS | AS_THEY_STAND
 OF_OTHERS = {("meta", column) for column in ("id", "app", "schema")}
 
 
-def all_rows(path):
+def all_rows(path: Any) -> dict[str, list[list[Any]]]:
     """All rows of all tables in their order."""
     with closing(connected(path)) as db:
         return {
@@ -337,14 +341,15 @@ def all_rows(path):
                     ] for table in trials.TABLES}
 
 
-def breaks_the_schema(path):
+def breaks_the_schema(path: Path) -> bool:
     """Whether SQLite finds a row that no table of the schema takes."""
     with closing(connected(path)) as db:
         whole = db.execute("PRAGMA integrity_check").fetchall() == [(("text", b"ok"), )]
         return not whole or db.execute("PRAGMA foreign_key_check").fetchall() != []
 
 
-def marks(before, after):
+def marks(before: dict[str, list[list[Any]]],
+          after: dict[str, list[list[Any]]]) -> Iterator[tuple[tuple[str, int, int], Any]]:
     """Where the rows of two files differ, and what stands there in the second."""
     for table in trials.TABLES:
         for at, (old, new) in enumerate(zip(before[table], after[table])):
@@ -352,7 +357,7 @@ def marks(before, after):
                         if value != old[column])
 
 
-def but_for(wanted, rows, marked):
+def but_for(wanted: Any, rows: Any, marked: Any) -> Any:
     """The rows that are wanted, with the damaged value where it still stands."""
     for (table, at, column), value in marked:
         if rows[table][at][column] == value:
@@ -363,8 +368,8 @@ def but_for(wanted, rows, marked):
 class Story:
     """A file after the story, and what is answered over copies of it."""
 
-    def __init__(self, program, own):
-        self.program, self.own, self.known = program, own, {}
+    def __init__(self, program: Path, own: Path) -> None:
+        self.program, self.own, self.known = program, own, dict[Any, Any]()
         self.lines = list(asked())
         self.begun = trials.printed(program, own / "own", told_before())
         self.path = tables.dumped(own / "own", own / "story")
@@ -372,14 +377,14 @@ class Story:
             table: loosened(self.path, own / ("loose " + table), table) for table in trials.TABLES}
         self.before = all_rows(self.path)
 
-    def counted(self, table, row):
+    def counted(self, table: str, row: str) -> int:
         with closing(connected(self.path)) as db:
             return db.execute("SELECT count(*) FROM %s WHERE %s" % (table, row)).fetchone()[0]
 
-    def given(self, kept):
+    def given(self, kept: tuple[int, ...]) -> list[str]:
         return [self.lines[number] for number in kept]
 
-    def answered(self, kept):
+    def answered(self, kept: tuple[int, ...]) -> tuple[list[str], dict[str, list[list[Any]]]]:
         """What is printed over the story's file for some of the lines, by their numbers, and the
         rows then.
         """
@@ -391,7 +396,8 @@ class Story:
         told, rows = self.known[kept]
         return told, copy.deepcopy(rows)
 
-    def by_the_rules(self, path, kept):
+    def by_the_rules(self, path: str | Path,
+                     kept: tuple[int, ...]) -> tuple[list[Any], dict[str, list[list[Any]]]]:
         """What the rules print over the rows as they stand in a damaged file, and the rows then;
         nothing where they can't.
         """
@@ -405,11 +411,11 @@ class Story:
         return told, all_rows(path)
 
 
-def in_any_order(rows):
+def in_any_order(rows: Any) -> dict[Any, list[Any]]:
     return {table: sorted(rows[table], key=repr) for table in rows}
 
 
-def judged(story, own, table, column, row, value):
+def judged(story: Story, own: Path, table: str, column: str, row: str, value: str) -> bool:
     """None where the value stood there; else whether the damage is answered as it must be."""
     path = damaged(story.loose[table], own / "damaged", table, column, row, value)
     if path is None:
@@ -433,19 +439,19 @@ def judged(story, own, table, column, row, value):
     return answers == wanted and in_any_order(rows) == in_any_order(then)
 
 
-def tried(story, damage):
+def tried(story: Story, damage: tuple[str, str, str, str]) -> bool:
     with trials.folder(story.own) as own:
         return judged(story, own, *damage)
 
 
-def named(table, column, row, value):
+def named(table: str, column: str, row: str, value: str) -> str:
     """The name of a case, which says where an answer may be another one than `Store`."""
     otherwise = ", or " + OTHERWISE[table, column] if (table, column) in OTHERWISE else ""
     return "%s.%s where %s, %s%s" % (table, column, row,
                                      value if len(value) < 100 else value[:90] + "..", otherwise)
 
 
-def cases(program):
+def cases(program: Path) -> trials.Cases:
     with trials.folder() as own:
         story, made = Story(program, own), list(damages())
         yield "the story", story.begun == trials.expected(own / "expected", told_before())

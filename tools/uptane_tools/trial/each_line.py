@@ -22,6 +22,9 @@ import http.client
 import json
 import re
 import sqlite3
+from collections.abc import Iterator
+from pathlib import Path
+from typing import Any
 
 from uptane_tools import TOP, arguments
 from uptane_tools.oracle import reference
@@ -37,15 +40,18 @@ WRONG = "rows that are wrong on purpose"
 STATUS = {4: 413} | dict.fromkeys((5, 6, 7), 400) | dict.fromkeys(
     (11, 12, 17), 403) | dict.fromkeys((10, 29), 404)
 
+# what is given, the line or the body, and what is wanted
+Row = tuple[str, str | None, str | None]
 
-def digest(text):
+
+def digest(text: str) -> str:
     return hashlib.sha256(text.encode()).hexdigest()
 
 
 # ---- rows
 
 
-def in_full(text):
+def in_full(text: str) -> str:
     """The text with its repetitions: `<*N*TEXT*>`, with a comma between and numbers in place of
     `#` where it has one.
     """
@@ -59,7 +65,7 @@ def in_full(text):
     return front
 
 
-def sections():
+def sections() -> Iterator[tuple[str, list[Row]]]:
     """The words of each section and its rows: what stands in it, what that is in full and what
     is wanted, none of a base.
     """
@@ -68,7 +74,7 @@ def sections():
         yield words, list(rows(lines))
 
 
-def rows(lines):
+def rows(lines: list[str]) -> Iterator[tuple[str, str | None, str | None]]:
     base = ""
     for line in lines:
         given, arrow, wanted = line.partition(" => ")
@@ -87,11 +93,11 @@ def rows(lines):
         yield given, in_full(text), wanted
 
 
-def delivery(body):
+def delivery(body: str) -> str:
     return json.dumps({"do": "deliver", "at": AT, "body": body})
 
 
-def script(text):
+def script(text: str) -> list[Any]:
     """The lines of what is given, texts or bytes; none of a body that is no text."""
     word, _, rest = text.partition(" ")
     if word == "times":
@@ -106,7 +112,7 @@ def script(text):
     return [] if word == "bytes" else [text]
 
 
-def bodies(text):
+def bodies(text: str) -> list[bytes]:
     """The bodies that are given, none of a line."""
     word, _, rest = text.partition(" ")
     if word == "bytes":
@@ -117,7 +123,7 @@ def bodies(text):
 # ---- what is told
 
 
-def short(answer):
+def short(answer: str) -> str:
     """What is told of a printed line, behind which the text of its reply may stand."""
     line, _, text = answer.partition("\n")
     if line.startswith("file "):
@@ -125,7 +131,7 @@ def short(answer):
     return line + " " + digest(text) if text else re.sub(r"^vehicle \S+ ", "", line)
 
 
-def told(printed):
+def told(printed: list[str]) -> str:
     """What is told of printed lines, with the digests of replies whose texts stand behind them."""
     one = list(map(short, printed))
     if len(one) > 1:
@@ -134,28 +140,28 @@ def told(printed):
     return one[0] if one else "nothing"
 
 
-def without_digest(wanted):
+def without_digest(wanted: str) -> str:
     return re.sub(r"^(reply .*) [0-9a-f]{64}$", r"\1", wanted)
 
 
 class Desk(reference.Desk):
     """The rules over tables in memory, with the text of a reply behind its line."""
 
-    def __init__(self):
+    def __init__(self) -> None:
         super().__init__(sqlite3.connect(":memory:"))
 
-    def printed(self, kept):
+    def printed(self, kept: dict[str, Any] | sqlite3.Row) -> str:
         sql = "SELECT reply FROM kept WHERE vehicle = ? AND version = ?"
         return super().printed(kept) + "\n" + self.one(sql, kept["vehicle"], kept["version"])[0]
 
-    def body(self, body):
+    def body(self, body: bytes) -> str:
         try:
             with self.db:
                 return self.delivered(body, AT)
         except reference.Refused as refused:
             return refused.text
 
-    def told(self, text):
+    def told(self, text: str) -> str:
         lines = script(text)
         if lines:
             return told([
@@ -166,7 +172,7 @@ class Desk(reference.Desk):
 # ---- another scheme
 
 
-def text_under(translation, text):
+def text_under(translation: Any, text: str) -> str:
     """What is given, under another scheme."""
     word, _, rest = text.partition(" ")
     if word in ("body", "cuts"):
@@ -176,7 +182,7 @@ def text_under(translation, text):
     return text if word in ("line", "bytes") else translation.line(text)
 
 
-def rows_under(rows):
+def rows_under(rows: list[Row]) -> tuple[list[Row], bool]:
     """The rows under the scheme that is tried, with what the rules want then: but for digests
     that is the same.
     """
@@ -187,7 +193,7 @@ def rows_under(rows):
         under = text and text_under(translation, text)
         made.append((given, under, wanted if text is None else desk.told(under)))
 
-    def plain(it):
+    def plain(it: Any) -> str | None:
         return None if it is None or it.startswith("file ") else without_digest(it)
 
     return made, [plain(it) for _, _, it in rows] == [plain(it) for _, _, it in made]
@@ -196,14 +202,14 @@ def rows_under(rows):
 # ---- the program
 
 
-def by_script(program, rows):
+def by_script(program: str, rows: list[Row]) -> bool:
     """The answers of one script over memory."""
     lines = [line for _, text, _ in rows if text for line in script(text)]
     printed = trials.printed(program, ":memory:", lines) or []
     return len(printed) == len(lines) and all(wells(rows, iter(printed)))
 
 
-def wells(rows, printed):
+def wells(rows: list[Row], printed: Iterator[str]) -> Iterator[bool]:
     """Whether each row is answered as it wants, by the next of these lines."""
     for _, text, wanted in rows:
         if text and script(text):
@@ -211,7 +217,7 @@ def wells(rows, printed):
             yield told([next(printed) for _ in lines]) == without_digest(wanted)
 
 
-def by_starts(program, path, rows):
+def by_starts(program: str, path: Path, rows: list[Row]) -> bool:
     """Each row by a start of the program of its own, over the file; then the tables are those
     that the rules leave.
     """
@@ -224,7 +230,8 @@ def by_starts(program, path, rows):
     return well and trials.rows(path) == trials.rows_in(desk.db) and not trials.faults(path)
 
 
-def by_posts(program, path, rows):
+def by_posts(program: str | Path, path: str | Path, rows: list[tuple[str, str | None,
+                                                                     str | None]]) -> bool:
     """Each body of the rows over HTTP, over the file, a connection for each row."""
     given = [(bodies(text), wanted) for _, text, wanted in rows if text and bodies(text)]
     with http_cases.served(program, path, len(given)) as running:
@@ -232,7 +239,7 @@ def by_posts(program, path, rows):
         return well and http_cases.ended(running)
 
 
-def posted(running, bodies):
+def posted(running: http_cases.Served, bodies: list[Any]) -> list[tuple[int, str]]:
     """The statuses and the bodies of what is answered to these on one connection."""
     client = http.client.HTTPConnection("127.0.0.1", running.port, timeout=http_cases.PATIENCE)
     answers = []
@@ -244,13 +251,13 @@ def posted(running, bodies):
     return answers
 
 
-def refused(wanted, number):
+def refused(wanted: Any, number: int) -> list[tuple[int, str]]:
     """What is answered over HTTP to so many bodies that want this refusal."""
     _, code, text = wanted[wanted.index("refused"):].split(" ", 2)
     return number * [(STATUS.get(int(code), 409), '{"error":%s,"text":"%s"}' % (code, text))]
 
 
-def cases(program):
+def cases(program: str) -> trials.Cases:
     for words, rows in sections():
         if words == STOPS:
             continue
@@ -271,7 +278,7 @@ def cases(program):
 # ---- what is wanted
 
 
-def computed():
+def computed() -> tuple[str, int]:
     """The rows as the rules want them, and how many want something else."""
     made, differing = "", 0
     for words, rows in sections():
@@ -285,7 +292,7 @@ def computed():
     return made, differing
 
 
-def wanted(order="tell"):
+def wanted(order: str = "tell") -> int:
     made, differing = computed()
     if order == "write":
         ROWS.write_text(made, encoding="ascii")

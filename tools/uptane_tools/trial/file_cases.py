@@ -24,7 +24,10 @@ import subprocess
 import sys
 import tempfile
 import time
+from collections.abc import Callable
 from contextlib import closing
+from pathlib import Path
+from typing import Any
 
 from uptane_tools import arguments
 from uptane_tools.measure import fleet
@@ -41,11 +44,11 @@ MINUTE = 60
 MEMORY = "/dev/shm"
 
 
-def mode(path):
+def mode(path: Path | str) -> int:
     return stat.S_IMODE(os.stat(path).st_mode)
 
 
-def modes(program, own):
+def modes(program: Path, own: Path) -> trials.Cases:
     path = own / "new"
     yield "a new file", trials.printed(program, path, DAY[:2]) == ["done", "done"]
     yield "it is its owner's alone", mode(path) == 0o600
@@ -59,7 +62,7 @@ def modes(program, own):
     yield "an empty file is taken", trials.printed(program, path, DAY[:1]) == ["done"]
     # a new file by its name alone, in the working folder; and one by a URI, of which nothing may be
     # left there
-    there = os.getcwd()
+    there: Any = os.getcwd()
     os.chdir(own)
     try:
         yield "a new file in the working folder", trials.printed(program, "alone", DAY[:1]) == [
@@ -110,22 +113,22 @@ def modes(program, own):
 class Running:
     """The program, with a line handed over and answered at a time."""
 
-    def __init__(self, program, path):
+    def __init__(self, program: str | Path, path: str | Path) -> None:
         words = [str(program), "run", str(path)]
         self.it = subprocess.Popen(words, stdin=subprocess.PIPE, stdout=subprocess.PIPE,
                                    stderr=subprocess.PIPE)
 
-    def ask(self, line):
+    def ask(self, line: str) -> str | Any:
         self.it.stdin.write(line.encode() + b"\n")
         self.it.stdin.flush()
         return self.it.stdout.readline().decode("ascii").removesuffix("\n")
 
-    def end(self):
+    def end(self) -> tuple[int | Any, bytes, bytes]:
         out, err = self.it.communicate(timeout=30)
         return self.it.returncode, out, err
 
 
-def is_locked(path):
+def is_locked(path: str | Path) -> bool:
     """Whether SQLite itself may not even read the file."""
     with closing(sqlite3.connect(path, timeout=0)) as db:
         try:
@@ -135,7 +138,7 @@ def is_locked(path):
     return False
 
 
-def seconds(program, own):
+def seconds(program: str | Path, own: Path) -> trials.Cases:
     """A second program is refused, and the first goes on undisturbed."""
     path = own / "shared"
     first = Running(program, path)
@@ -150,7 +153,7 @@ def seconds(program, own):
         "refused 9 AlreadyFounded"]
 
 
-def rests(program, own):
+def rests(program: str | Path, own: Path) -> trials.Cases:
     """At the end the file holds everything by itself."""
     path = own / "alone"
     told = trials.printed(program, path, DAY)
@@ -161,7 +164,7 @@ def rests(program, own):
     yield "the day", told == trials.expected(":memory:", DAY)
 
 
-def flipped(program, own):
+def flipped(program: str | Path, own: Path) -> trials.Cases:
     """One bit after another: status 3, or the answers of the file as it was."""
     path, bad, rng = own / "bits", own / "bad", random.Random(1)
     trials.printed(program, path, DAY)
@@ -185,10 +188,11 @@ def flipped(program, own):
                                                          refused), wanted is not None and not wrong
 
 
-def operated(program, own):
+def operated(program: str | Path, own: Path) -> trials.Cases:
     """The operator's first days, a start of the program for each part of the script, over one
     file and its copies.
     """
+    told: Any
     folder, path, told = trials.TOP / "examples" / "operating", own / "operated", []
     parts = "\n".join(translated.under(folder, reference.METHOD)[0]).split("\n\n")
     for part in parts:
@@ -213,7 +217,7 @@ def operated(program, own):
     yield "and a query that tells the attacks", sorted(found) == attacks != []
 
 
-def other_scheme(program, own):
+def other_scheme(program: str | Path, own: Path) -> trials.Cases:
     """A file whose keys are of the other program's scheme is refused: it stays as it is, and so
     do the commits in its log, also where that alone has the keys, and where the schema is an
     older one. One in which nothing is founded has no keys.
@@ -221,12 +225,12 @@ def other_scheme(program, own):
     method = {"hmac-sha256": "ed25519", "ed25519": "hmac-sha256"}[reference.METHOD]
     asked = [sys.executable, trials.RUN, "reference", "run"]
 
-    def made(path, lines):
+    def made(path: str | Path, lines: list[str]) -> str | Path:
         given, told = "\n".join(lines).encode(), os.environ | {"SCHEME": method}
         subprocess.run([*asked, path], input=given, capture_output=True, check=True, env=told)
         return path
 
-    def in_log(path, founded):
+    def in_log(path: str | Path, founded: Any) -> Path:
         """A file in which nothing is founded, and a log that has the rows of another."""
         copy = own / "in a log"
         with closing(sqlite3.connect(path)) as db:
@@ -238,12 +242,12 @@ def other_scheme(program, own):
             db.commit()
             return trials.copied(path, copy)
 
-    def stays(path):
+    def stays(path: Any) -> bool | Any:
         """Each open puts the head of a log where there is none, or one of 41 bytes without a
         commit.
         """
 
-        def log():
+        def log() -> bytes:
             return trials.log_of(path).read_bytes() if trials.log_of(path).exists() else b""
 
         file, held = path.read_bytes(), log()
@@ -264,7 +268,7 @@ def other_scheme(program, own):
 # ---- kills
 
 
-def killed_day():
+def killed_day() -> list[str]:
     """A fleet's day with some ECUs replaced, two refreshes, two rotations and two campaigns that
     are closed, between its manifests.
     """
@@ -287,8 +291,8 @@ class Days:
     repeat answers and leaves then.
     """
 
-    def __init__(self, day):
-        self.day, self.again = day, {}
+    def __init__(self, day: Any) -> None:
+        self.day, self.again = day, dict[Any, Any]()
         with closing(sqlite3.connect(":memory:")) as db:
             desk = reference.Desk(db)
             self.tables, self.dumps, self.answers = [trials.rows_in(db)], [list(db.iterdump())], []
@@ -297,7 +301,7 @@ class Days:
                 self.tables.append(trials.rows_in(db))
                 self.dumps.append(list(db.iterdump()))
 
-    def repeated(self, done):
+    def repeated(self, done: Any) -> Any:
         """The answers to the whole day after so many of its lines, and the tables that it leaves.
         """
         if done not in self.again:
@@ -308,7 +312,7 @@ class Days:
         return self.again[done]
 
 
-def killed(program, path, script, after):
+def killed(program: str | Path, path: str | Path, script: list[str], after: Any) -> list[str] | Any:
     """The lines printed by a program that is killed as soon as so many of them came."""
     with tempfile.TemporaryFile() as given:
         given.write("".join(line + "\n" for line in script).encode())
@@ -321,7 +325,7 @@ def killed(program, path, script, after):
     return told.decode("ascii").split("\n")[:-1]
 
 
-def left(path):
+def left(path: str | Path) -> dict[str, list[tuple[Any, ...]]] | None:
     """The rows that a kill left; none where it came before there were tables."""
     try:
         return trials.rows(path)
@@ -329,7 +333,7 @@ def left(path):
         return None
 
 
-def is_kept(line, first, again):
+def is_kept(line: str, first: int | Callable[..., Any], again: Any) -> bool:
     """Whether a line that was answered before the kill is answered by what was kept; of other
     lines the rules alone tell. A vehicle of which an ECU was replaced is another one than the
     line added.
@@ -341,7 +345,7 @@ def is_kept(line, first, again):
     return again in done.get(do, (again, ))
 
 
-def survives(program, path, told, days):
+def survives(program: str | Path, path: str | Path, told: Any, days: Any) -> bool:
     """Whether what a kill left is the lines printed and at most the next one, and the whole day
     is then answered by the rules.
     """
@@ -360,7 +364,7 @@ def survives(program, path, told, days):
                                           ] and trials.faults(path) == []
 
 
-def kills(program, number):
+def kills(program: str | Path, number: int) -> trials.Cases:
     days, moments, begun, stopped, tried = Days(killed_day()), list(
         range(number)), time.monotonic(), 0, 0
     random.Random(2).shuffle(moments)
@@ -377,7 +381,7 @@ def kills(program, number):
         tried, stopped), stopped > tried // 2 and tried >= number // 4
 
 
-def killed_soon(program, path, after):
+def killed_soon(program: str | Path, path: str | Path, after: Any) -> None:
     """Kills the program so many seconds after it began to open the file."""
     with subprocess.Popen([str(program), "run", str(path)], stdin=subprocess.PIPE,
                           stdout=subprocess.PIPE) as it:
@@ -385,14 +389,14 @@ def killed_soon(program, path, after):
         os.kill(it.pid, signal.SIGKILL)
 
 
-def taken_in(program, path):
+def taken_in(program: str | Path, path: str | Path) -> float:
     """The seconds in which the program opens the file, answers a line and ends."""
     begun = time.monotonic()
     trials.printed(program, path, SHOWS[:1])
     return time.monotonic() - begun
 
 
-def raises(program, number):
+def raises(program: str | Path, number: int) -> trials.Cases:
     """Kills in the time in which a file of an older schema is opened and raised."""
     with trials.folder() as own:
         path, found = own / "day", []
@@ -416,7 +420,7 @@ def raises(program, number):
         yield told % (len(found), new), True
 
 
-def cases(program, number=100):
+def cases(program: Path, number: int = 100) -> trials.Cases:
     for part in (modes, seconds, rests, operated, other_scheme, flipped):
         with trials.folder() as own:
             yield from part(program, own)

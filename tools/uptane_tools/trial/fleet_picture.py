@@ -11,7 +11,9 @@ import json
 import sqlite3
 import subprocess
 import sys
+from collections.abc import Iterator
 from contextlib import closing
+from typing import Any
 
 from uptane_tools import arguments
 from uptane_tools.measure import fleet
@@ -19,7 +21,7 @@ from uptane_tools.oracle import reference
 from uptane_tools.trial import trials
 
 PICTURE = trials.TOP / "docs" / "fleet_page.png"
-FLEET = {
+FLEET: dict[str, Any] = {
     "vehicles": 40, "ecus": 3, "rounds": 6, "images": 12, "campaigns": 5, "seed": 7,
     "from_round": 0, "repeats": 0.1, "replaced": 0.1, "second_hashes": 0.5, "deliver": False}
 SIZE = "1180,900"
@@ -27,7 +29,7 @@ SIZE = "1180,900"
 NOW = fleet.START + 6 * 3600 + 1800
 
 
-def with_attacks(lines):
+def with_attacks(lines: Any) -> Iterator[str]:
     """The same lines, in which a report of every 37th line of `bench` tells of an attack."""
     benches = 0
     for text in lines:
@@ -38,7 +40,7 @@ def with_attacks(lines):
         yield json.dumps(line)
 
 
-def made(browser):
+def made(browser: Any) -> None:
     with trials.folder() as own:
         with closing(sqlite3.connect(own / "desk.db")) as db:
             desk = reference.Desk(db)

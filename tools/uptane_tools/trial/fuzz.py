@@ -19,6 +19,9 @@ import json
 import random
 import re
 import sys
+from collections.abc import Callable, Iterator
+from pathlib import Path
+from typing import Any
 
 from uptane_tools import arguments
 from uptane_tools.measure import fleet
@@ -39,23 +42,23 @@ class Script:
     """The lines of one seed. It follows roughly what they do, so that most of them are carried out.
     """
 
-    def __init__(self, seed):
+    def __init__(self, seed: int) -> None:
         self.rng, self.lines, self.counters, self.last, self.images = random.Random(
-            seed), [], {}, {}, []
-        self.at, self.present, self.retired = START, {}, []
-        self.sent, self.opened, self.news = [], [], 0
+            seed), list[Any](), dict[Any, Any](), dict[Any, Any](), list[Any]()
+        self.at, self.present, self.retired = START, dict[Any, Any](), list[Any]()
+        self.sent, self.opened, self.news = list[Any](), list[Any](), 0
 
-    def some(self, share):
+    def some(self, share: float) -> bool:
         return self.rng.random() < share
 
-    def add(self, do, **members):
+    def add(self, do: str, **members: Any) -> None:
         self.at += self.rng.choice([0, 0, 1, 60, 86400])
         at = self.rng.choice([4102444800, 4102444801, MOST]) if self.some(0.01) else self.at
         self.lines.append(fleet.line(do, at, **members).encode())
 
     # -- commands
 
-    def key_set(self):
+    def key_set(self) -> dict[str, Any]:
         keys = fleet.key_set(self.rng.choice([1, 0x51, 0x61, 0xA1]))
         while self.some(0.3):
             role = keys[self.rng.choice(["director", "image"])][self.rng.choice(fleet.ROLES)]
@@ -64,17 +67,17 @@ class Script:
             role["threshold"] = self.rng.randint(0 if self.some(0.1) else 1, len(role["keys"]))
         return keys
 
-    def first_ecus(self, number):
+    def first_ecus(self, number: int) -> list[dict[str, str]]:
         """The ECUs with which a vehicle is added: always the same ones."""
         return [{
             "ecu": "E%d%d" % (number, i), "hardware": KINDS[min(i, 2)],
             "key": fleet.key(16 * number + i + 1)} for i in range(1 + number % 4)]
 
-    def ecus(self, number):
+    def ecus(self, number: int) -> list[dict[str, str]]:
         """The ECUs of a vehicle with the replacements that were asked."""
         return list(self.present.setdefault(number, self.first_ecus(number)))
 
-    def add_vehicle(self, number=None):
+    def add_vehicle(self, number: int | None = None) -> None:
         number = self.rng.randrange(6) if number is None else number
         ecus = self.first_ecus(number) if self.some(0.8) else self.ecus(number)
         if self.some(0.15):
@@ -83,7 +86,7 @@ class Script:
             ecus[0]["hardware"] = self.rng.choice(KINDS)
         self.add("add_vehicle", vehicle="V%d" % number, primary="E%d0" % number, ecus=ecus)
 
-    def replace_ecu(self):
+    def replace_ecu(self) -> None:
         """Mostly a Secondary by a new ECU; else an ECU that can't be replaced, or one that is
         recorded or retired in its place. What the vehicle sent last often comes again then, and
         its next manifest.
@@ -114,10 +117,11 @@ class Script:
         if sent and self.some(0.6):
             self.add("bench", **self.manifest(number))
 
-    def add_image(self):
+    def add_image(self) -> None:
         rng, number = self.rng, self.rng.randrange(12)
         words = "image %d" % (number if not self.some(0.05) else rng.randrange(99))
-        image = {"file": "i/%d.bin" % number, "length": len(words), "sha256": fleet.digest(words)}
+        image: dict[str, Any] = {
+            "file": "i/%d.bin" % number, "length": len(words), "sha256": fleet.digest(words)}
         image |= {"hardware": [KINDS[number % 3]], "release": number // 3 + 1}
         if number % 5 == 4:
             image["hardware"] = sorted({*image["hardware"], KINDS[0]})
@@ -132,19 +136,19 @@ class Script:
 
     # -- second hashes
 
-    def spelled(self, hash):
+    def spelled(self, hash: str) -> str | bool:
         """A second hash as a line may have it: of either case, now and then none."""
         if self.some(0.03):
             return self.malformed(hash)
         return hash.upper() if self.some(0.1) else hash
 
-    def malformed(self, hash):
+    def malformed(self, hash: str) -> Any:
         """What is no second hash: too short, too long, of other digits, of another kind."""
         return self.rng.choice([
             hash[:-1], hash + "0", hash[1:] + "g", hash[:64], "", "x", None, 7, True, [hash], {
                 "sha512": hash}])
 
-    def second_hash(self):
+    def second_hash(self) -> None:
         """A campaign for an image that has a second hash, and a manifest whose ECUs report that
         image in several spellings.
         """
@@ -163,7 +167,7 @@ class Script:
                 report |= fleet.content(image) | {"sha512": told_so}
         self.lines.append(fleet.line("deliver", self.at, body=fleet.body(told)).encode())
 
-    def reported(self, image):
+    def reported(self, image: dict[str, Any]) -> dict[str, Any]:
         """An image as an ECU reports it: with a second hash, with that of another image, or
         without.
         """
@@ -176,7 +180,7 @@ class Script:
             told["sha512"] = self.rng.choice([told["sha512"].lower(), told["sha512"].upper()])
         return told
 
-    def open_campaign(self):
+    def open_campaign(self) -> None:
         rng, number = self.rng, self.rng.randrange(8)
         chosen = [rng.randrange(12) for _ in range(rng.randint(1, 3))]
         items = [{"hardware": KINDS[i % 3], "file": "i/%d.bin" % i} for i in chosen]
@@ -187,19 +191,19 @@ class Script:
         self.opened.append("C%d" % number)
         self.add("open_campaign", campaign="C%d" % number, vehicles=reach, items=items)
 
-    def offer(self, name, reach, image):
+    def offer(self, name: str, reach: Any, image: dict[str, Any]) -> None:
         """A campaign for one image."""
         items = [{"hardware": kind, "file": image["file"]} for kind in image["hardware"]]
         self.opened.append(name)
         self.add("open_campaign", campaign=name, vehicles=reach, items=items)
 
-    def close_campaign(self):
+    def close_campaign(self) -> None:
         """Mostly one that was opened."""
         name = "C%d" % self.rng.randrange(8)
         self.add("close_campaign",
                  campaign=self.rng.choice(self.opened) if self.opened and self.some(0.8) else name)
 
-    def report(self, ecu):
+    def report(self, ecu: dict[str, str]) -> dict[str, Any]:
         rng, name = self.rng, ecu["ecu"]
         if name in self.last and self.some(0.2):
             return self.last[name]
@@ -217,7 +221,7 @@ class Script:
         self.last[name] = told
         return told
 
-    def manifest(self, number=None):
+    def manifest(self, number: int | None = None) -> dict[str, Any]:
         """The members of a bench line, some of them wrong."""
         rng, number = self.rng, self.rng.randrange(
             6 if self.some(0.05) else 5) if number is None else number
@@ -252,13 +256,13 @@ class Script:
         self.sent.append(told)
         return told
 
-    def bench(self):
+    def bench(self) -> None:
         """A manifest, or one that was sent before."""
         self.add(
             "bench",
             **(self.rng.choice(self.sent) if self.sent and self.some(0.08) else self.manifest()))
 
-    def deliver(self):
+    def deliver(self) -> None:
         """A body as it is signed, or with another spelling, other signatures, or damage."""
         rng, told = self.rng, self.manifest()
         if self.some(0.3):
@@ -284,7 +288,7 @@ class Script:
 
     # -- commands between manifests
 
-    def new_image(self, kind):
+    def new_image(self, kind: str) -> dict[str, Any]:
         """An image of a greater release than all before."""
         self.news += 1
         image = {
@@ -292,11 +296,11 @@ class Script:
             "sha256": fleet.digest("new %d" % self.news)}
         return image | {"hardware": [kind], "release": 1000 + self.news}
 
-    def register(self, image):
+    def register(self, image: dict[str, Any]) -> None:
         self.images.append(image)
         self.add("add_image", **image)
 
-    def reporting(self, number, image):
+    def reporting(self, number: int, image: dict[str, Any]) -> None:
         """The vehicle's next manifest, in which its last ECU reports that image."""
         told = self.manifest(number)
         for report in told["reports"]:
@@ -308,7 +312,7 @@ class Script:
         else:
             self.add("deliver", body=fleet.body(told))
 
-    def between(self):
+    def between(self) -> None:
         """A manifest, then a command that changes what the next one is answered, or might, and
         that one. An image is offered whose release is the greatest; a newer one is offered too,
         or is reported and then registered.
@@ -326,25 +330,26 @@ class Script:
         for image in [offered, newer] if how == "open" else [offered]:
             self.register(image)
         self.offer(name, reach, offered)
-        for command in [lambda: None, commands[how]]:
+        steps: list[Any] = [lambda: None, commands[how]]
+        for command in steps:
             command()
             self.reporting(number, newer if how == "image" else fleet.FACTORY)
         for it in self.opened[-2 if how == "open" else -1:] if self.some(0.8) else []:
             self.add("close_campaign", campaign=it)
 
-    def fetch(self):
+    def fetch(self) -> None:
         name = self.rng.choice([
             "root.json", "1.root.json", "2.root.json", "01.root.json", "targets.json",
             "snapshot.json", "timestamp.json", "no"])
         self.add("fetch", repository=self.rng.choice(["director", "image"]), file=name)
 
-    def show(self):
+    def show(self) -> None:
         self.add("show", vehicle="V%d" % self.rng.randrange(7))
 
-    def rotate(self):
+    def rotate(self) -> None:
         self.add("rotate", **fleet.key_set(self.rng.choice([1, 0x51, 0x61, 0xA1])))
 
-    def refresh(self):
+    def refresh(self) -> None:
         self.add("refresh",
                  version=self.rng.choice([1, 5, 40, 80, MOST] if self.some(0.05) else [5, 20, 40]))
 
@@ -353,20 +358,20 @@ class Script:
         "close_campaign": 3, "bench": 30, "deliver": 16, "between": 8, "fetch": 5, "show": 6,
         "refresh": 1}
 
-    def step(self):
+    def step(self) -> None:
         rng = self.rng
         if self.lines and self.some(0.12):
             self.lines.append(rng.choice(self.lines[-3:] if self.some(0.5) else self.lines))
         elif self.some(0.02):
             self.add(rng.choice(["found", "rotate"]), **self.key_set())
         else:
-            getattr(self, rng.choices(list(self.WEIGHTS), self.WEIGHTS.values())[0])()
+            getattr(self, rng.choices(list(self.WEIGHTS), list(self.WEIGHTS.values()))[0])()
         if self.some(0.06):
             self.lines[-1] = damaged(rng, self.lines[-1])
         elif self.some(0.03):
             self.lines[-1] = worded(rng, self.lines[-1].decode("utf-8", "replace")).encode()
 
-    def made(self):
+    def made(self) -> list[bytes]:
         for _ in range(self.rng.choice([0, 0, 0, 2])):
             self.step()
         self.add("found", **self.key_set())
@@ -388,14 +393,14 @@ class Bodies:
 
     NUMBER = 100
 
-    def __init__(self, seed):
+    def __init__(self, seed: int) -> None:
         self.rng = random.Random("bodies %d" % seed)
         self.ecus = [
             ("E%d" % i, KINDS[i], fleet.key(17 * (i + 1))) for i in range(self.rng.randint(1, 3))]
 
-    def image(self):
+    def image(self) -> dict[str, Any]:
         words = "image %d" % self.rng.randrange(3)
-        told = {
+        told: Any = {
             "file": words.replace(" ", "/") + ".bin", "length": self.rng.choice([
                 0, 7, len(words), 10**9, MOST])}
         told["hashes"] = {"sha256": fleet.digest(words)}
@@ -403,7 +408,7 @@ class Bodies:
             told["hashes"]["sha512"] = fleet.second(words)
         return told
 
-    def report(self, ecu, counter):
+    def report(self, ecu: str, counter: int) -> str:
         rng = self.rng
         attack = rng.choice(["", "", "low", "a ~ b", 256 * "~", 'a "b"', "a \\ b"])
         told = {"attack": attack, "counter": counter, "ecu": ecu, "image": self.image()}
@@ -412,7 +417,7 @@ class Bodies:
                 "time": moment(START + rng.choice([0, 1, 59, 86399, 253402300799 -
                                                    START])), "type": "report"})
 
-    def body(self, counter):
+    def body(self, counter: int) -> str:
         """It may be without reports; each ECU's counter is the manifest's."""
         where = self.rng.choice(
             ["report", "manifest", "body", "nowhere"] if counter > 1 else ["nowhere"])
@@ -428,13 +433,13 @@ class Bodies:
                        changed(self.rng, signed) if where == "manifest" else signed)
         return changed(self.rng, whole) if where == "body" else whole
 
-    def line(self, counter):
+    def line(self, counter: int) -> str:
         """One of five is changed too, but stays one line."""
         line = fleet.line("deliver", body=self.body(counter))
         return changed(self.rng, line).replace(
             "\n", " ") if counter > 1 and self.rng.random() < 0.2 else line
 
-    def made(self):
+    def made(self) -> Iterator[str]:
         ecus = [{"ecu": ecu, "hardware": kind, "key": key} for ecu, kind, key in self.ecus]
         yield fleet.line("found", **fleet.key_set(1))
         yield fleet.line("add_vehicle", vehicle="V", primary="E0", ecus=ecus)
@@ -443,7 +448,7 @@ class Bodies:
             yield fleet.line("show", vehicle="V")
 
 
-def sealed(key, signed):
+def sealed(key: str, signed: str) -> str:
     """The text in an envelope whose one signature is right, wherever the text means something."""
     try:
         value = read_json(signed)
@@ -453,7 +458,7 @@ def sealed(key, signed):
     return '{"signatures":[%s],"signed":%s}' % (signature(bytes.fromhex(key), words), signed)
 
 
-def spelled(rng, text, pattern, spell):
+def spelled(rng: random.Random, text: str, pattern: str, spell: Any) -> str:
     """One of the places that fit the pattern is spelled otherwise."""
     found = list(re.finditer(pattern, text))
     if not found:
@@ -466,7 +471,7 @@ DIGITS, COUNT, TEXT = r"[0-9a-f]{64,}", r"(?<=:)[0-9]+", r'(?<=:")[^"\\]*(?=")'
 MEMBER, SIGNATURE = r'"[a-z0-9]+":(?:"[^"\\]*"|[0-9]+)', r'\{"keyid":[^}]*\}'
 
 
-def exchanged(members):
+def exchanged(members: str) -> str:
     """Two members the other way round."""
     comma = members.index(',"')
     return members[comma + 1:] + "," + members[:comma]
@@ -504,7 +509,7 @@ CHANGES = {
                                                 lambda it: " ", lambda it: "\ufeff"]}
 
 
-def changed(rng, text):
+def changed(rng: random.Random, text: str) -> str:
     """The text with one change: a known one, or a byte or more at any place."""
     if rng.random() < 0.6:
         pattern = rng.choice(list(CHANGES))
@@ -512,7 +517,7 @@ def changed(rng, text):
     return damaged(rng, text.encode()).decode("utf-8", "replace")
 
 
-def damaged(rng, line):
+def damaged(rng: random.Random, line: bytes) -> bytes:
     """One byte is changed, taken out or put in, or the line is cut there."""
     at = rng.randrange(len(line) + 1)
     byte = bytes([
@@ -521,7 +526,7 @@ def damaged(rng, line):
     return rng.choice([before + byte + after, before + after, before + byte + here + after, before])
 
 
-def worded(rng, line):
+def worded(rng: random.Random, line: str) -> str:
     """A member's value is another one."""
     parts = line.split(":")
     at = rng.randrange(1, len(parts)) if len(parts) > 1 else 0
@@ -530,13 +535,13 @@ def worded(rng, line):
     return ":".join(parts)
 
 
-def pieces(rng, lines):
+def pieces(rng: random.Random, lines: list[bytes]) -> list[list[bytes]]:
     """The script in up to four pieces."""
     cuts = [0, *sorted(rng.randrange(len(lines) + 1) for _ in range(3)), len(lines)]
     return [lines[a:b] for a, b in zip(cuts, cuts[1:])]
 
 
-def first_other(lines, wanted, found):
+def first_other(lines: Any, wanted: Any, found: list[str]) -> str:
     """What is told of the first line that is answered otherwise."""
     asked = [line for line in lines if line]
     for line, want, got in zip(asked, wanted, found or []):
@@ -545,7 +550,7 @@ def first_other(lines, wanted, found):
     return "%d answers for %d lines" % (len(found or []), len(asked))
 
 
-def tried(program, seed, own):
+def tried(program: str, seed: int, own: Path) -> Iterator[str]:
     """Each way that went otherwise, with what is told of it."""
     lines, rng = Script(seed).made(), random.Random(seed)
     path = {name: own / ("%s%d" % (name, seed)) for name in ("rules", "whole", "pieces")}
@@ -563,7 +568,7 @@ def tried(program, seed, own):
             yield name + ": other rows"
 
 
-def tried_bodies(program, seed, _):
+def tried_bodies(program: str, seed: int, _: Path) -> Iterator[Any]:
     """The same of bodies."""
     lines = list(Bodies(seed).made())
     wanted, found = trials.expected(":memory:", lines), trials.printed(program, ":memory:", lines)
@@ -571,7 +576,7 @@ def tried_bodies(program, seed, _):
         yield first_other(lines, wanted, found)
 
 
-def cases(way, program, first=1, number=100):
+def cases(way: Callable[..., Any], program: str, first: int = 1, number: int = 100) -> trials.Cases:
     for seed in range(first, first + number):
         with trials.folder() as own:
             told = list(way(program, seed, own))

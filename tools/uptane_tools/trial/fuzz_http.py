@@ -24,6 +24,8 @@ import shutil
 import socket
 import sqlite3
 from contextlib import closing
+from pathlib import Path
+from typing import Any
 
 from uptane_tools import arguments
 from uptane_tools.measure import fleet
@@ -36,15 +38,16 @@ class Request:
     or a file.
     """
 
-    def __init__(self, method, target, fields, body=b"", version="1.1", check=None, asks=None,
-                 ends=False):
+    def __init__(self, method: str, target: str, fields: list[str], body: bytes = b"",
+                 version: str = "1.1", check: tuple[str, str | None] | None = None,
+                 asks: bytes | tuple[str, str] | None = None, ends: bool = False) -> None:
         lines = ["%s %s HTTP/%s" % (method, target, version), *fields]
         self.sent = "".join(line + "\r\n" for line in lines).encode() + b"\r\n" + body
         self.check, self.asks, self.is_head = check, asks, method == "HEAD"
         self.ends = ends or version == "1.0"
 
 
-def answer(desk, request, moments):
+def answer(desk: reference.Desk, request: Request, moments: dict[tuple[str, int], int]) -> bytes:
     """The bytes of the answer by the rules, at the moment that was kept where it is a manifest
     that was accepted.
     """
@@ -63,17 +66,17 @@ def answer(desk, request, moments):
 class Stream:
     """The requests of one seed: bodies of the seed's own script, and files."""
 
-    def __init__(self, seed, script):
-        self.rng, self.script, self.sent = random.Random(seed), script, []
+    def __init__(self, seed: int, script: fuzz.Script) -> None:
+        self.rng, self.script, self.sent = random.Random(seed), script, list[Any]()
 
-    def body(self):
+    def body(self) -> bytes:
         self.script.lines.clear()
         while True:
             self.script.deliver()
             line = json.loads(self.script.lines[-1])
             return line["body"].encode()
 
-    def fields(self, *more):
+    def fields(self, *more: str) -> list[str]:
         fields = ["Host: d", *more]
         if self.rng.random() < 0.3:
             fields.append(
@@ -81,7 +84,7 @@ class Stream:
         self.rng.shuffle(fields)
         return fields
 
-    def deliver(self, **more):
+    def deliver(self, **more: Any) -> Request:
         body = self.rng.choice(
             self.sent[-8:]) if self.sent and self.rng.random() < 0.2 else self.body()
         self.sent.append(body)
@@ -89,7 +92,7 @@ class Stream:
         fields = self.fields("Content-Length: %d" % len(body))
         return Request("POST", "/director/manifest" + query, fields, body, asks=body, **more)
 
-    def fetch(self, **more):
+    def fetch(self, **more: Any) -> Request:
         where = self.rng.choice(["director", "image"])
         names = [
             "root.json", "1.root.json", "2.root.json", "targets.json", "snapshot.json",
@@ -97,7 +100,7 @@ class Stream:
         name = self.rng.choice(names)
         return Request("GET", "/%s/%s" % (where, name), self.fields(), asks=(where, name), **more)
 
-    def other(self):
+    def other(self) -> Request:
         """A request that no command comes of."""
         return self.rng.choice([
             lambda: Request("GET", "/nowhere", self.fields(), check=("not found", None)),
@@ -108,7 +111,7 @@ class Stream:
             lambda: Request("GET", "/director/manifest", self.fields(), check=("method not allowed",
                                                                                "POST"))])()
 
-    def last(self):
+    def last(self) -> Request:
         """A request that ends the stream."""
         return self.rng.choice([
             lambda: Request("GET", "/image/root.json", [], check=("bad request", None)),
@@ -125,7 +128,7 @@ class Stream:
             lambda: self.fetch(version="1.0"), lambda: Request("GET", "/image/root.json", [
                 "Host: d", "Connection: a, Close"], asks=("image", "root.json"), ends=True)])()
 
-    def between(self):
+    def between(self) -> list[str]:
         """The lines of operators, with manifests among them: some replace ECUs, others change
         images, campaigns or keys.
         """
@@ -138,13 +141,14 @@ class Stream:
             self.rng.choices(kinds, [6, 4, 2, 2, 1, 1])[0]()
         return [line.decode() for line in script.lines]
 
-    def made(self):
-        kinds, number = [self.deliver, self.fetch, self.other], self.rng.randint(1, 30)
+    def made(self) -> list[Request]:
+        number = self.rng.randint(1, 30)
+        kinds: list[Any] = [self.deliver, self.fetch, self.other]
         found = [self.rng.choices(kinds, [6, 3, 1])[0]() for _ in range(number)]
         return found + ([self.last()] if self.rng.random() < 0.5 else [])
 
 
-def came(running, sent, rng):
+def came(running: http_cases.Served, sent: bytes, rng: random.Random) -> bytes:
     """What the program answers to the bytes, sent in pieces."""
     told = b""
     with http_cases.connected(running) as peer, contextlib.suppress(ConnectionError):
@@ -161,7 +165,7 @@ def came(running, sent, rng):
 # ---- by script
 
 
-def line_of(asks, moments):
+def line_of(asks: Any, moments: dict[tuple[str, int], int]) -> str:
     """The line that asks the same, where it isn't one; a manifest that was accepted at its moment.
     """
     if isinstance(asks, str):
@@ -175,10 +179,11 @@ def line_of(asks, moments):
     return fleet.line("deliver", at, body=asks.decode())
 
 
-def printed_as(line, asks, answer, replies):
+def printed_as(line: str, asks: Any, answer: Any, replies: dict[tuple[str, int], str]) -> bool:
     """Whether a script's line says what the answer says, or what another line of a script said."""
     if isinstance(asks, str):
         return line == answer
+    body: Any
     head, _, body = answer.partition(b"\r\n\r\n")
     if not head.startswith(b"HTTP/1.1 200 "):
         return line == "refused %(error)d %(text)s" % json.loads(body)
@@ -189,7 +194,8 @@ def printed_as(line, asks, answer, replies):
     return said and replies[told["vehicle"], told["version"]] == body.decode()
 
 
-def by_script(program, before, path, commands, moments):
+def by_script(program: Path, before: list[bytes], path: Path,
+              commands: list[tuple[Any, bytes | str]], moments: dict[tuple[str, int], int]) -> Any:
     """What went otherwise where the same is asked by script: over the file, and over memory
     after the lines that filled it.
     """
@@ -210,7 +216,7 @@ def by_script(program, before, path, commands, moments):
 # ---- damaged heads
 
 
-def spoiled(rng):
+def spoiled(rng: random.Random) -> bytes:
     """Requests that no manifest is accepted by, with bytes that are damaged anywhere."""
     sent = b"".join(
         rng.choice([http_cases.GET_ROOT, http_cases.NO_FILE, http_cases.POST % 2 + b"{}"])
@@ -220,13 +226,13 @@ def spoiled(rng):
     return sent
 
 
-def by_the_rules(desk, sent):
+def by_the_rules(desk: reference.Desk, sent: bytes) -> bytes:
     """What is answered to a connection that sends this and ends its half."""
     return b"".join(
         reference_http.answer(desk, 0, asked) for asked in reference_http.Stream().feed(sent, True))
 
 
-def hostile(program, path, rng):
+def hostile(program: Path, path: Path, rng: random.Random) -> bool:
     """Whether requests with damaged heads are answered as by the rules, and leave the file as it
     was.
     """
@@ -240,12 +246,13 @@ def hostile(program, path, rng):
         return well and http_cases.ended(running) and trials.rows(path) == rows
 
 
-def kept_moments(path):
+def kept_moments(path: Path) -> dict[tuple[str, int], int]:
     with trials.read(path) as db:
         return {row[:2]: row[2] for row in db.execute("SELECT vehicle, counter, moment FROM kept")}
 
 
-def served_as(program, path, desk, requests, rng, commands):
+def served_as(program: Path, path: Path, desk: reference.Desk, requests: list[Request],
+              rng: random.Random, commands: list[tuple[Any, bytes | str]]) -> Any:
     """What went otherwise where these are served; what they ask is added to the commands, with
     its answers by the rules.
     """
@@ -265,20 +272,22 @@ def served_as(program, path, desk, requests, rng, commands):
     return "more than the answers: %r" % told[:300] if told else None
 
 
-def ordered_as(program, path, desk, lines, commands):
+def ordered_as(program: Path, path: Path, desk: reference.Desk, lines: list[str],
+               commands: list[tuple[Any, bytes]]) -> Any:
     """The same of operators' lines."""
     wanted = [desk.answer(line.encode()) for line in lines]
     commands.extend(zip(lines, wanted, strict=True))
     return None if trials.printed(program, path, lines) == wanted else "lines between"
 
 
-def tried(program, seed, own):
+def tried(program: Path, seed: int, own: Path) -> Any:
     script = fuzz.Script(seed)
     path, rules, scripted, lines = own / "served", own / "rules", own / "scripted", script.made()
     if trials.printed(program, path, lines) is None:
         return "the script"
     shutil.copy(path, rules)
     shutil.copy(path, scripted)
+    commands: Any
     rng, commands, stream = random.Random(seed), [], Stream(seed, script)
     with closing(sqlite3.connect(rules)) as db:
         desk = reference.Desk(db)
@@ -294,7 +303,7 @@ def tried(program, seed, own):
                      "other rows")
 
 
-def cases(program, first=1, number=100):
+def cases(program: Path, first: int = 1, number: int = 100) -> trials.Cases:
     for seed in range(first, first + number):
         with trials.folder() as own:
             other = tried(program, seed, own)

@@ -31,9 +31,11 @@ import tempfile
 import threading
 import time
 import urllib.parse
+from collections.abc import Callable, Iterator
 from concurrent.futures import ThreadPoolExecutor
 from contextlib import closing
 from pathlib import Path
+from typing import Any, IO
 
 from uptane_tools import arguments
 from uptane_tools.measure import fleet
@@ -63,7 +65,7 @@ UNKNOWN_FILE = b'{"error":29,"text":"UnknownFile"}'
 REFUSED = re.compile(rb"(?m)^uptane_desk: (?:vehicle \S+: )?refused \d+ [^\n]*\n")
 
 
-def answer(status, body, ends=False):
+def answer(status: bytes, body: bytes, ends: bool = False) -> bytes:
     """The bytes of an answer, whose connection ends with it or goes on."""
     lines = [
         b"HTTP/1.1 " + status, b"Content-Type: application/json",
@@ -77,11 +79,11 @@ BAD = answer(b"400 Bad Request", b'{"error":0,"text":"bad request"}', True)
 KEPT = answer(b"200 OK", REPLY)
 
 
-def closing_one(request):
+def closing_one(request: bytes) -> bytes:
     return request.replace(b"\r\n\r\n", b"\r\nConnection: Close\r\n\r\n", 1)
 
 
-def is_free(port):
+def is_free(port: int) -> bool:
     with socket.socket() as probe:
         probe.setsockopt(socket.SOL_SOCKET, socket.SO_REUSEADDR, 1)
         with contextlib.suppress(OSError):
@@ -90,7 +92,7 @@ def is_free(port):
     return False
 
 
-def free_port(many=1):
+def free_port(many: int = 1) -> int:
     """The first of so many ports at which nothing listens, below those that the system gives to
     clients: no connection takes them.
     """
@@ -100,8 +102,16 @@ def free_port(many=1):
             return first
 
 
+class Served(subprocess.Popen[bytes]):
+    """A program that serves, its port, and what it writes to standard error."""
+
+    port: int
+    said: IO[bytes]
+
+
 @contextlib.contextmanager
-def served(program, path, count, variables=None):
+def served(program: Any, path: Path | str, count: int,
+           variables: dict[str, str] | None = None) -> Iterator[Served]:
     """The program, or the words that run it, while it serves so many connections, and its port."""
     port = free_port()
     words = [
@@ -112,7 +122,7 @@ def served(program, path, count, variables=None):
     told = os.environ | (variables or {})
     # (a pipe that nobody reads would stop it behind some thousand refusals)
     said = tempfile.TemporaryFile()
-    running = subprocess.Popen(words, stdout=subprocess.PIPE, stderr=said, env=told)
+    running = Served(words, stdout=subprocess.PIPE, stderr=said, env=told)
     running.said = said
     try:
         ready = select.select([running.stdout], [], [], PATIENCE)[0]
@@ -126,7 +136,7 @@ def served(program, path, count, variables=None):
         said.close()
 
 
-def ended(running, err=b"", refused=None):
+def ended(running: Served, err: bytes = b"", refused: int | None = None) -> bool:
     """Whether the program ends by itself, with status 0 and these lines on standard error, beside
     those of refusals: of so many, where that is said.
     """
@@ -136,17 +146,17 @@ def ended(running, err=b"", refused=None):
         return False
     running.said.seek(0)
     told = running.said.read()
-    return (running.returncode, out, REFUSED.sub(b"", told)) == (0, b"", err) and (
-        refused is None or len(REFUSED.findall(told)) == refused)
+    return (running.returncode, out, REFUSED.sub(
+        b"", told)) == (0, b"", err) and (refused is None or len(REFUSED.findall(told)) == refused)
 
 
-def connected(running, patience=PATIENCE):
+def connected(running: Served, patience: int = PATIENCE) -> socket.socket:
     client = socket.create_connection(("127.0.0.1", running.port), timeout=patience)
     client.setsockopt(socket.IPPROTO_TCP, socket.TCP_NODELAY, 1)
     return client
 
 
-def to_the_end(client):
+def to_the_end(client: socket.socket) -> bytes:
     """What comes until the other side has ended its half."""
     parts = []
     while part := client.recv(65536):
@@ -154,7 +164,7 @@ def to_the_end(client):
     return b"".join(parts)
 
 
-def told(running, sent, patience=PATIENCE):
+def told(running: Served, sent: bytes, patience: int = PATIENCE) -> bytes:
     """What is answered to a client that sends this and ends its half."""
     with connected(running, patience) as client:
         client.sendall(sent)
@@ -162,7 +172,7 @@ def told(running, sent, patience=PATIENCE):
         return to_the_end(client)
 
 
-def root_text():
+def root_text() -> bytes:
     """The Image repository's Root, by the rules."""
     with closing(sqlite3.connect(":memory:")) as db:
         desk = reference.Desk(db)
@@ -176,7 +186,7 @@ def root_text():
 # ---- clients
 
 
-def library(program, path):
+def library(program: Path | str, path: Path) -> bool:
     """Python's client: five requests on one connection."""
     requests = [("GET", "/image/root.json", None), ("POST", "/director/manifest", MANIFEST),
                 ("POST", "/director/manifest", b"{"), ("HEAD", "/x", None),
@@ -195,27 +205,27 @@ def library(program, path):
             (404, b""), root] and ended(running)
 
 
-def before_founding(program, _):
+def before_founding(program: Path | str, _: Path) -> bool:
     """Before founding a file is unavailable."""
     with served(program, ":memory:", 1) as running:
         wanted = answer(b"503 Service Unavailable", b'{"error":8,"text":"NotFounded"}')
         return told(running, GET_ROOT) == wanted and ended(running)
 
 
-def half_closed(program, path):
+def half_closed(program: Path | str, path: Path) -> bool:
     """A client that ends its half, then reads."""
     with served(program, path, 1) as running:
         return told(running, 2 * NO_FILE + POST % len(MANIFEST) +
                     MANIFEST) == 2 * OPEN + KEPT and ended(running)
 
 
-def silent(program, path):
+def silent(program: Path | str, path: Path) -> bool:
     """A client that sends nothing is answered nothing."""
     with served(program, path, 2) as running:
         return told(running, b"") == b"" and told(running, NO_FILE) == OPEN and ended(running)
 
 
-def held_open(program, path):
+def held_open(program: Path | str, path: Path) -> bool:
     """A client that asks for the connection to be closed, and keeps its half open: it is
     answered, and soon so is the next one.
     """
@@ -229,34 +239,34 @@ def held_open(program, path):
             return well and ended(running)
 
 
-def unread(program, path):
+def unread(program: Path, path: Path) -> bool:
     """A client whose bytes are not all read gets its answer, and no reset."""
     with served(program, path, 1) as running:
         return told(running, POST % 262145 + 65 * 65536 * b" ") == TOO_LARGE and ended(running)
 
 
-def behind_the_last(program, path):
+def behind_the_last(program: Path, path: Path) -> bool:
     """What follows a request that closes the connection is not answered, and no reset."""
     with served(program, path, 1) as running:
         return told(running, NO_FILE + closing_one(NO_FILE) +
                     10_000 * NO_FILE) == OPEN + CLOSED and ended(running)
 
 
-def half_a_head(program, path):
+def half_a_head(program: Path, path: Path) -> bool:
     """A client that leaves in the middle of a head; the next one is served."""
     with served(program, path, 2) as running:
         return told(running, b"GET /image/no") == BAD and told(running,
                                                                NO_FILE) == OPEN and ended(running)
 
 
-def half_a_body(program, path):
+def half_a_body(program: Path, path: Path) -> bool:
     """A client that leaves in the middle of a body; the next one is served."""
     with served(program, path, 2) as running:
         well = told(running, POST % len(MANIFEST) + MANIFEST[:-1]) == BAD
         return well and told(running, POST % len(MANIFEST) + MANIFEST) == KEPT and ended(running)
 
 
-def reset(program, path):
+def reset(program: Path, path: Path) -> bool:
     """A connection that is reset is a fault that is told, and the next one is served."""
     with served(program, path, 2) as running:
         with connected(running) as client:
@@ -267,7 +277,7 @@ def reset(program, path):
         return well and ended(running, b"uptane_desk: connection 1: read\n")
 
 
-def gone(program, path):
+def gone(program: Path, path: Path) -> bool:
     """A client that is gone before its answers are written is a fault that is told, and the next
     one is served.
     """
@@ -282,14 +292,14 @@ def gone(program, path):
             for cause in (b"read", b"write"))
 
 
-def hundredth(program, path):
+def hundredth(program: Path, path: Path) -> bool:
     """A connection ends with its hundredth request."""
     with served(program, path, 1) as running, connected(running) as client:
         client.sendall(101 * NO_FILE)
         return to_the_end(client) == 99 * OPEN + CLOSED and ended(running, refused=60)
 
 
-def byte_by_byte(program, path):
+def byte_by_byte(program: Path, path: Path) -> bool:
     """A request that comes a byte at a time."""
     with served(program, path, 1) as running, connected(running) as client:
         for byte in NO_FILE + POST % len(MANIFEST) + MANIFEST:
@@ -298,17 +308,17 @@ def byte_by_byte(program, path):
         return to_the_end(client) == OPEN + KEPT and ended(running)
 
 
-def no_listener(program, path):
+def no_listener(program: Path, path: Path) -> bool:
     """A port that is taken."""
     with socket.socket() as taken:
         taken.bind(("127.0.0.1", 0))
         taken.listen()
-        words = [program, "serve", path, str(taken.getsockname()[1]), "1"]
+        words = [str(program), "serve", str(path), str(taken.getsockname()[1]), "1"]
         ran = subprocess.run(words, capture_output=True, check=False, timeout=PATIENCE)
     return (ran.returncode, ran.stdout, ran.stderr) == (4, b"", b"uptane_desk: cannot listen\n")
 
 
-def second_program(program, path):
+def second_program(program: Path, path: Path) -> bool:
     """While it serves, a second program on its file is refused."""
     with served(program, path, 1) as running:
         refused = trials.run(program, path, FIRST_PATH) == (3, b"", trials.UNOPENED["locked"])
@@ -318,7 +328,7 @@ def second_program(program, path):
 # ---- what no contract says: where it listens, when it reads the clock, and when it answers
 
 
-def other_addresses():
+def other_addresses() -> list[str]:
     """Addresses of this machine other than 127.0.0.1: another of the same network, that of the
     name of the machine, and those by which it would send to others, for which nothing is sent.
     """
@@ -332,14 +342,14 @@ def other_addresses():
     return sorted(found - {"127.0.0.1"})
 
 
-def accepts(address, port):
+def accepts(address: str, port: int) -> bool:
     """Whether a connection to this address and port is accepted."""
     with contextlib.suppress(OSError), socket.create_connection((address, port), timeout=PATIENCE):
         return True
     return False
 
 
-def listed_as_listening(port):
+def listed_as_listening(port: int) -> list[str]:
     """The addresses at which the kernel lists this port as listening, as it writes them."""
     found = []
     for file in map(Path, ("/proc/net/tcp", "/proc/net/tcp6")):
@@ -351,7 +361,7 @@ def listed_as_listening(port):
     return found
 
 
-def loopback_alone(program, path):
+def loopback_alone(program: Path, path: Path) -> bool:
     """It listens on 127.0.0.1 alone, by the kernel's list too, and is refused at other addresses
     of the machine.
     """
@@ -360,18 +370,18 @@ def loopback_alone(program, path):
         if Path("/proc/net/tcp").exists():
             # (an address of the kernel's list is a number in the machine's own order of bytes)
             well = well and listed_as_listening(running.port) == [
-                "%08X" % struct.unpack("=I", socket.inet_aton("127.0.0.1"))]
+                "%08X" % struct.unpack("=I", socket.inet_aton("127.0.0.1"))[0]]
         return well and told(running, NO_FILE) == OPEN and ended(running)
 
 
-def next_manifest(counter):
+def next_manifest(counter: int) -> bytes:
     """The body of the small Primary's manifest of this counter."""
     given = json.loads(GIVEN)
     given["counter"] = given["reports"][0]["counter"] = counter
     return primary(None, "build", given=json.dumps(given).encode())[1]
 
 
-def delivered(client, body):
+def delivered(client: socket.socket, body: bytes) -> int:
     """The moment at which a manifest was answered on this connection, by the reply's Timestamp,
     which expires seven days later.
     """
@@ -382,7 +392,7 @@ def delivered(client, body):
     return calendar.timegm(time.strptime(expires, "%Y-%m-%dT%H:%M:%SZ")) - 7 * 86400
 
 
-def clock_once(program, path):
+def clock_once(program: Path, path: Path) -> bool:
     """Two manifests on one connection, more than a second apart, have one moment, and one on the
     next connection a later one.
     """
@@ -403,7 +413,7 @@ def clock_once(program, path):
     )
 
 
-def early_clock(program, path, library):
+def early_clock(program: str | Path, path: str | Path, library: Any) -> bool:
     """Where the clock tells a time before 1970, the moment is 0."""
     with served(
             program, path, 1,
@@ -416,7 +426,7 @@ def early_clock(program, path, library):
             row[0] for row in db.execute("SELECT moment FROM kept WHERE version > 1")] == [0]
 
 
-def once_whole(program, path):
+def once_whole(program: Path, path: Path) -> bool:
     """Each request is answered as soon as it is whole, while the next one is still cut."""
     half, silence = len(MANIFEST) // 2, 1
     with served(program, path, 1) as running, connected(running, SILENCE - 2) as client:
@@ -435,7 +445,8 @@ def once_whole(program, path):
 OTHERS = 3
 
 
-def outlived(program, path, first, kind, least, most, variables=None):
+def outlived(program: str, path: Path, first: Callable[..., Any], kind: bytes | None, least: int,
+             most: int, variables: dict[str, str] | None = None) -> bool:
     """Whether, while the first client does what it does, others are answered between so many and
     so many seconds after it came, and what is told of it is that a read or a write failed, or
     nothing.
@@ -454,37 +465,37 @@ def outlived(program, path, first, kind, least, most, variables=None):
     return well and all(came == OPEN and least < after < most for came, after in others)
 
 
-def quietly(first, held, left):
+def quietly(first: Callable[..., Any], held: socket.socket, left: threading.Event) -> None:
     """Lets a client do what it does, until it is closed."""
     with contextlib.suppress(OSError):
         first(held, left)
 
 
-def sends_nothing(held, left):
+def sends_nothing(held: socket.socket, left: threading.Event) -> None:
     """sends nothing"""
     left.wait()
 
 
-def idle(held, left):
+def idle(held: socket.socket, left: threading.Event) -> None:
     """sends nothing after its answer"""
     held.sendall(NO_FILE)
     left.wait()
 
 
-def half_of_a_body(held, left):
+def half_of_a_body(held: socket.socket, left: threading.Event) -> None:
     """sends half of a body"""
     held.sendall(POST % len(MANIFEST) + MANIFEST[:len(MANIFEST) // 2])
     left.wait()
 
 
-def reads_nothing(held, left):
+def reads_nothing(held: socket.socket, left: threading.Event) -> None:
     """reads nothing of a hundred large answers"""
     held.setsockopt(socket.SOL_SOCKET, socket.SO_RCVBUF, 4096)
     held.sendall(100 * GET_TARGETS)
     left.wait()
 
 
-def drips(held, left):
+def drips(held: socket.socket, left: threading.Event) -> None:
     """sends a byte a second"""
     for byte in 20 * NO_FILE:
         held.sendall(bytes([byte]))
@@ -492,7 +503,7 @@ def drips(held, left):
             return
 
 
-def sips(held, left):
+def sips(held: socket.socket, left: threading.Event) -> None:
     """takes a little each second of a hundred large answers"""
     held.setsockopt(socket.SOL_SOCKET, socket.SO_RCVBUF, 4096)
     held.sendall(100 * GET_TARGETS)
@@ -500,7 +511,7 @@ def sips(held, left):
         held.recv(1024)
 
 
-def goes_on(held, left):
+def goes_on(held: socket.socket, left: threading.Event) -> None:
     """goes on sending after its last answer"""
     held.sendall(closing_one(NO_FILE))
     while not left.wait(0.5):
@@ -516,7 +527,7 @@ SLOW = [(drips, b"read"), (sips, b"write")]
 WAITS, LEAST = {b"read": 1, b"write": 4}, {b"read": WHOLE - 2, b"write": SILENCE - 2}
 
 
-def many_images(program, path):
+def many_images(program: Any, path: Path) -> Path:
     """A file whose Image repository has so large a Targets file that a hundred don't fit into
     what systems keep for a connection.
     """
@@ -531,7 +542,7 @@ def many_images(program, path):
     return path
 
 
-def clock_in(own):
+def clock_in(own: Path) -> Path:
     """The library that sets a program's clocks, made in this folder where it isn't there."""
     library, source = own / "fast_clock.so", Path(__file__).resolve().parent / "fast_clock.c"
     if not library.exists():
@@ -541,12 +552,12 @@ def clock_in(own):
     return library
 
 
-def holding(program, own, whole):
+def holding(program: str, own: Path, whole: bool) -> Iterator[Any]:
     """What to try of the clients that hold the connection: the words of each case, and what is
     called for it.
     """
     large = many_images(program, own / "large")
-    tried = [] if whole else [
+    tried: list[Any] = [] if whole else [
         (first, kind, SILENCE - 2, WAITS[kind] * SILENCE + SLACK, None) for first, kind in SILENT]
     tried += [] if whole else [(goes_on, None, GOING_ON - 2, GOING_ON + SLACK, None)]
     if whole:
@@ -567,14 +578,14 @@ def holding(program, own, whole):
 # ---- the small Primary and curl
 
 
-def primary(running, *words, given):
-    words = [sys.executable, str(PRIMARY / "primary.py"), *words]
+def primary(running: Any, *asked: str, given: bytes) -> tuple[int, bytes]:
+    words = [sys.executable, str(PRIMARY / "primary.py"), *asked]
     words += ["http://127.0.0.1:%d" % running.port] if words[-1] == "send" else []
     ran = subprocess.run(words, input=given, capture_output=True, check=False, timeout=PATIENCE)
     return ran.returncode, ran.stdout.strip()
 
 
-def small_primary(program, path):
+def small_primary(program: Path, path: Path) -> bool:
     """The small Primary posts its manifest and is answered by the kept reply, then its next one
     and checks the reply.
     """
@@ -592,14 +603,14 @@ def small_primary(program, path):
                                 given=json.dumps(after).encode()) == refused and ended(running)
 
 
-def by_curl(words):
+def by_curl(words: list[str]) -> str:
     """What this `curl -i` shows."""
     ran = subprocess.run([*words, "-s", "-m", str(PATIENCE)], capture_output=True, check=False,
                          cwd=PRIMARY)
     return ran.stdout.decode("ascii").replace("\r\n", "\n")
 
 
-def by_library(words):
+def by_library(words: list[str]) -> str:
     """The same by Python's client: `curl -i`, a body or the name of its file behind `-d` or
     `--data-binary`, and the target.
     """
@@ -614,13 +625,14 @@ def by_library(words):
         return "\n".join(lines) + "\n\n" + came.read().decode("ascii")
 
 
-def exchange(program, path, client, asked, wanted):
+def exchange(program: Path, path: Path, client: Callable[..., Any], asked: str,
+             wanted: str) -> bool:
     with served(program, path, 1) as running:
         came = client(shlex.split(asked.replace(":8080", ":%d" % running.port)))
         return came.strip() == wanted and ended(running)
 
 
-def exchanges(program, path):
+def exchanges(program: Any, path: Path) -> trials.Cases:
     """The exchanges that the page shows, as Python's client sees them, and `curl` where it is
     installed.
     """
@@ -640,7 +652,7 @@ CLIENTS = [
     loopback_alone, clock_once, once_whole]
 
 
-def goes_well(case, *given):
+def goes_well(case: Callable[..., Any], *given: Any) -> bool:
     """Whether a case goes well, and its connections too."""
     try:
         return case(*given)
@@ -648,7 +660,7 @@ def goes_well(case, *given):
         return False
 
 
-def cases(program, whole=False):
+def cases(program: str, whole: bool = False) -> Iterator[Any]:
     """Each case with whether the program does as the page says."""
     with trials.folder() as own, ThreadPoolExecutor(8) as pool:
         trials.printed(program, own / "first", FIRST_PATH)

@@ -10,6 +10,9 @@ answered as by the rules of `tools/run reference`; it is spared the campaigns th
 vehicles, which change no answer.
 """
 import os
+from collections.abc import Sequence
+from pathlib import Path
+from typing import Any
 
 from uptane_tools import arguments
 from uptane_tools.measure import fleet
@@ -27,27 +30,27 @@ FETCHES = [
     for file in ("root.json", "1.root.json", "2.root.json")]
 
 
-def image(file, **told):
+def image(file: str, **told: Any) -> str:
     return fleet.line("add_image", file=file, hardware=["HP"],
                       **{"length": 3, "release": 1, "sha256": fleet.digest(file)} | told)
 
 
-def campaign(name, vehicles, file="new"):
+def campaign(name: str, vehicles: Any, file: str = "new") -> str:
     return fleet.line("open_campaign", campaign=name, vehicles=vehicles, items=[{
         "hardware": "HP", "file": file}])
 
 
-def manifest(counter, installed=fleet.FACTORY):
+def manifest(counter: int, installed: dict[str, Any] = fleet.FACTORY) -> str:
     report = {"ecu": "p", "key": ECU["key"], "counter": counter, "time": fleet.START, **installed}
     return fleet.line("bench", vehicle="v", primary="p", key=ECU["key"], counter=counter, reports=[
         report])
 
 
-def shown():
+def shown() -> list[str]:
     return [fleet.line("show", vehicle="v"), manifest(1), fleet.line("show", vehicle="v")]
 
 
-def is_answered(program, own, script, spared=()):
+def is_answered(program: Any, own: Path, script: list[str], spared: Sequence[str] = ()) -> bool:
     """Whether the script is answered as by the rules, and each spared line, behind its first
     three, `done`.
     """
@@ -57,7 +60,7 @@ def is_answered(program, own, script, spared=()):
     return told[:3] + told[3 + len(spared):] == trials.expected(own / "rules", script)
 
 
-def campaigns(program, own):
+def campaigns(program: Path, own: Path) -> trials.Cases:
     other = fleet.line("add_vehicle", vehicle="w", primary="q", ecus=[ECU | {"ecu": "q"}])
     others = [campaign("c%05d" % at, ["w"]) for at in range(CAMPAIGNS - 1)]
     script = [FOUND, image("new"), other, VEHICLE, campaign("last", ["v"]), *shown()]
@@ -65,7 +68,7 @@ def campaigns(program, own):
         program, own, script, others)
 
 
-def manifests(program, own):
+def manifests(program: str | Path, own: Path) -> trials.Cases:
     script = [
         FOUND,
         image("new"), VEHICLE,
@@ -73,10 +76,10 @@ def manifests(program, own):
     yield "%d manifests of one vehicle" % MANIFESTS, is_answered(program, own, script)
 
 
-def keys(first):
+def keys(first: int) -> dict[str, Any]:
     """Four keys of each role, of which each has to sign."""
 
-    def roles(start):
+    def roles(start: Any) -> dict[str, dict[str, Any]]:
         return {
             role: {"keys": [fleet.key(start + 4 * i + j) for j in range(4)
                             ], "threshold": 4} for i, role in enumerate(fleet.ROLES)}
@@ -84,7 +87,7 @@ def keys(first):
     return {"director": roles(first), "image": roles(first + 16)}
 
 
-def signatures(program, own):
+def signatures(program: str | Path, own: Path) -> trials.Cases:
     script = [
         fleet.line("found", **keys(1)),
         image("new"), VEHICLE,
@@ -93,7 +96,7 @@ def signatures(program, own):
     yield "four keys of each role, and four others", is_answered(program, own, script)
 
 
-def counts(program, own):
+def counts(program: str | Path, own: Path) -> trials.Cases:
     greatest = {"length": GREATEST, "release": GREATEST}
     reported = {"file": "new", "length": GREATEST, "sha256": fleet.digest("new")}
     script = [
@@ -105,7 +108,7 @@ def counts(program, own):
     yield "the greatest length, release and counters", is_answered(program, own, script)
 
 
-def cases(program):
+def cases(program: Path) -> trials.Cases:
     for part in (campaigns, manifests, signatures, counts):
         with trials.folder(MEMORY if os.path.isdir(MEMORY) else None) as own:
             yield from part(program, own)

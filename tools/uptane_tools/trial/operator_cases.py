@@ -11,13 +11,16 @@ import re
 import sqlite3
 import subprocess
 import sys
+from collections.abc import Iterator
 from contextlib import closing
 from datetime import datetime, timezone
+from pathlib import Path
+from typing import Any
 
 from uptane_tools import arguments
 from uptane_tools.measure import fleet
-from uptane_tools.operate import check_script, fleet_tables, page_sums, statements
-from uptane_tools.oracle import reference
+from uptane_tools.operate import check_script, fleet_tables, page_sums, points, statements
+from uptane_tools.oracle import ed25519, reference
 from uptane_tools.rows import translated
 from uptane_tools.trial import http_cases, schemas, trials
 
@@ -27,19 +30,24 @@ ROLES = [
     for role in reference.ROLES]
 
 
-def made(*words, given=b""):
+def made(*words: Any, given: bytes = b"") -> tuple[int, list[str], str]:
     """The status, the lines and the message of the maker of lines."""
     ran = subprocess.run([sys.executable, trials.RUN, "make_lines", *map(str, words)], input=given,
                          capture_output=True, check=False)
     return ran.returncode, ran.stdout.decode("ascii").splitlines(), ran.stderr.decode("ascii")
 
 
-def drawn(number):
+def drawn(number: int) -> str:
     """A key that no example has."""
     return fleet.digest("key %d" % number)
 
 
-def key_files(folder, start):
+def shown(number: int) -> str:
+    """What an ECU of such a key shows of it."""
+    return str(fleet.with_public({"key": drawn(number)})["key"])
+
+
+def key_files(folder: Path, start: int) -> Path:
     folder.mkdir()
     for number, name in enumerate([role + "-1" for role in ROLES] + ["director-root-2"]):
         (folder / (name + ".key")).write_text(drawn(start + number) + "\n", encoding="ascii")
@@ -50,16 +58,16 @@ def key_files(folder, start):
 # ---- makers of lines
 
 TABLE = ("vehicle,ecu,hardware,primary,key\n"
-         "V1,P1,HP,yes,%s\nV1,S1,HS,,%s\nV2,P2,HP,yes,%s\n") % tuple(map(drawn, (1, 2, 3)))
+         "V1,P1,HP,yes,%s\nV1,S1,HS,,%s\nV2,P2,HP,yes,%s\n") % tuple(map(shown, (1, 2, 3)))
 WRONG_TABLES = {
     "an ECU twice": TABLE.replace("P2", "P1"),
     "no Primary": TABLE.replace("P2,HP,yes", "P2,HP,"), "two Primaries": TABLE.replace(
-        "S1,HS,", "S1,HS,yes"), "rows apart": TABLE + "V1,S9,HS,,%s\n" % drawn(9),
-    "a short key": TABLE.replace(drawn(2), "02"), "a name past its limit": TABLE.replace(
+        "S1,HS,", "S1,HS,yes"), "rows apart": TABLE + "V1,S9,HS,,%s\n" % shown(9),
+    "a short key": TABLE.replace(shown(2), "02"), "a name past its limit": TABLE.replace(
         "V2", 65 * "V"), "other columns": TABLE.replace("primary", "first")}
 
 
-def makers(program, own):
+def makers(program: Path, own: Path) -> trials.Cases:
     path, at = own / "desk", ("--at", str(NOW))
     first, second = key_files(own / "first", 1), key_files(own / "second", 101)
     (own / "image.bin").write_bytes(b"abc")
@@ -102,9 +110,9 @@ def makers(program, own):
     yield from known_keys(path, own, at)
 
 
-def replaced(program, path, own, at):
+def replaced(program: str | Path, path: str | Path, own: Path, at: Any) -> trials.Cases:
     """The line for an ECU that a workshop put in, and that the program takes it once."""
-    (own / "S3.key").write_text(drawn(99) + "\n", encoding="ascii")
+    (own / "S3.key").write_text(shown(99) + "\n", encoding="ascii")
     (own / "S3.key").chmod(0o600)
     words = ["replace_ecu", "V1", "S1", "S3", "--hardware", "HS", "--key", own / "S3.key", *at]
     status, lines, err = made(*words)
@@ -122,12 +130,12 @@ def replaced(program, path, own, at):
     yield "not by itself", made(*words)[:2] == (1, [])
 
 
-def pem(kind, data):
+def pem(kind: str, data: bytes | bytearray | None) -> str:
     return "-----BEGIN %s KEY-----\n%s\n-----END %s KEY-----\n" % (
         kind, base64.b64encode(data).decode(), kind)
 
 
-def openssl_keys(own, at):
+def openssl_keys(own: Path, at: Any) -> trials.Cases:
     """Keys as OpenSSL writes those of RFC 8410's example (section 10.3)."""
     secret = bytes.fromhex("d4ee72dbf913584ad5b6d8f1f769f8ad3afe7c28cbf1d4fbe097a88f44755842")
     public = bytes.fromhex("19bf44096984cdfe8541bac167dc3b96c85086aa30b6b6cb0c5c38ad703166e1")
@@ -136,7 +144,7 @@ def openssl_keys(own, at):
     keys = key_files(own / "pem", 150)
     role, ecu = keys / "image-root-1.key", own / "ecu.key"
 
-    def asked(path, text, *words):
+    def asked(path: Any, text: str, *words: Any) -> tuple[int, int, str]:
         path.write_text(text, encoding="ascii")
         path.chmod(0o644 if path is ecu else 0o600)
         status, lines, err = made(*words, *at)
@@ -152,7 +160,7 @@ def openssl_keys(own, at):
     yield "an ECU's public key that OpenSSL wrote", asked(ecu, public_text, *vehicle) == asked(
         ecu, public_text, *other) == (0, 2, "")
 
-    def refused(told, words):
+    def refused(told: Any, words: Any) -> Any:
         return told[:2] == (1, 0) and told[2].endswith(words + "\n")
 
     yield "no private key in the inventory", all(
@@ -169,9 +177,9 @@ def openssl_keys(own, at):
         "without a password")
 
 
-def refusals(own, keys, at):
+def refusals(own: Path, keys: Any, at: Any) -> trials.Cases:
 
-    def one_line(ran):
+    def one_line(ran: Any) -> Any:
         return ran[:2] == (1, []) and ran[2].startswith("make_lines: ") and ran[2].count("\n") == 1
 
     yield "a key that others may read is told of", (
@@ -199,7 +207,7 @@ def refusals(own, keys, at):
         made("refresh", "http://127.0.0.1:%d" % http_cases.free_port(), *at))
 
 
-def known_keys(path, own, at):
+def known_keys(path: str | Path, own: Path, at: Any) -> trials.Cases:
     """Keys that are published, or that a file of the other scheme has, are refused by name."""
     keys = key_files(own / "fresh", 201)
     yield "keys that are drawn are taken", made("found", keys, "--old", path, *at)[0] == 0
@@ -207,7 +215,7 @@ def known_keys(path, own, at):
     yield "a key of an example is refused", made("found", keys, *at)[2].startswith(
         "make_lines: image-root: the key stands in examples/fleet_day, so it is published")
     (keys / "image-root-1.key").write_text(drawn(1) + "\n", encoding="ascii")
-    told = [made("found", keys, *words, *at) for words in ([], ["--old", path])]
+    told = [made("found", keys, *words, *at) for words in ((), ("--old", path))]
     yield "and one of the old file", told[0][0] == 0 and told[1] == (
         1, [], "make_lines: image-root: the key stands in %s: draw another\n" % path)
     (own / "old.csv").write_text(TABLE, encoding="ascii")
@@ -216,7 +224,7 @@ def known_keys(path, own, at):
         *at)[2] == "make_lines: P1: the key stands in %s: draw another\n" % path
 
 
-def rollouts(program, own):
+def rollouts(program: str | Path, own: Path) -> trials.Cases:
     """A rollout's steps: each of so many vehicles, by the seed; the program takes them, one line
     stops them, and the page shows them as one.
     """
@@ -224,7 +232,7 @@ def rollouts(program, own):
     names = ["VIN-%04d" % it for it in range(200)]
     listed.write_text("\n".join(reversed(names)) + "\n", encoding="ascii")
 
-    def make(*words):
+    def make(*words: Any) -> subprocess.CompletedProcess[str]:
         return subprocess.run(
             [sys.executable, trials.RUN, "rollout", *map(str, words), "--at",
              str(NOW)], capture_output=True, text=True, check=False)
@@ -250,7 +258,7 @@ def rollouts(program, own):
     yield "the checker finds nothing in them", all(
         list(check_script.amiss("\n".join(it).encode(), NOW)) == [] for it in scripts)
 
-    def ecu(name):
+    def ecu(name: str) -> list[dict[str, str]]:
         return [{"ecu": name + "-p", "hardware": "HP", "key": fleet.key(9)}]
 
     lines = [
@@ -347,14 +355,14 @@ AMISS = [
     (2_097_153 * " ", "fault: line: longer than 2097152 bytes: it ends the run")]
 
 
-def of_the_line(text, answer):
+def of_the_line(text: Any, answer: str) -> bool:
     """Whether such an answer is the fault of the line alone, whatever was done before."""
     asked = text if isinstance(text, bytes) else text.encode()
     return answer == "refused 5 NotJson" and b'"deliver"' not in asked or answer.startswith(
         "refused 7 ") and b'"do":"deliver"' not in asked
 
 
-def checker():
+def checker() -> trials.Cases:
     for text, wanted in AMISS:
         yield "the checker: " + wanted, list(check_script.amiss(text.encode(), NOW)) == [
             "line 1: " + wanted]
@@ -362,12 +370,12 @@ def checker():
     ran = [
         subprocess.run([sys.executable, trials.RUN, "check_script", "--now",
                         str(NOW), *words], input=last.encode(), capture_output=True, check=False)
-        for words in ([], ["--final"])]
+        for words in ((), ("--final", ))]
     yield "what can't be undone is refused, or only told where that is asked", [
         (it.returncode, it.stdout.split(b": ")[1]) for it in ran] == [(1, b"final"), (1, b"look")]
     for name in ("/a.bin", "a.bin/..", "..", "x/../a.bin", "a..b.bin", "..a.bin"):
-        leaves = check_script.checked(fleet.line("add_image", NOW, **IMAGE | {"file": name}), None,
-                                      NOW, 1e12)[0]
+        line = fleet.line("add_image", NOW, **IMAGE | {"file": name}).encode()
+        leaves = check_script.checked(line, None, NOW, 1e12)[0]
         yield "the filename " + name, bool(leaves) == (name[0] == "/" or ".." in name.split("/"))
     backwards = [fleet.line("refresh", at, version=it) for it, at in ((5, NOW), (6, NOW - 1))]
     yield "moments that go back", list(check_script.amiss("\n".join(backwards).encode(), NOW)) == [
@@ -387,8 +395,12 @@ def checker():
         with closing(sqlite3.connect(":memory:")) as db:
             desk = reference.Desk(db)
             for line in lines:
-                refused = of_the_line(line, desk.answer(line))
-                found = any(
+                answer = desk.answer(line)
+                # (whether an ECU's key is a point, only a program of Ed25519 knows)
+                refused = of_the_line(
+                    line,
+                    answer) and (answer, reference.METHOD) != ("refused 7 BadShape key", "ed25519")
+                found: Any = any(
                     it.startswith("fault") for it in check_script.checked(line, None, NOW, 1e12)[0])
                 faults += refused
                 missed += refused and not found
@@ -453,7 +465,7 @@ MADE_ANEW = [
      "table campaign: the reference items to image is too much")]
 
 
-def check(path):
+def check(path: Any) -> tuple[int, list[str]] | None:
     """The status and the lines of the checker of files; none where it says something on standard
     error, or changes what is there.
     """
@@ -465,7 +477,7 @@ def check(path):
             ran.stdout.decode("ascii").splitlines()) if after == before and not ran.stderr else None
 
 
-def changed(path, to, made_of):
+def changed(path: str | Path, to: Path, made_of: Any) -> Path:
     """A copy of a file of the program's own in which SQLite carries out statements."""
     trials.copied(path, to)
     with closing(sqlite3.connect(to, isolation_level=None)) as db:
@@ -474,13 +486,13 @@ def changed(path, to, made_of):
     return to
 
 
-def campaign_anew(old, new):
+def campaign_anew(old: str, new: str) -> list[str]:
     made = next(it for it in statements.schema() if statements.table_of(it) == "campaign")
     assert made.count(old) == 1
     return ["DROP TABLE campaign", made.replace(old, new)]
 
 
-def checked_files(program, own):
+def checked_files(program: str | Path, own: Path) -> trials.Cases:
     path = own / "first"
     lines = (trials.TOP / "examples" / "fleet_day" /
              "script").read_text(encoding="ascii").split("\n")[:-1]
@@ -542,7 +554,7 @@ ASKED = [
     fleet.line("replace_ecu", vehicle="V2", old="S2", ecu="S3", hardware="HP", key=fleet.key(3))]
 
 
-def taken_changed(program, own):
+def taken_changed(program: str | Path, own: Path) -> trials.Cases:
     """What a start makes of a file that someone changed, as the page on tables has it."""
     path = own / "first"
     trials.printed(program, path, http_cases.FIRST_PATH)
@@ -564,7 +576,7 @@ def taken_changed(program, own):
                 program, other, ASKED) == wanted
 
 
-def stop_after(program, path, line):
+def stop_after(program: str | Path, path: str | Path, line: str) -> Any | bool:
     """Whether the program was killed once this line was done, and left a log."""
     with subprocess.Popen([program, "run", path], stdin=subprocess.PIPE,
                           stdout=subprocess.PIPE) as running:
@@ -576,26 +588,89 @@ def stop_after(program, path, line):
         path).exists() and trials.log_of(path).stat().st_size > 0
 
 
-def begin(lines, wanted):
+def begin(lines: list[str], wanted: Any) -> bool:
     """Whether the lines are as many as the wanted ones and begin like them."""
     return len(lines) == len(wanted) and all(line.startswith(it) for line, it in zip(lines, wanted))
 
 
-def check_beside(path):
+def check_beside(path: str | Path) -> tuple[int, list[str]]:
     """The same of a file that a connection has open, whose index of the log may change."""
     ran = subprocess.run([sys.executable, trials.RUN, "check_file", path], capture_output=True,
                          check=False)
     return ran.returncode, ran.stdout.decode("ascii").splitlines()
 
 
+# ---- keys that are none
+
+
+def no_keys() -> Iterator[tuple[str, bytes, bool]]:
+    """32 bytes that are no public key of Ed25519, each with whether they are nobody's."""
+    small = ed25519.small_points()
+    named = {"zeros": bytes(32), "0xff": b"\xff" * 32, "the neutral point": small[0]}
+    named |= {"point %d of small order" % at: it for at, it in enumerate(small[1:], 1)}
+    named |= {"p + 3": (ed25519.P + 3).to_bytes(32, "little")}
+    yield from ((name, it, True) for name, it in named.items())
+    yield "no point", (2).to_bytes(32, "little"), False
+    for at, it in enumerate(small[1:], 1):
+        yield "the base point and point %d" % at, ed25519.encode(
+            ed25519.add(ed25519.BASE, ed25519.decode(it))), False
+
+
+def inventory(key: bytes) -> tuple[str, str]:
+    """A line that registers a vehicle with this key, and one that puts it in."""
+    ecus = [
+        fleet.with_public({"ecu": "P", "hardware": "HP", "key": drawn(2)}), {
+            "ecu": "S", "hardware": "HS", "key": key.hex()}]
+    new = {"ecu": "N", "hardware": "HS", "key": key.hex()}
+    return (reference.canonical({
+        "do": "add_vehicle", "at": NOW, "vehicle": "W", "primary": "P", "ecus": ecus}),
+            reference.canonical({
+                "do": "replace_ecu", "at": NOW, "vehicle": "V", "old": "S2", **new}))
+
+
+def wrong_keys(program: str | Path, own: Path) -> trials.Cases:
+    """The program under Ed25519, the maker of lines and both checkers refuse them by name."""
+    is_strict, wrong = reference.METHOD == "ed25519", list(no_keys())
+    ecus = [{"ecu": it, "hardware": "HS", "key": drawn(3)} for it in ("P2", "S2")]
+    lines = [
+        fleet.line("found", **fleet.key_set(1)),
+        fleet.line("add_vehicle", vehicle="V", primary="P2", ecus=ecus)]
+    for name, key, is_nobodys in wrong:
+        added, replaced = inventory(key)
+        if is_strict:
+            lines += [added, replaced]
+        told: Any = list(check_script.amiss(added.encode(), NOW))
+        yield "the checker of scripts, of " + name, told == is_nobodys * [
+            "line 1: look: key: " + points.NOBODYS]
+        (own / "table.csv").write_text(
+            "vehicle,ecu,hardware,primary,key\nW,P,HP,yes,%s\n" % key.hex(), encoding="ascii")
+        told = made("add_vehicle", own / "table.csv", "--at", NOW)
+        yield "the maker of lines does", (told[0] == 1 and points.NOBODYS in told[2]) == is_nobodys
+        (own / "ecu.key").write_text(pem("PUBLIC",
+                                         bytes.fromhex("302a300506032b6570032100") + key),
+                                     encoding="ascii")
+        words = ["V", "S2", "N", "--hardware", "HS", "--key", own / "ecu.key", "--at", NOW]
+        told = made("replace_ecu", *words)
+        yield "and of OpenSSL's file", told[0] == 1 and points.NO_PUBLIC_KEY in told[2]
+    path = own / "desk"
+    told = trials.printed(program, path, lines)
+    yield "the program takes no such key", told == [
+        "done", "done"] + (len(lines) - 2) * ["refused 7 BadShape key"]
+    # a file of an older program
+    sql = ["UPDATE ecu SET public_key = X'%s' WHERE ecu = 'S2'" % wrong[0][1].hex()]
+    found = check(changed(path, own / "older", sql))
+    yield "the checker of files names the ECU", found == (0, []) if not is_strict else (
+        found is not None and found[0] == 1 and begin(found[1], ["ecu S2 of V: its key is no "]))
+
+
 # ---- the page
 
 
-def data_of(page):
+def data_of(page: str) -> Any:
     return json.loads(re.search(r'id="data" data-now="\d+">(.*?)</script>', page).group(1))
 
 
-def unwrapped(page):
+def unwrapped(page: str) -> bool:
     """Whether each text in an element that keeps to one line fits a screen of 420 pixels, of some
     49 letters; on one of at most 760 the style lets some wrap, as the caption of a line over time.
     """
@@ -611,7 +686,7 @@ def unwrapped(page):
         len(text) < 49 for names, text in texts if set(names.split()) & (kept - lets))
 
 
-def pages(program, own):
+def pages(program: str | Path, own: Path) -> trials.Cases:
     path = own / "fleet"
     lines = list(fleet.script(vehicles=10, ecus=4, rounds=3, second_hashes=0.7, replaced=0.2))
     lines += unlike(lines)
@@ -656,6 +731,7 @@ def pages(program, own):
     yield "each campaign leads to the vehicles that are left", listed == {
         it["name"]: [places[name] for name in it["left"]] for it in campaigns if it["left"]
     } and listed
+    told: Any
     told, offers = histories(path), {
         it["name"]: {one["hardware"]: one["file"] for one in it["items"]} for it in campaigns}
     first = {
@@ -695,13 +771,13 @@ def pages(program, own):
     yield from other_schemas(path, own)
 
 
-def pages_of_several(program, own):
+def pages_of_several(program: str | Path, own: Path) -> trials.Cases:
     """Of several desks the page says of campaigns and vehicles what one desk's with all vehicles
     does.
     """
     every = list(fleet.script(vehicles=24, ecus=3, rounds=6, campaigns=3, seed=3))
 
-    def vehicle_of(line):
+    def vehicle_of(line: str) -> Any:
         return json.loads(line).get("vehicle")
 
     home = {
@@ -715,13 +791,13 @@ def pages_of_several(program, own):
     trials.printed(program, own / "alone", every)
     one, several = page_of(own / "alone"), page_of(*copies)
 
-    def campaigns(page):
+    def campaigns(page: str) -> str:
         return page.split('<h2 id="campaigns">')[1].split('<h2 id="files">')[0]
 
     yield "a campaign of several desks is as it would be of one", campaigns(one) == campaigns(
         several) and one.count("<svg") > 1
 
-    def listed(page):
+    def listed(page: str) -> list[Any]:
         return [it[:5] for it in data_of(page)["vehicles"]]
 
     yield "and so are the vehicles", listed(one) == listed(several) and len(listed(one)) == 24
@@ -731,7 +807,7 @@ def pages_of_several(program, own):
         ("desk%d" % at, "8") for at in range(3)] and "Desks" not in one
 
 
-def reached(line, whether):
+def reached(line: str, whether: Any) -> str:
     """The line, in which a campaign reaches only such vehicles."""
     told = json.loads(line)
     if told["do"] != "open_campaign" or told["vehicles"] == "all":
@@ -739,13 +815,13 @@ def reached(line, whether):
     return json.dumps(told | {"vehicles": list(filter(whether, told["vehicles"]))})
 
 
-def date_of(seconds):
+def date_of(seconds: int) -> str:
     return datetime.fromtimestamp(seconds, timezone.utc).strftime("%Y-%m-%d %H:%M")
 
 
-def histories(path):
+def histories(path: str | Path) -> dict[Any, Any]:
     """What each ECU reported, the newest first: the manifest's moment and the file."""
-    made = {}
+    made: Any = {}
     with trials.read(path) as db:
         for moment, signed in db.execute(
                 "SELECT moment, signed FROM kept ORDER BY vehicle, version DESC"):
@@ -755,12 +831,12 @@ def histories(path):
     return made
 
 
-def begun(history, file):
+def begun(history: list[Any], file: str) -> Any:
     """The moment of the first manifest from which on the ECU reported the file until now."""
     return list(itertools.takewhile(lambda it: it[1] == file, history))[-1][0]
 
 
-def unlike(lines):
+def unlike(lines: list[str]) -> Iterator[str]:
     """One more manifest of each vehicle, whose ECUs report another second hash than the
     registered image's, or none that is one.
     """
@@ -776,18 +852,18 @@ def unlike(lines):
                             | {"counter": last["counter"] + 9, "reports": reports}))
 
 
-def page_of(*copies, now=NOW + 4 * 3600):
+def page_of(*copies: Any, now: int = NOW + 4 * 3600) -> str:
     ran = subprocess.run([sys.executable, trials.RUN, "fleet_page", *copies, "--now",
                           str(now)], capture_output=True, check=False)
     return ran.stdout.decode("ascii") if not ran.returncode and not ran.stderr else ""
 
 
-def other_schemas(path, own):
+def other_schemas(path: str | Path, own: Path) -> trials.Cases:
     """A file of schema 1 hasn't the retired identifiers, and one of 1 or 2 no second hashes:
     vehicles have what they had, and how far a campaign is may differ.
     """
 
-    def listed(page):
+    def listed(page: str) -> dict[Any, Any]:
         return {name: it for name, it in data_of(page).items() if name != "sets"}
 
     wanted = listed(page_of(path))
@@ -807,7 +883,7 @@ def other_schemas(path, own):
 # ---- what the page for operators says
 
 
-def query(page, begins):
+def query(page: str, begins: Any) -> str:
     """The statement of a page of `docs/` that begins so."""
     text = (trials.TOP / "docs" / page).read_text(encoding="utf-8")
     found = re.search(r"^    %s.*?(?=\n\n|\n[^ ])" % re.escape(begins), text,
@@ -815,7 +891,7 @@ def query(page, begins):
     return re.sub(r"\s+", " ", found.group(0)).strip()
 
 
-def operating(program, own):
+def operating(program: str | Path, own: Path) -> trials.Cases:
     path = own / "first"
     lines, wanted = translated.under(trials.TOP / "examples" / "operating", reference.METHOD)
     yield "an operator's first days", translated.are_as(
@@ -847,7 +923,7 @@ def operating(program, own):
             "done", "refused 5 NotJson", "refused 10 UnknownVehicle"]
 
 
-def idioms():
+def idioms() -> list[str]:
     """The commands of the section on giving scripts that are a program's, in order."""
     page = (trials.TOP / "docs" / "use" / "OPERATING.md").read_text(
         encoding="utf-8").split("\n## Giving scripts\n")[1].split("\n## ")[0]
@@ -857,7 +933,7 @@ def idioms():
     return [it for it in every if "uptane_desk run" in it]
 
 
-def cases(program):
+def cases(program: Path) -> trials.Cases:
     with trials.folder() as own:
         yield from makers(program, own)
     yield from checker()
@@ -865,6 +941,8 @@ def cases(program):
         yield from checked_files(program, own)
     with trials.folder() as own:
         yield from taken_changed(program, own)
+    with trials.folder() as own:
+        yield from wrong_keys(program, own)
     with trials.folder() as own:
         yield from pages(program, own)
     with trials.folder() as own:

@@ -17,11 +17,11 @@ LIMITS = {"README.md": 1200, "docs/trust/PROOFS.md": 8000, "docs/develop/WORKING
 OF_A_CRATE, OF_ALL = 300, 45000
 
 
-def words_of(text):
+def words_of(text: str) -> int:
     return len(re.findall(r"\S*\w\S*", theorem.QUOTE.sub("", text)))
 
 
-def cases():
+def cases() -> trials.Cases:
     sizes = {
         str(page.relative_to(TOP)): words_of(page.read_text(encoding="utf-8"))
         for page in pages.pages()}

@@ -10,6 +10,9 @@ version is the project's wherever it is told.
 """
 import re
 import textwrap
+from collections.abc import Iterator
+from pathlib import Path
+from typing import Any
 
 from uptane_tools import arguments
 from uptane_tools.trial import trials
@@ -22,31 +25,31 @@ PAGES = [
     "vectors/README.md", "crates/*/README.md"]
 
 
-def pages():
+def pages() -> list[Path]:
     return sorted(path for pattern in PAGES for path in TOP.glob(pattern))
 
 
-def anchors(page):
+def anchors(page: Path) -> set[str]:
     """The names by which links find the headings of a page."""
     headings = re.findall(r"^#+ (.+)$", page.read_text(encoding="utf-8"), re.MULTILINE)
     return {re.sub(r"[^\w\- ]", "", heading.lower()).replace(" ", "-") for heading in headings}
 
 
-def leads(page, link):
+def leads(page: Path, link: str) -> bool:
     """Whether a link leads to a file, and to a heading of it where it names one."""
     name, _, anchor = link.partition("#")
     path = (page.parent / name).resolve() if name else page
     return path.exists() and (not anchor or anchor in anchors(path))
 
 
-def links():
+def links() -> trials.Cases:
     for page in pages():
         for link in re.findall(r"\]\(([^)\s]+)\)", page.read_text(encoding="utf-8")):
             if not link.startswith(("http:", "https:")):
                 yield "%s: the link %s" % (page.relative_to(TOP), link), leads(page, link)
 
 
-def files():
+def files() -> trials.Cases:
     """The files and folders of the repository that the pages name, but for what is built."""
     for page in pages():
         named = re.findall(r"`((?:tools|docs|rows|vectors|examples|crates|up_\w+)/[\w./-]*)`",
@@ -57,7 +60,7 @@ def files():
                     (top / name).exists() for top in (TOP, TOP / "crates"))
 
 
-def promised():
+def promised() -> Iterator[tuple[str, str, str]]:
     """The names that the front page, the page of proofs and that on the Standard give, with what
     each names.
     """
@@ -75,11 +78,11 @@ def promised():
             yield from (("STANDARD.md", label, name) for name in re.findall(r"`([\w: ]+)`", part))
 
 
-def read_all(pattern):
+def read_all(pattern: str) -> str:
     return "\n".join(path.read_text(encoding="utf-8") for path in TOP.glob(pattern))
 
 
-def sections():
+def sections() -> set[str]:
     """The words of the sections of rows, with and without the scheme under which they stand."""
     words = re.findall(r"^# (.+)$",
                        read_all("crates/*/stdin") + "\n" + read_all("rows/each_answer"),
@@ -87,7 +90,7 @@ def sections():
     return {name for it in words for name in (it, it.split(" under ")[0])}
 
 
-def names_there():
+def names_there() -> dict[str, set[str]]:
     """The functions, clauses, types and definitions of the crates, their tests, the rows, and
     the refused edits.
     """
@@ -100,7 +103,7 @@ def names_there():
             path.parent.name for path in TOP.glob("rows/*/script")}}
 
 
-def promises():
+def promises() -> trials.Cases:
     """Whether what the pages name is there. Crates of tests stand for their tests."""
     there = names_there()
     for page, labels, name in sorted(set(promised())):
@@ -119,19 +122,19 @@ CONTRACT = re.compile(r"^  \*Contract\*: (.*?)(?:,\s+in\s+(`[\w./]+`(?:,\s+`[\w.
 MOST_FILES = 4
 
 
-def crates_in(text):
+def crates_in(text: str) -> list[str]:
     return [
         name for name in re.findall(r"`(up_\w+|uptane_desk)`", text)
         if not re.search(r"_tests$|^up_test", name)]
 
 
-def sources(crates):
+def sources(crates: list[str]) -> dict[Path, str]:
     return {
         path: path.read_text(encoding="utf-8") for crate in crates
         for path in sorted((TOP / "crates" / crate / "src").glob("**/*.rt"))}
 
 
-def declaring(name, code):
+def declaring(name: str, code: dict[Path, str]) -> list[Path]:
     """The files that declare a function or a type, `Type::function` where both stand in one;
     else the module of that name.
     """
@@ -143,7 +146,7 @@ def declaring(name, code):
     return there or [path for path in code if path.stem == name]
 
 
-def contract_files(contract, code):
+def contract_files(contract: str, code: dict[Path, str]) -> list[Path]:
     """The files in which a contract's names are declared. One that several files have is that of
     a file which another of the names has alone, if there is one; a clause's name is that of the
     files which have such a clause, where there is no other.
@@ -163,15 +166,16 @@ def contract_files(contract, code):
             for name in names if re.search(r"\bensures %s\b" % name, text)})
 
 
-def with_files(text):
+def with_files(text: str) -> str:
     """The page of proofs, with the files of each contract."""
+    crates: Any
     made, crates = [], []
     for part in re.split(r"(?m)^(?=Crates? `)", text):
         head = re.match(r"Crates? .*?\.\n", part, re.DOTALL)
         crates = crates_in(head[0]) if head else crates
         code = sources(crates)
 
-        def named(found):
+        def named(found: re.Match[str]) -> str:
             bullet = found[0].rstrip("\n")
             contract = CONTRACT.search(bullet)
             paths = contract_files(contract[1], code)
@@ -191,7 +195,7 @@ def with_files(text):
     return "".join(made)
 
 
-def located():
+def located() -> trials.Cases:
     """Whether each promise of the page of proofs names the files of its contract."""
     page = (TOP / "docs" / "trust" / "PROOFS.md").read_text(encoding="utf-8")
     here, wanted = (BULLET.findall(text) for text in (page, with_files(page)))
@@ -200,7 +204,7 @@ def located():
             "`")[1], bullet == other and CONTRACT.search(other)[2] is not None
 
 
-def calls():
+def calls() -> trials.Cases:
     """The public calls of the program's libraries, and whether the page of proofs names them."""
     proofs = (TOP / "docs" / "trust" / "PROOFS.md").read_text(encoding="utf-8")
     named = {word for it in re.findall(r"`([^`]+)`", proofs) for word in re.findall(r"\w+", it)}
@@ -216,20 +220,20 @@ def calls():
                                                                      name), name in named
 
 
-def primary():
+def primary() -> trials.Cases:
     page = (TOP / "docs" / "integrate" / "PRIMARY.md").read_text(encoding="utf-8")
     for name in ("manifest.json", "reply.json"):
         text = (TOP / "examples" / "primary" / name).read_text(encoding="ascii")
         yield "docs/integrate/PRIMARY.md shows " + name, text.strip() in page
 
 
-def part(page, heading):
+def part(page: str, heading: str) -> str:
     """What stands under a heading of a page of `docs/`, up to the next."""
     return (TOP / "docs" / page).read_text(encoding="utf-8").split(
         "\n## %s\n" % heading)[1].split("\n## ")[0]
 
 
-def refusals():
+def refusals() -> trials.Cases:
     """Whether the pages on formats and on operating list the refusals, by number and name, as
     the code has them, and no other.
     """
@@ -246,7 +250,7 @@ def refusals():
         yield "docs/%s: the refusals" % page, listed == wanted
 
 
-def messages():
+def messages() -> trials.Cases:
     """Whether the page for operators says what to do at each message of the program, as its own
     page lists them.
     """
@@ -259,7 +263,7 @@ def messages():
         yield "docs/use/OPERATING.md: the cause %s" % name, name in told
 
 
-def versions():
+def versions() -> trials.Cases:
     """Whether `--version`, its definition and its page tell the project's version, and one kit."""
     source = (TOP / "crates" / "up_program" / "src" / "version.rt").read_text("utf-8")
     told = dict(re.findall(r'const (\w+): &str = "(.*)";', source))
@@ -271,7 +275,7 @@ def versions():
     yield "Versions.antt: the version", '"%s" ++ method ++ codes "%s\\n"' % (first, last) in stated
 
 
-def cases():
+def cases() -> trials.Cases:
     """Each of the names that lead nowhere, and what the pages show."""
     found = [
         *links(), *files(), *promises(), *located(), *calls(), *refusals(), *messages(),

@@ -8,6 +8,7 @@ another of them uses too.
 """
 import html
 import re
+from typing import Any
 
 from uptane_tools import arguments
 from uptane_tools.trial import trials
@@ -34,66 +35,59 @@ LANES = {
         "up_laws": "laws of replies",
         "up_verify": "a Primary's checks",
         "up_primary": "a Primary's laws",
-        "up_uptane": "Uptane's laws",
-    },
+        "up_uptane": "Uptane's laws", },
     "the database": {
         "up_tables": "tables, statements",
         "up_columns": "lists in columns",
         "up_rows": "rows of a state",
         "up_records": "store and cache",
         "up_store": "reads, writes",
-        "up_file": "database files",
-    },
+        "up_file": "database files"},
     "the program": {
-        "up_desk": "commands, the headline",
-        "up_service": "scripts, streams",
-        "up_shipped": "what ships",
-        "up_main": "the programs' parts",
-        "uptane_desk": "under HMAC",
-        "uptane_desk_ed25519": "under Ed25519",
-        "up_primary_files": "a Primary's files",
-        "up_reporting": "its manifests",
-        "uptane_primary": "a Primary"
-    },
+        "up_desk": "commands, the headline", "up_service": "scripts, streams",
+        "up_shipped": "what ships", "up_main": "the programs' parts", "uptane_desk": "under HMAC",
+        "uptane_desk_ed25519": "under Ed25519", "up_primary_files": "a Primary's files",
+        "up_reporting": "its manifests", "uptane_primary": "a Primary"},
     "bytes and HTTP": {
         "up_pieces": "bytes in pieces",
         "up_lines": "lines",
         "up_script": "lines of scripts",
         "up_heads": "heads, routes",
         "up_http": "requests",
-        "up_program": "statuses, messages",
-    },
-}
+        "up_connections": "many at once",
+        "up_program": "statuses, messages"}}
 
 
-def used():
+def used() -> dict[str, list[str]]:
     """For each crate of the program those of the program that it uses."""
     text = (TOP / "crates.txt").read_text(encoding="utf-8").split("\n# crates of tests")[0]
     rows = dict(re.findall(r"^(up\w+)[^:\n]*:(.*)$", text, re.MULTILINE))
     return {name: [it for it in row.split() if it in rows] for name, row in rows.items()}
 
 
-def nearest(crates):
+def nearest(crates: dict[str, list[str]]) -> dict[str, list[str]]:
     """The same without those that another of them uses."""
 
-    def below(name):
+    def below(name: str) -> set[str]:
         return {it for direct in crates[name] for it in (direct, *below(direct))}
 
     return {
-        name: [it for it in direct if not any(it in below(other) for other in direct)]
-        for name, direct in crates.items()
-    }
+        name: [it for it in direct if not any(it in below(other) for other in direct)
+               ] for name, direct in crates.items()}
 
 
-def lane_of(name):
+def lane_of(name: str) -> int:
     return next((at for at, crates in enumerate(LANES.values()) if name in crates), 0)
 
 
-def placed(crates):
+def placed(
+    crates: dict[str,
+                 list[str]]) -> tuple[dict[str, int], dict[str, int], dict[tuple[int, int], int]]:
     """The row of each crate, from below, and its place in its lane."""
-    rows = {}
+    rows: Any = {}
     for name in crates:
         rows[name] = 1 + max((rows[it] for it in crates[name]), default=-1)
+    counts: Any
     places, counts = {}, {}
     for name in crates:
         key = rows[name], lane_of(name)
@@ -102,27 +96,25 @@ def placed(crates):
     return rows, places, counts
 
 
-def drawn():
+def drawn() -> str:
     crates = nearest(used())
     rows, places, counts = placed(crates)
     wide = [
         max((count for (_, lane), count in counts.items() if lane == at), default=1)
-        for at in range(len(LANES))
-    ]
+        for at in range(len(LANES))]
     starts = [28 + sum(wide[:at]) * (WIDTH + GAP) + at * 22 for at in range(len(LANES))]
     width = starts[-1] + wide[-1] * (WIDTH + GAP) + 16
     height = (max(rows.values()) + 1) * ROW + 46
     words = {name: what for lane in LANES.values() for name, what in lane.items()}
 
-    def corner(name):
+    def corner(name: str) -> tuple[float, int]:
         lane, count = lane_of(name), counts[rows[name], lane_of(name)]
         x = starts[lane] + (wide[lane] - count) * (WIDTH + GAP) / 2 + places[name] * (WIDTH + GAP)
         return x, height - 16 - rows[name] * ROW - HEIGHT
 
     out = [
         '<svg xmlns="http://www.w3.org/2000/svg" viewBox="0 0 %d %d" font-family="sans-serif" '
-        'font-size="12">' % (width, height)
-    ]
+        'font-size="12">' % (width, height)]
     out.append("<title>How the crates of uptane_desk stand on one another</title>")
     out.append('<rect width="100%" height="100%" fill="#ffffff"/>')
     for lane, start, many in zip(LANES, starts, wide):
@@ -153,7 +145,7 @@ def drawn():
     return "\n".join([*out, "</svg>"]) + "\n"
 
 
-def cases():
+def cases() -> trials.Cases:
     yield "the picture is that of crates.txt", PICTURE.is_file() and PICTURE.read_text(
         encoding="utf-8") == drawn()
     known = {name for lane in LANES.values() for name in lane}

@@ -21,6 +21,9 @@ import subprocess
 import sys
 import threading
 import time
+from collections.abc import Iterator
+from pathlib import Path
+from typing import Any
 
 from uptane_tools import arguments
 from uptane_tools.measure import fleet
@@ -46,7 +49,7 @@ SMALL = {
         "node", str(trials.TOP / "examples" / "primary_node" / "primary.mjs")]}
 
 
-def keys(start):
+def keys(start: int) -> dict[str, Any]:
     """The eight roles' keys: two root keys each, of which both have to sign."""
     sets = {}
     for repository, at in (("director", start), ("image", start + 10)):
@@ -57,30 +60,30 @@ def keys(start):
     return sets
 
 
-def secrets(start):
+def secrets(start: int) -> list[str]:
     return [
         key for roles in keys(start).values() for role in roles.values() for key in role["keys"]]
 
 
-def ecu_key(number):
+def ecu_key(number: int) -> str:
     return fleet.key(200 + number)
 
 
-def hashes(name):
+def hashes(name: str) -> dict[str, str]:
     """The hashes of an image: those of the gateway have two."""
     first = {"sha256": hashlib.sha256(CONTENT[name]).hexdigest()}
     return first | ({"sha512": hashlib.sha512(CONTENT[name]).hexdigest()}
                     if name.startswith("gateway") else {})
 
 
-def image(name, at):
+def image(name: str, at: int) -> str:
     kind, release = name.split("-")
-    told = {"length": len(CONTENT[name]), **hashes(name)}
+    told: dict[str, Any] = {"length": len(CONTENT[name]), **hashes(name)}
     return fleet.line("add_image", at, file=name, hardware=["GW" if kind == "gateway" else "BR"],
                       release=int(release[0]), **told)
 
 
-def beginning(at):
+def beginning(at: int) -> list[str]:
     ecus = [{"ecu": ecu, "hardware": kind, "key": ecu_key(i)} for i, (ecu, kind) in enumerate(ECUS)]
     vehicle = fleet.line("add_vehicle", at, vehicle="VIN-1", primary="gw", ecus=ecus)
     return [
@@ -89,7 +92,7 @@ def beginning(at):
         image("brake-1.bin", at)]
 
 
-def update(at):
+def update(at: Any) -> list[str]:
     items = [{"hardware": "GW", "file": "gateway-2.bin"}, {"hardware": "BR", "file": "brake-2.bin"}]
     return [
         image("gateway-2.bin", at),
@@ -97,7 +100,7 @@ def update(at):
         fleet.line("open_campaign", at, campaign="spring", vehicles="all", items=items)]
 
 
-def vehicle_of(roots):
+def vehicle_of(roots: dict[str, dict[str, Any]]) -> dict[str, Any]:
     """What the vehicle knows when it leaves the factory. Under HMAC it has the secrets of the
     next keys by another way, before the rotation.
     """
@@ -119,26 +122,26 @@ def vehicle_of(roots):
 
 class Vehicle:
 
-    def __init__(self, own, roots, small="Python"):
+    def __init__(self, own: Path, roots: dict[str, dict[str, Any]], small: str = "Python") -> None:
         self.words = SMALL[small]
         self.file, self.images = own / "vehicle.json", own / "images"
         self.images.mkdir()
         self.file.write_text(json.dumps(vehicle_of(roots)), encoding="ascii")
 
-    def told(self):
+    def told(self) -> dict[str, Any]:
         return json.loads(self.file.read_text(encoding="ascii"))
 
-    def releases(self):
+    def releases(self) -> list[int]:
         return [ecu["installed"]["release"] for ecu in self.told()["ecus"]]
 
-    def attack(self):
+    def attack(self) -> str:
         """What the Primary reports next."""
         return self.told()["ecus"][0].get("attack", "")
 
-    def put(self, name):
+    def put(self, name: str) -> None:
         (self.images / name).write_bytes(CONTENT[name])
 
-    def round(self, port):
+    def round(self, port: int) -> tuple[int, list[str], str]:
         words = [
             *self.words, "round",
             "http://127.0.0.1:%d" % port,
@@ -148,12 +151,12 @@ class Vehicle:
         return ran.returncode, ran.stdout.decode("ascii").splitlines(), ran.stderr.decode("ascii")
 
 
-def with_service(program, path, vehicle):
+def with_service(program: Any, path: Any, vehicle: Vehicle) -> tuple[int, list[str], str]:
     with http_cases.served(program, path, 50) as running:
         return vehicle.round(running.port)
 
 
-def roots_of(program, path):
+def roots_of(program: Any, path: Path) -> dict[str, dict[str, Any]]:
     """The first Root files, which a vehicle gets where it is built."""
     lines = [
         fleet.line("fetch", NOW, repository=it, file="1.root.json") for it in reference.REPOSITORIES
@@ -163,7 +166,8 @@ def roots_of(program, path):
             (json.loads(it[5:]) for it in trials.printed(program, path, lines))))
 
 
-def lost(program, path, vehicle, at):
+def lost(program: str | Path, path: str | Path, vehicle: Vehicle,
+         at: int) -> tuple[tuple[int, list[str], str], bool]:
     """A manifest that was accepted at a moment, and whose reply never came."""
     refused = vehicle.round(http_cases.free_port())
     printed = trials.printed(program, path,
@@ -171,7 +175,7 @@ def lost(program, path, vehicle, at):
     return refused, printed is not None and printed[0].startswith("reply VIN-1")
 
 
-def rounds(program, own):
+def rounds(program: Path, own: Path) -> trials.Cases:
     path = own / "desk"
     yield "a founding and a vehicle", trials.printed(program, path, beginning(NOW)) == 4 * ["done"]
     vehicle = Vehicle(own, roots_of(program, path))
@@ -233,18 +237,18 @@ def rounds(program, own):
     yield from replaced(program, path, vehicle)
 
 
-def replacement():
+def replacement() -> str:
     """The line by which a workshop puts a new ECU in the place of one."""
     return fleet.line("replace_ecu", NOW, vehicle="VIN-1", old="left", ecu="left-2", hardware="BR",
                       key=ecu_key(9))
 
 
-def replaced(program, path, vehicle):
+def replaced(program: str | Path, path: str | Path, vehicle: Vehicle) -> trials.Cases:
     """A workshop puts a new ECU in the place of one: the old one's reports are refused, and the
     new one gets the image that is due.
     """
     yield "an ECU is replaced", trials.printed(program, path, [replacement()]) == ["done"]
-    refused = 1, [], 'primary: 409 {"error":14,"text":"UnknownEcu left"}\n'
+    refused: Any = 1, [], 'primary: 409 {"error":14,"text":"UnknownEcu left"}\n'
     yield "a round with the old ECU", with_service(program, path, vehicle) == refused
     told = vehicle.told()
     new = told["ecus"][1] | {
@@ -257,7 +261,7 @@ def replaced(program, path, vehicle):
         program, path, vehicle) == wanted and vehicle.releases() == [2, 2, 2]
 
 
-def locked(program, own, small):
+def locked(program: str | Path, own: Path, small: str) -> trials.Cases:
     """What a reply that is refused leads to: a reply that was kept from before an ECU was
     replaced, and those of a database that was restored.
     """
@@ -279,7 +283,7 @@ def locked(program, own, small):
     # round all the same
     vehicle.file.write_text(json.dumps(known), encoding="ascii")
     trials.copied(path, own / "replaced")
-    wanted = 1, [], "primary: left is no ECU of this vehicle\n"
+    wanted: Any = 1, [], "primary: left is no ECU of this vehicle\n"
     yield "%s: a kept reply for an ECU that it never knew" % small, with_service(
         program, path, vehicle) == wanted and vehicle.attack() != ""
     installed = [it.replace("left", "left-2") for it in INSTALLED]
@@ -318,7 +322,7 @@ AHEAD = {
         *SMALL["JavaScript"][1:]]}
 
 
-def strange(program, own, small):
+def strange(program: str | Path, own: Path, small: str) -> trials.Cases:
     """A clock that makes each reply old, and an answer without end."""
     path = own / "desk"
     trials.printed(program, path, beginning(NOW))
@@ -341,12 +345,12 @@ def strange(program, own, small):
 
 
 @contextlib.contextmanager
-def endless():
+def endless() -> Iterator[int]:
     """The port of a server whose answers are larger than any file."""
 
     class Endless(http.server.BaseHTTPRequestHandler):
 
-        def do_POST(self):
+        def do_POST(self) -> None:
             self.rfile.read(int(self.headers["Content-Length"]))
             self.send_response(200)
             self.end_headers()
@@ -354,7 +358,7 @@ def endless():
                 for _ in range(100):
                     self.wfile.write(65536 * b" ")
 
-        def log_message(self, *_):
+        def log_message(self, *_: Any) -> None:
             pass
 
     with http.server.ThreadingHTTPServer(("127.0.0.1", 0), Endless) as server:
@@ -365,7 +369,7 @@ def endless():
             server.shutdown()
 
 
-def primary_made(told):
+def primary_made(told: dict[str, Any]) -> str:
     """The vehicle's file with a manifest that it has made and not sent."""
     _, _, primary = small_primary.modules()
     primary.use(told)
@@ -373,7 +377,8 @@ def primary_made(told):
     return json.dumps(told)
 
 
-def by_the_page(program, own, primary=None):
+def by_the_page(program: str | Path, own: Path,
+                primary: str | None = None) -> trials.Cases:
     """The commands of the page's section on rounds, in an empty folder, with another Primary
     where one is given.
     """
@@ -404,7 +409,7 @@ def by_the_page(program, own, primary=None):
                                      ""), told == first + second and b"Traceback" not in ran.stderr
 
 
-def words():
+def words() -> trials.Cases:
     """What the Primary says to what isn't as it must be: one line, and no trace of its own."""
     tried = [(["send", "http://127.0.0.1:%d" % http_cases.free_port()], http_cases.GIVEN, 1),
              (["build"], b"{}", 1), (["build"], b"nope", 1),
@@ -418,7 +423,7 @@ def words():
             status == 2 or told.count("\n") == 1)
 
 
-def cases(program):
+def cases(program: Path) -> trials.Cases:
     with trials.folder() as own:
         yield from rounds(program, own)
     for small in SMALL:

@@ -11,6 +11,7 @@ import shutil
 import subprocess
 import tempfile
 from pathlib import Path
+from typing import Any
 
 from uptane_tools import TOP
 from uptane_tools.oracle import reference
@@ -30,20 +31,21 @@ LARGEST_FILE = 1_073_741_824
 MEBIBYTE = 1 << 20
 
 
-def stopped(lines, cause):
+def stopped(lines: Any, cause: Any) -> bytes:
     return b"uptane_desk: stopped after %d lines: %s\n" % (lines, cause)
 
 
-def answers(program, words, given, status, out, err):
+def answers(program: str | Path, words: Any, given: Any, status: int, out: bytes,
+            err: bytes) -> bool:
     """Whether the program ends so and prints just this: `given` are the bytes of its standard
     input, or a file that is it.
     """
-    source = {"input": given} if isinstance(given, bytes) else {"stdin": given}
+    source: dict[str, Any] = {"input": given} if isinstance(given, bytes) else {"stdin": given}
     ran = subprocess.run([program, *words], capture_output=True, check=False, **source)
     return (ran.returncode, ran.stdout, ran.stderr) == (status, out, err)
 
 
-def words(program):
+def words(program: str | Path) -> trials.Cases:
     yield "no words", answers(program, [], b"", 2, b"", USAGE)
     yield "a word alone", answers(program, ["run"], b"", 2, b"", USAGE)
     yield "another word", answers(program, ["walk", ":memory:"], b"", 2, b"", USAGE)
@@ -62,7 +64,7 @@ def words(program):
                                             NO_PATH)
 
 
-def version(program):
+def version(program: str | Path) -> trials.Cases:
     """What the program says of itself is what the project and the kit say, and what its file's
     end says of a proof.
     """
@@ -80,7 +82,7 @@ def version(program):
     yield "with a word behind it", answers(program, ["--version", "x"], b"", 2, b"", USAGE)
 
 
-def names(program):
+def names(program: str | Path) -> trials.Cases:
     """Names of files at their limit: a journal's has eight bytes more, and a file system takes 255.
     """
     with tempfile.TemporaryDirectory() as folder:
@@ -97,7 +99,7 @@ def names(program):
         yield "and it is there", longest in os.listdir(folder)
 
 
-def scripts(program):
+def scripts(program: str | Path) -> trials.Cases:
     yield "a script without lines", answers(program, RUN, b"\n\n", 0, b"", b"")
     yield "a refused line", answers(program, RUN, b"nope\n", 0, NOT_JSON, b"")
     yield "the longest line", answers(program, RUN, LONGEST_LINE * b" ", 0, NOT_JSON, b"")
@@ -113,7 +115,7 @@ def scripts(program):
     yield "too little memory for a line", told_memory(program)
 
 
-def into_full(program, words, given):
+def into_full(program: str | Path, words: Any, given: Any) -> tuple[int, Any]:
     """The status and the message where standard output takes nothing."""
     with open("/dev/full", "wb") as full:
         ran = subprocess.run([program, *words], input=given, stdout=full, stderr=subprocess.PIPE,
@@ -121,12 +123,12 @@ def into_full(program, words, given):
     return ran.returncode, ran.stderr
 
 
-def within(program, limit, given):
+def within(program: str | Path, limit: int, given: Any) -> tuple[int, Any, Any]:
     """The status, output and message of a script under a limit of address space, in bytes
     (`ulimit -v`).
     """
 
-    def most():
+    def most() -> Any:
         return resource.setrlimit(resource.RLIMIT_AS, (limit, limit))
 
     ran = subprocess.run([program, *RUN], input=given, capture_output=True, check=False,
@@ -134,7 +136,7 @@ def within(program, limit, given):
     return ran.returncode, ran.stdout, ran.stderr
 
 
-def told_memory(program):
+def told_memory(program: str | Path) -> bool:
     """Whether a run ends with that message before its first line, under some limit that leaves
     no room for the longest line there may be: the room is made at the first byte, and takes two
     mebibytes of those that a short script needs.
@@ -153,13 +155,13 @@ def told_memory(program):
         for size in lacking)
 
 
-def digests_of(given):
+def digests_of(given: Any) -> bytes:
     """The line of a file of these bytes."""
     return b"%d %s %s\n" % (len(given), hashlib.sha256(given).hexdigest().encode(),
                             hashlib.sha512(given).hexdigest().encode())
 
 
-def digests(program):
+def digests(program: str | Path) -> trials.Cases:
     with tempfile.TemporaryDirectory() as folder:
         path = str(Path(folder) / "abc")
         yield "no file to digest", answers(program, ["digest", path], b"", 4, b"", UNREAD)
@@ -176,7 +178,7 @@ def digests(program):
         yield "a file too large to digest", answers(program, ["digest", path], b"", 4, b"", UNREAD)
 
 
-def cases(program):
+def cases(program: str | Path) -> trials.Cases:
     """Each case with whether the program does as the page says."""
     yield from words(program)
     yield from version(program)

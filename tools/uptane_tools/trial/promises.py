@@ -16,6 +16,9 @@ and so does a name that is no promise's, and a section or row that isn't there.
 import re
 import subprocess
 from collections import defaultdict
+from collections.abc import Iterator
+from pathlib import Path
+from typing import Any
 
 from uptane_tools import arguments
 from uptane_tools.rows import expected_streams
@@ -27,13 +30,13 @@ EVERY = "every row"
 NAMES = r"([a-z][a-z0-9-]*(?:, [a-z][a-z0-9-]*)*)"
 
 
-def promised():
+def promised() -> list[str]:
     """The names of the promises, in the order of the page."""
     page = (TOP / "docs" / "trust" / "PROOFS.md").read_text(encoding="utf-8")
     return re.findall(r"^- `([a-z][a-z0-9-]*)`: ", page, re.MULTILINE)
 
 
-def marks(pattern, folder=TOP / "crates"):
+def marks(pattern: str, folder: Path = TOP / "crates") -> Iterator[tuple[str, Path, str]]:
     """The marks in the files of a pattern: the promise, the file, and the line that comes next,
     which is what belongs to it.
     """
@@ -47,11 +50,11 @@ def marks(pattern, folder=TOP / "crates"):
                 yield name, path, " ".join(lines[at + 1:at + 3])
 
 
-def edits():
+def edits() -> Iterator[tuple[str, str, Path]]:
     yield from ((name, path.stem, path) for name, path, _ in marks("*/refused/*.edit"))
 
 
-def sections(folder):
+def sections(folder: Path) -> set[str]:
     """The words of the sections that a crate carries out, those too that are computed; of worked
     rows, their names, and sections of lines.
     """
@@ -66,7 +69,7 @@ def sections(folder):
     return {name for it in words for name in (it, it.split(" under ")[0])} | {EVERY}
 
 
-def rows():
+def rows() -> Iterator[tuple[str, str, Path, bool]]:
     """The sections and rows that the files `promises` name, with what they belong to, and
     whether the crate has them.
     """
@@ -78,7 +81,7 @@ def rows():
                 yield name, words, path, words in there
 
 
-def tests():
+def tests() -> Iterator[tuple[str, str, Path]]:
     """Functions and sections of crates, worked rows, and tools."""
     for name, path, behind in marks("up_test_*/src/**/*.rt"):
         words = re.search(r"fn (\w+)", behind)
@@ -89,16 +92,16 @@ def tests():
                     for name, path, _ in marks(pattern, TOP / "tools" / "uptane_tools"))
 
 
-def belonging():
+def belonging() -> defaultdict[Any, Any]:
     """For each promise its edits and its tests, each with the file in which that is written."""
-    found = defaultdict(lambda: ([], []))
+    found: Any = defaultdict(lambda: ([], []))
     for place, marked in enumerate((edits(), tests())):
         for name, what, path in marked:
             found[name][place].append((what, path.relative_to(TOP)))
     return found
 
 
-def cases():
+def cases() -> trials.Cases:
     there, found = promised(), belonging()
     yield "%d promises, each under one name" % len(there), len(there) == len(set(there))
     for name in there:
@@ -113,7 +116,7 @@ def cases():
         len(part) for name in there for part in found[name]) > 0
 
 
-def listed(names):
+def listed(names: list[Any]) -> None:
     found = belonging()
     for name in names or promised():
         for words, part in zip(("edits", "tests"), found[name]):
@@ -121,7 +124,7 @@ def listed(names):
             print("%s: %d %s%s%s" % (name, len(part), words, ": " * bool(part), ", ".join(shown)))
 
 
-def restore(revision):
+def restore(revision: str) -> None:
     for path in sorted((TOP / "crates").glob("*/refused/*.edit")):
         text = path.read_text(encoding="utf-8")
         if not re.search("^promise: ", text, re.MULTILINE):

@@ -87,7 +87,7 @@ def has_state(path: Path, wanted: dict) -> bool:
     return found == wanted and not path.with_suffix(".json.new").exists()
 
 
-def cases(program: str):
+def cases(program: str) -> Iterator[tuple[str, bool]]:
     with trials.folder() as own:
         for method in vector_cases.envelopes.SCHEMES:
             told = vector_cases.vectors("chains", method)
@@ -96,7 +96,7 @@ def cases(program: str):
                 yield name, is_answered(program, told, case, Path(own))
 
 
-def builds(program: str):
+def builds(program: str) -> trials.Cases:
     """The manifests that are to be built, and what is no list of reports."""
     with trials.folder() as own:
         listed = Path(own) / "listed.json"
@@ -124,7 +124,7 @@ def printed(program: str, listed: Path) -> tuple[int, str]:
 # ---- rounds over HTTP
 
 
-def rounds(program: str):
+def rounds(program: str) -> trials.Cases:
     """Whole rounds over HTTP, by `examples/proved_primary`, with the rules as the service."""
     with trials.folder() as own:
         folder = Path(own)

@@ -23,7 +23,7 @@ from typing import Any
 from uptane_tools import arguments
 from uptane_tools.oracle import reference, verification
 from uptane_tools.oracle.reference import REPOSITORIES, ROLES, SCHEME, canonical, sealed
-from uptane_tools.trial import trials, vector_cases
+from uptane_tools.trial import premises, trials, vector_cases
 
 DAY, START = 86_400, 1_767_225_600
 HARDWARE = ["HA", "HB", "HC"]
@@ -148,7 +148,7 @@ class Vehicle:
 
     def __init__(self, world: World, name: str, ecus: dict[str, Any]) -> None:
         self.world, self.name, self.ecus, self.primary = world, name, ecus, next(iter(ecus))
-        self.counter = 0
+        self.counter, self.body, self.lost = 0, "", False
         self.replaced: list[str] = []
         texts, numbers = world.texts(), world.desk.all("SELECT DISTINCT root FROM role_key")
         first = world.rng.choice([row[0] for row in numbers])
@@ -159,11 +159,15 @@ class Vehicle:
     def reply(self) -> str | None:
         """The text of the reply to a new manifest."""
         self.counter += 1
-        body = vector_cases.envelopes.manifest({
+        self.body = vector_cases.envelopes.manifest({
             "vehicle": self.name, "primary": self.primary, "counter": self.counter,
             "key": self.ecus[self.primary]["secret"].hex(), "reports": [
                 self.report(*it) for it in self.ecus.items()]})
-        if not self.world.give("deliver", body=body).startswith("reply"):
+        return self.delivered()
+
+    def delivered(self) -> str | None:
+        """The text of the reply to the last manifest, which may come again."""
+        if not self.world.give("deliver", body=self.body).startswith("reply"):
             return None
         return self.world.desk.one("SELECT reply FROM kept WHERE vehicle = ? AND counter = ?",
                                    self.name, self.counter)[0]
@@ -401,8 +405,10 @@ class Case:
     def __init__(self, program: str, own: Path, seed: int) -> None:
         self.world = World(seed)
         self.counts: Counter = Counter()
+        self.met: Counter = Counter()
         self.faults: list[str] = []
         self.tried = Tried(program, own, self.world.pool)
+        self.premises = premises.Met(self.world, self.tried.verifier)
 
     def run(self) -> None:
         world = self.world
@@ -415,21 +421,39 @@ class Case:
 
     def round(self) -> None:
         vehicle = self.world.some()
-        reply = vehicle.reply()
-        if reply is None:
-            self.counts["manifests refused"] += 1
+        again = vehicle.lost and self.world.rng.random() < 0.7
+        reply = vehicle.delivered() if again else vehicle.reply()
+        vehicle.lost = reply is not None and not again and self.world.rng.random() < 0.2
+        if reply is None or vehicle.lost:
+            self.counts["answers lost" if reply else "manifests refused"] += 1
             return
         older = self.world.rng.sample(vehicle.history, min(2, len(vehicle.history)))
         for number, trust in enumerate([vehicle.history[-1], *older]):
             served = honest(self.world, trust, reply)
+            met = self.premises.of_round(vehicle, trust, reply, again, self.world.texts())
             found = self.compared(vehicle, trust, served)
-            fault = found[0] != "accepted" and not found[1].endswith("Expired")
-            if fault and "ReplacedEcu" not in found[1] and "LowerRelease" not in found[1]:
-                self.faults.append("honest: %s %s" % found[:2])
+            self.honest_is(found, met, reply, again)
             if number == 0 and found[0] == "accepted":
                 vehicle.history.append(found[3])
                 vehicle.install(found[2])
         self.attacked(vehicle, self.world.rng.choice(vehicle.history), reply)
+
+    def honest_is(self, found: tuple, met: dict[str, bool], reply: str, again: bool) -> None:
+        """Where each premise is met just what is assigned is accepted."""
+        due = verification.targets_in(verification.reply_in(reply)["files"]["targets"])[0]
+        assigned = {it["ecu"]: it["image"][0] for it in due["targets"]}
+        self.count("of a round", met)
+        if all(met.values()) and (found[0], found[2]) != ("accepted", assigned):
+            self.faults.append("all premises met: %s" % (found[:3], ))
+        of_old = again and found[1] == "OldRoot"
+        fault = found[0] != "accepted" and not found[1].endswith("Expired") and not of_old
+        if fault and "ReplacedEcu" not in found[1] and "LowerRelease" not in found[1]:
+            self.faults.append("honest: %s %s" % found[:2])
+
+    def count(self, of: str, met: dict[str, bool]) -> None:
+        """Counts which premises are met."""
+        self.met.update({"%s %s" % (name, of): holds for name, holds in met.items()})
+        self.met["all premises " + of] += all(met.values())
 
     def compared(self, vehicle: Vehicle, trust: dict[str, Any], served: dict[str, Any]) -> tuple:
         """What the program says, compared with the rules."""
@@ -450,21 +474,50 @@ class Case:
         self.counts["attacked, %s" % ("bounded" if bounded else "not bounded")] += 1
         self.counts["accepted of an adversary"] += found[0] == "accepted"
         self.counts["forged images installed"] += bool(strange)
-        if strange and bounded:
+        met = self.thefts(trust, served, thief.stolen)
+        if strange and (bounded or all(met["image"].values())):
             self.faults.append("installs %s" % sorted(strange))
+        if found[0] == "accepted" and all(met["director"].values()):
+            self.heard_is(vehicle, served)
+
+    def thefts(self, trust: dict[str, Any], served: dict[str, Any],
+               stolen: set[bytes]) -> dict[str, dict[str, bool]]:
+        """The premises of what a thief served, by repository."""
+        texts = self.world.texts()
+        self.premises.sign(texts)
+        names = {verification.key_identifier(SCHEME.public_of(it)) for it in stolen}
+        met = {it: self.premises.of_theft(it, trust, served, names, texts) for it in REPOSITORIES}
+        for it, each in met.items():
+            self.count("of what a thief serves as %s" % it, each)
+        return met
+
+    def heard_is(self, vehicle: Vehicle, served: dict[str, Any]) -> None:
+        """Under safe keys the reply is one of the vehicle's, of the last seven days."""
+        told = verification.reply_in(served["reply"])
+        kept = self.world.desk.one(
+            "SELECT moment, reply FROM kept WHERE vehicle = ? AND version = ?", vehicle.name,
+            told["version"])
+        own = kept and verification.reply_in(kept[1])["files"]["targets"]
+        same = own and premises.payload(own) == premises.payload(told["files"]["targets"])
+        if not same or self.world.now >= kept[0] + 7 * DAY:
+            self.faults.append("heard %s of %s" % (told["version"], vehicle.name))
 
 
-def cases(program: str, seed: int, count: int):
+def cases(program: str, seed: int, count: int) -> trials.Cases:
     total: Counter = Counter()
+    met: Counter = Counter()
     with trials.folder("/dev/shm" if Path("/dev/shm").is_dir() else None) as own:
         vector_cases.envelopes.use({"method": SCHEME.method})
         for number in range(seed, seed + count):
             case = Case(program, Path(own), number)
             case.run()
             total += case.counts
+            met.update(case.met)
             for fault in case.faults[:3]:
                 yield "list %d: %s" % (number, fault), False
             case.world.desk.db.close()
+        for name, times in sorted(met.items()):
+            yield "%s: met %d times" % (name, times), times > 0
         yield "%d lists: %s" % (count, dict(sorted(total.items()))), total["accepted"] > 0
 
 

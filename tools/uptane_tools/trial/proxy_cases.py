@@ -21,8 +21,10 @@ import subprocess
 import tempfile
 import threading
 import time
+from collections.abc import Callable, Iterator
 from concurrent.futures import ThreadPoolExecutor
 from pathlib import Path
+from typing import Any
 
 from uptane_tools import arguments
 from uptane_tools.trial import http_cases, trials
@@ -36,12 +38,12 @@ STRANGERS, AT_ONCE, ROUNDS, PATIENCE, SLOWEST, HUNDRED = 40, 300, 20, 60, 10, 10
 class Proxy:
     """A proxy at a port, before a service at another one."""
 
-    def __init__(self, own, name, port, service, secret):
+    def __init__(self, own: Path, name: str, port: int, service: int, secret: bool) -> None:
         self.own, self.name, self.port, self.service, self.secret = own, name, port, service, secret
         # (nobody need listen there)
         self.logged = 9
 
-    def words(self):
+    def words(self) -> list[str]:
         text = self.changed(
             (GIVEN / ("nginx.conf" if self.name == "nginx" else "haproxy.cfg")).read_text("ascii"))
         path = self.own / (self.name + ".conf")
@@ -49,7 +51,7 @@ class Proxy:
         return ["nginx", "-p", str(self.own), "-c", str(path)] if self.name == "nginx" else [
             "haproxy", "-db", "-f", str(path)]
 
-    def changed(self, text):
+    def changed(self, text: str) -> str:
         """The configuration with other addresses, paths and user."""
         own, there = str(self.own), "127.0.0.1:%d" % self.port
         text = text.replace("127.0.0.1:8080", "127.0.0.1:%d" % self.service)
@@ -69,7 +71,7 @@ class Proxy:
         return "daemon off;\n" + text.replace("http {\n", "http {\n" + kept, 1)
 
     @contextlib.contextmanager
-    def running(self):
+    def running(self) -> Iterator[subprocess.Popen[bytes]]:
         """The proxy, once it takes connections."""
         with open(self.own / (self.name + ".out"), "wb") as out:
             it = subprocess.Popen(self.words(), stdout=out, stderr=out)
@@ -84,21 +86,21 @@ class Proxy:
             it.terminate()
             it.wait()
 
-    def connected(self):
+    def connected(self) -> Any:
         plain = socket.create_connection(("127.0.0.1", self.port), timeout=PATIENCE)
         if not self.secret:
             return plain
         trusting = ssl.create_default_context(cafile=str(self.own / "certificate.pem"))
         return trusting.wrap_socket(plain, server_hostname="desk.example")
 
-    def client(self):
+    def client(self) -> http.client.HTTPConnection:
         """Python's client, over a connection of this kind."""
         client = http.client.HTTPConnection("desk.example", timeout=PATIENCE)
         client.sock = self.connected()
         return client
 
 
-def certified(own):
+def certified(own: Path) -> bool:
     """Makes a certificate of the name that the configurations have; whether it could."""
     if not shutil.which("openssl"):
         return False
@@ -115,7 +117,8 @@ def certified(own):
     return True
 
 
-def asked(proxy, method, target, body=None, times=1, **more):
+def asked(proxy: Proxy, method: Any, target: str, body: Any = None, times: int = 1,
+          **more: Any) -> list[tuple[int, bytes]]:
     """The answers to a request, so many times over one connection of the client's."""
     with contextlib.closing(proxy.client()) as client:
         told = []
@@ -126,13 +129,13 @@ def asked(proxy, method, target, body=None, times=1, **more):
         return told
 
 
-def timed(*words, **more):
+def timed(*words: Any, **more: Any) -> tuple[list[tuple[int, bytes]], float]:
     begun = time.monotonic()
     return asked(*words, **more), time.monotonic() - begun
 
 
 # what vehicles and others ask, and how it is answered
-def exchanges(root):
+def exchanges(root: bytes) -> list[Any]:
     large = b'{"error":4,"text":"TooLarge"}'
     return [("POST", "/director/manifest", MANIFEST, (200, REPLY)),
             ("GET", "/image/root.json?a=%20", None, (200, root)),
@@ -155,23 +158,23 @@ class Strangers:
     of fifty answers.
     """
 
-    def __init__(self, proxy):
-        self.proxy, self.left, self.all = proxy, threading.Event(), []
+    def __init__(self, proxy: Proxy) -> None:
+        self.proxy, self.left, self.all = proxy, threading.Event(), list[Any]()
 
-    def __enter__(self):
+    def __enter__(self) -> "Strangers":
         with ThreadPoolExecutor(16) as pool:
             self.all = list(pool.map(self.come, (STRANGERS * BEGUN) + STRANGERS * [None]))
         self.dripping = threading.Thread(target=self.drip)
         self.dripping.start()
         return self
 
-    def come(self, begun):
+    def come(self, begun: bytes | None) -> tuple[bool, ssl.SSLSocket]:
         client = self.proxy.connected()
         if begun:
             client.sendall(begun)
         return begun is None, client
 
-    def drip(self):
+    def drip(self) -> None:
         for at in range(len(HEAD)):
             for drips, client in self.all:
                 with contextlib.suppress(OSError):
@@ -180,14 +183,14 @@ class Strangers:
             if self.left.wait(1):
                 return
 
-    def __exit__(self, *_):
+    def __exit__(self, *_: Any) -> None:
         self.left.set()
         self.dripping.join()
         for _, client in self.all:
             client.close()
 
 
-def passes(proxy, root):
+def passes(proxy: Proxy, root: bytes) -> trials.Cases:
     """Each case with whether requests pass the proxy as they should."""
     name = proxy.name
     yield name + ": each kind of request", all(
@@ -200,7 +203,7 @@ def passes(proxy, root):
     yield name + ": a body in chunks", chunks == [unchunked[name]]
     with Strangers(proxy) as strangers, ThreadPoolExecutor(8) as pool:
         time.sleep(1)
-        told = list(
+        told: list[Any] = list(
             pool.map(lambda words: (timed(proxy, *words[:-1]), words[-1]),
                      ROUNDS * exchanges(root)))
         well = all(came == [wanted] and after < SLOWEST for (came, after), wanted in told)
@@ -218,7 +221,7 @@ def passes(proxy, root):
         yield name + ": many at once", all(came == [(200, REPLY)] for came, _ in told)
 
 
-def limited(proxy):
+def limited(proxy: Proxy) -> trials.Cases:
     """A vehicle whose address begins with its identifier: its requests are limited, and it
     stands in the log.
     """
@@ -237,7 +240,7 @@ def limited(proxy):
                                                             MANIFEST) == [(200, REPLY)]
 
 
-def listed(proxy, log):
+def listed(proxy: Proxy, log: Callable[[], str] | None) -> trials.Cases:
     """The log has the vehicles, with the status of their answers."""
     lines = (proxy.own / "access.log").read_text("ascii") if log is None else log()
     found = {
@@ -248,7 +251,7 @@ def listed(proxy, log):
 
 
 @contextlib.contextmanager
-def logging(proxy):
+def logging(proxy: Proxy) -> Iterator[Any]:
     """What gives all lines that HAProxy sent."""
     with socket.socket(socket.AF_INET, socket.SOCK_DGRAM) as one:
         one.setsockopt(socket.SOL_SOCKET, socket.SO_RCVBUF, 1 << 22)
@@ -256,7 +259,7 @@ def logging(proxy):
         one.settimeout(2)
         proxy.logged = one.getsockname()[1]
 
-        def lines():
+        def lines() -> str:
             made = []
             with contextlib.suppress(TimeoutError):
                 while True:
@@ -266,7 +269,7 @@ def logging(proxy):
         yield lines if proxy.name == "haproxy" else None
 
 
-def proxied(program, own, name, secret):
+def proxied(program: Path, own: Path, name: str, secret: bool) -> trials.Cases:
     """The cases of one proxy, before a service of its own that is started again in the end."""
     path = trials.copied(own / "first", own / (name + ".db"))
     root = http_cases.root_text()
@@ -296,7 +299,7 @@ def proxied(program, own, name, secret):
                                       root) if name == "haproxy" else ()
 
 
-def begun(up, words):
+def begun(up: Any, words: Any) -> Any:
     """The service, once it listens; it ends with the rest."""
     running = up.enter_context(subprocess.Popen(words, stdout=subprocess.PIPE))
     up.callback(running.kill)
@@ -304,7 +307,8 @@ def begun(up, words):
     return running
 
 
-def over_a_restart(proxy, pool, running, words, up, waits, root):
+def over_a_restart(proxy: Proxy, pool: Any, running: http_cases.Served, words: Any, up: Any,
+                   waits: Any, root: bytes) -> trials.Cases:
     """While the service starts anew, requests wait in HAProxy's queue: none is refused."""
     yield "haproxy: ten that came before it was there", all(
         it.result() == [(200, root)] for it in waits)
@@ -325,7 +329,7 @@ def over_a_restart(proxy, pool, running, words, up, waits, root):
 # ---- units
 
 
-def units(program, own):
+def units(program: str | Path, own: Path) -> trials.Cases:
     """What systemd says of the units, with the program and the scripts in their places."""
     given = sorted(it for it in [*GIVEN.glob("uptane-desk*"), *GIVEN.glob("several/uptane-desk*")]
                    if it.suffix in (".service", ".timer", ".path"))
@@ -341,7 +345,7 @@ def units(program, own):
     yield "systemd verifies the units", len(names) == 11 and ran.returncode == 0 and not own_lines
 
 
-def shells():
+def shells() -> trials.Cases:
     scripts = sorted(GIVEN.glob("*.sh"))
     yield "a shell reads the scripts", len(scripts) == 6 and all(
         subprocess.run(["sh", "-n", str(it)], check=False).returncode == 0 for it in scripts)
@@ -352,7 +356,7 @@ def shells():
         yield "shellcheck finds nothing in them", ran.returncode == 0
 
 
-def cases(program):
+def cases(program: Path) -> trials.Cases:
     soft, hard = resource.getrlimit(resource.RLIMIT_NOFILE)
     resource.setrlimit(resource.RLIMIT_NOFILE, (max(soft, min(hard, 8192)), hard))
     with tempfile.TemporaryDirectory() as folder:

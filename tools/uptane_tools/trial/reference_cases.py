@@ -12,8 +12,10 @@ import re
 import sqlite3
 import subprocess
 import sys
+from collections.abc import Iterator
 from concurrent.futures import ThreadPoolExecutor
 from contextlib import closing
+from typing import Any
 
 from uptane_tools import arguments
 from uptane_tools.oracle import reference, reference_http
@@ -28,18 +30,18 @@ sys.path.insert(0, %r)
 from uptane_tools.oracle import reference
 reference.LABEL = ""
 sys.exit(reference.main(sys.argv[1:]))
-""" % (sys.executable, str(trials.RUN.parent))
+""" % (sys.executable, str(trials.TOP / "tools"))
 
 
-def ran(*words, given=b""):
+def ran(*words: str, given: bytes = b"") -> tuple[int, bytes, bytes]:
     done = subprocess.run([sys.executable, trials.RUN, "reference", *words], input=given,
                           capture_output=True, check=False, timeout=http_cases.PATIENCE)
     return done.returncode, done.stdout, done.stderr
 
 
-def asked():
-    for wrong in ([], ["run"], ["serve", "x"], ["serve", "x", "0"], ["serve", "x", "65536"], [
-            "serve", "x", "80", "0"], ["digest", "x"]):
+def asked() -> trials.Cases:
+    for words in ("", "run", "serve x", "serve x 0", "serve x 65536", "serve x 80 0", "digest x"):
+        wrong = words.split()
         status, out, err = ran(*wrong)
         yield "no words of it: %s" % " ".join(wrong), (status, out) == (2,
                                                                         b"") and b"usage: " in err
@@ -47,7 +49,7 @@ def asked():
     yield "a file that can't be opened", ran("run", "/nowhere/desk") == (3, b"", cannot)
 
 
-def scripts():
+def scripts() -> trials.Cases:
     """What each script prints, and that standard error says what answers."""
     found = [
         it.parent
@@ -61,7 +63,7 @@ def scripts():
                 folder / "printed").read_bytes(), LABEL)
 
 
-def over_http():
+def over_http() -> Iterator[Any]:
     with trials.folder() as own:
         program = own / "reference"
         program.write_text(WITHOUT_LABEL, encoding="ascii")
@@ -77,7 +79,7 @@ def over_http():
         yield from http_cases.exchanges(program, own / "first")
 
 
-def by_the_page():
+def by_the_page() -> trials.Cases:
     """The two commands with which the page for integrators begins: the second one answers a
     request.
     """
@@ -86,7 +88,7 @@ def by_the_page():
     first, second = re.findall(r"(?m)^    (.+)$", page)
     with trials.folder() as own:
 
-        def placed(command, port=8080):
+        def placed(command: str, port: int = 8080) -> str:
             return command.replace("desk.db", str(own / "desk")).replace("8080", str(port))
 
         ran = subprocess.run(["bash", "-c", placed(first)], capture_output=True, check=False,
@@ -102,7 +104,7 @@ def by_the_page():
 # ---- the requests that tests of crates make
 
 
-def rows(crate, section):
+def rows(crate: str, section: str) -> list[tuple[str, ...]]:
     """What the rows of a section of a crate's input ask, and what they want."""
     told = (trials.TOP / "crates" / crate / "stdin").read_text(encoding="utf-8")
     part = re.search(r"(?ms)^# %s\n(.*?)(?=^# |\Z)" % re.escape(section), told)
@@ -110,7 +112,7 @@ def rows(crate, section):
             ] if part else []
 
 
-def unfolded(text):
+def unfolded(text: Any) -> bytes:
     """The bytes that a row means."""
     before = None
     while before != text:
@@ -120,9 +122,9 @@ def unfolded(text):
     return re.sub(rb"\\x(..)", lambda it: bytes([int(it[1], 16)]), text)
 
 
-def written(asked):
+def written(asked: reference_http.Next) -> str:
     """A request as the rows of `up_http` write it."""
-    what = asked.what
+    what: Any = asked.what
     words = "%s %s" % what if isinstance(
         what, tuple) else "manifest %d" % len(what) if isinstance(what, bytes) else ""
     words = words or str(
@@ -130,7 +132,7 @@ def written(asked):
     return words + " head" * asked.head + " last" * asked.last + ";"
 
 
-def requests():
+def requests() -> trials.Cases:
     """How bytes are cut into requests, whatever the pieces in which they come."""
     for section in ("requests cut at every byte", "requests in pieces"):
         found = rows("up_test_calls", section)
@@ -142,14 +144,14 @@ def requests():
                 for size in ((1, 7, 8192) if len(given) < 1000 else (8192, )))
 
 
-def cut(given, size):
+def cut(given: bytes, size: int) -> str:
     stream = reference_http.Stream()
     pieces = [given[at:at + size] for at in range(0, len(given), size)]
     found = [it for piece in pieces for it in stream.feed(piece)] + list(stream.feed(b"", True))
     return "%d: %s" % (len(found), "".join(map(written, found)))
 
 
-def streams():
+def streams() -> trials.Cases:
     """The answers to streams, over a desk after the lines of the same section."""
     number = 0
     for words, of in expected_streams.sections():
@@ -166,14 +168,14 @@ def streams():
     yield "rows of streams", number > 40
 
 
-def answers(desk, given):
+def answers(desk: reference.Desk, given: bytes) -> bytes:
     found = [
         reference_http.answer(desk, 1767225600, it)
         for it in reference_http.Stream().feed(given, True)]
     return b"%d: " % len(found) + b"".join(found)
 
 
-def cases():
+def cases() -> trials.Cases:
     yield from asked()
     yield from scripts()
     yield from over_http()

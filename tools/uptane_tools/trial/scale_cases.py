@@ -16,8 +16,10 @@ import os
 import shutil
 import subprocess
 import time
+from collections.abc import Iterator
 from concurrent.futures import ThreadPoolExecutor
 from pathlib import Path
+from typing import Any
 
 from uptane_tools import arguments
 from uptane_tools.measure import fleet, http_fleet, speed
@@ -33,37 +35,37 @@ UNKNOWN = (404, b'{"error":10,"text":"UnknownVehicle"}')
 class Desks:
     """A file for each desk, and the folder of their division."""
 
-    def __init__(self, program, own):
+    def __init__(self, program: Any, own: Path) -> None:
         self.program, self.own, self.folder, self.number = program, own, own / "division", 0
 
-    def path(self, desk):
+    def path(self, desk: int) -> Path:
         return self.own / ("desk%d" % desk)
 
-    def split(self, script, desks):
+    def split(self, script: list[str], desks: int) -> tuple[int, list[str], str]:
         self.number = desks
         given = "".join(line + "\n" for line in script).encode("ascii")
         return trials.tool("divide_script", self.folder, "--desks", desks, given=given)
 
-    def answer(self, desk):
+    def answer(self, desk: int) -> bool:
         """Gives a desk its script, and keeps its answers."""
         with open(self.folder / ("desk%d.script" % desk), "rb") as given, open(
                 self.folder / ("desk%d.answers" % desk), "wb") as told:
             return subprocess.run([self.program, "run", self.path(desk)], stdin=given, stdout=told,
                                   check=False).returncode == 0
 
-    def ran(self, script, desks):
+    def ran(self, script: list[str], desks: int) -> list[str] | None:
         """The joined answers to a script; none where anything went wrong."""
         well = self.split(script, desks)[0] == 0 and all(map(self.answer, range(1, desks + 1)))
         status, answers, err = trials.tool("divide_script", self.folder, "--join")
         return answers if well and not err and status == any(
             it.startswith("differs") for it in answers) else None
 
-    def vehicles(self):
+    def vehicles(self) -> dict[str, int]:
         """The desk of each vehicle, as the proxies are told."""
         lines = (self.folder / "vehicles.map").read_text(encoding="ascii").splitlines()
         return {name: int(desk.removeprefix("desk")) for name, desk in map(str.split, lines)}
 
-    def rows(self):
+    def rows(self) -> list[dict[str, list[tuple[Any, ...]]]]:
         return [trials.rows(self.path(desk)) for desk in range(1, self.number + 1)]
 
 
@@ -71,11 +73,11 @@ BY_VEHICLE = ("vehicle", "ecu", "kept", "retired")
 FOR_ALL = ("meta", "role_key", "repo_file", "image", "image_sha512")
 
 
-def united(desks, table):
+def united(desks: Any, table: str) -> list[Any]:
     return sorted((row for rows in desks for row in rows[table]), key=repr)
 
 
-def scripts(program, own):
+def scripts(program: Path, own: Path) -> trials.Cases:
     lines = list(
         fleet.script(vehicles=30, ecus=3, rounds=4, images=12, campaigns=6, seed=3, replaced=0.2))
     wanted, desks, told = trials.printed(program, own / "one", lines), Desks(program, own), []
@@ -100,24 +102,24 @@ def scripts(program, own):
     yield from afterwards(program, own, desks, lines)
 
 
-def vehicle(name, *ecus):
+def vehicle(name: str, *ecus: Any) -> str:
     return fleet.line("add_vehicle", vehicle=name, primary=ecus[0],
                       ecus=[{"ecu": ecu, "hardware": "HP", "key": fleet.key(9)} for ecu in ecus])
 
 
-def campaign(name, vehicles):
+def campaign(name: str, vehicles: Any) -> str:
     line = json.loads(
         next(it for it in fleet.script(vehicles=1, ecus=3, rounds=0, images=12, campaigns=6, seed=3)
              if '"open_campaign"' in it))
     return fleet.canonical(line | {"campaign": name, "vehicles": vehicles})
 
 
-def afterwards(program, own, desks, lines):
+def afterwards(program: str | Path, own: Path, desks: Any, lines: list[str]) -> trials.Cases:
     """Names that are taken at another desk, and what is no line on a vehicle, are answered as by
     one.
     """
     first, second = "v000000", "v000001"
-    told = [
+    told: Any = [
         vehicle("new", "a1", second + "-e0"),
         vehicle("new", "a1", "a2"),
         vehicle(first, "b1"), "nope", "[]", '{"do":"show","at":1}', '{"do":{}}',
@@ -173,7 +175,7 @@ def afterwards(program, own, desks, lines):
 # ---- requests
 
 
-def posted(port, body, at=""):
+def posted(port: int, body: bytes, at: str = "") -> tuple[int, bytes]:
     """The status and the body of the answer to a manifest."""
     with contextlib.closing(
             http.client.HTTPConnection("127.0.0.1", port, timeout=http_cases.PATIENCE)) as client:
@@ -183,12 +185,12 @@ def posted(port, body, at=""):
 
 
 @contextlib.contextmanager
-def all_served(program, paths, count):
+def all_served(program: str | Path, paths: Any, count: int) -> Iterator[list[http_cases.Served]]:
     with contextlib.ExitStack() as up:
         yield [up.enter_context(http_cases.served(program, path, count)) for path in paths]
 
 
-def requests(program, own):
+def requests(program: str | Path, own: Path) -> trials.Cases:
     lines, bodies = http_fleet.day(160)
     desks = Desks(program, own)
     yield "a fleet at four desks", desks.ran(lines, DESKS) == trials.printed(
@@ -214,11 +216,12 @@ def requests(program, own):
 class Before(proxy_cases.Proxy):
     """A proxy before several services, with the map of their vehicles."""
 
-    def __init__(self, own, name, port, desks, ports, secret):
+    def __init__(self, own: Path, name: str, port: int, desks: Any, ports: Any,
+                 secret: Any) -> None:
         super().__init__(own, name, port, 0, secret)
         self.desks, self.ports = desks, ports
 
-    def words(self):
+    def words(self) -> list[str]:
         given = SEVERAL / ("nginx.conf" if self.name == "nginx" else "haproxy.cfg")
         path = self.own / (self.name + ".conf")
         path.write_text(self.changed(given.read_text("ascii")), "ascii")
@@ -228,21 +231,22 @@ class Before(proxy_cases.Proxy):
         return ["nginx", "-p", str(self.own), "-c", str(path)] if self.name == "nginx" else [
             "haproxy", "-db", "-f", str(path)]
 
-    def changed(self, text):
+    def changed(self, text: str) -> str:
         for number, port in enumerate(self.ports, 1):
             text = text.replace("127.0.0.1:808%d" % number, "127.0.0.1:%d" % port)
         text = text.replace("/etc/uptane/vehicles", "%s/vehicles" % self.own)
         return super().changed(text)
 
 
-def certified(own):
+def certified(own: Path) -> bool:
     secret = proxy_cases.certified(own)
     if not secret:
         print("no openssl, so no TLS")
     return secret
 
 
-def proxied(own, desks, ports, bodies, told):
+def proxied(own: Path, desks: Any, ports: list[int], bodies: list[bytes],
+            told: dict[bytes, Any]) -> trials.Cases:
     """Each proxy that is installed takes a vehicle's requests to its desk."""
     home, secret = desks.vehicles(), certified(own)
     with trials.read(desks.path(1)) as db:
@@ -256,7 +260,7 @@ def proxied(own, desks, ports, bodies, told):
         proxy = Before(own, name, http_cases.free_port(), desks, ports, secret)
         with proxy.running(), ThreadPoolExecutor(8) as pool:
 
-            def send(body):
+            def send(body: bytes) -> tuple[int, bytes]:
                 return proxy_cases.asked(
                     proxy, "POST", "/%s/director/manifest" % http_fleet.named(body)[0], body)[0]
 
@@ -280,15 +284,15 @@ def proxied(own, desks, ports, bodies, told):
 # ---- measures
 
 
-def parted(lines, number, many):
+def parted(lines: Any, number: int, many: int) -> list[list[Any]]:
     """The manifests of each desk: vehicle v is at desk v mod many."""
-    parts = [[] for _ in range(many)]
+    parts: Any = [[] for _ in range(many)]
     for at, line in enumerate(lines):
         parts[at % number % many].append(json.loads(line)["body"].encode("ascii"))
     return parts
 
 
-def filled(program, own, many, vehicles, ecus):
+def filled(program: str | Path, own: Path, many: int, vehicles: int, ecus: int) -> list[Path]:
     """Files of so many desks, each with its share of the vehicles."""
     paths = [own / ("of%d desk%d" % (many, desk)) for desk in range(many)]
     for desk, path in enumerate(paths):
@@ -300,7 +304,8 @@ def filled(program, own, many, vehicles, ecus):
     return paths
 
 
-def rate(program, own, many, ecus, number, vehicles=400):
+def rate(program: str | Path, own: Path, many: int, ecus: int, number: int,
+         vehicles: int = 400) -> float:
     """Manifests a second, of so many desks at once, a hundred a connection."""
     paths = filled(program, own, many, vehicles, ecus)
     parts = [[http_cases.POST % len(body) + body for body in part]
@@ -311,7 +316,7 @@ def rate(program, own, many, ecus, number, vehicles=400):
         return number / (time.perf_counter() - begun)
 
 
-def listening(program, paths):
+def listening(program: str | Path, paths: Any) -> tuple[float, list[int]]:
     """Seconds until all listen, and the memory of each in MB."""
     begun = time.perf_counter()
     with all_served(program, paths, 1) as running:
@@ -320,7 +325,7 @@ def listening(program, paths):
     return took, [int(text.split("VmHWM:")[1].split()[0]) >> 10 for text in told]
 
 
-def measure(program):
+def measure(program: str | Path) -> None:
     with trials.folder() as own:
         for ecus in (1, 4):
             one, four = (rate(program, own, many, ecus, 8000) for many in (1, 4))
@@ -344,7 +349,7 @@ def measure(program):
                 (kept, many, sizes, took, memory), flush=True)
 
 
-def cases(program):
+def cases(program: Path) -> trials.Cases:
     for part in (scripts, requests):
         with trials.folder() as own:
             own.chmod(0o755)
@@ -355,4 +360,7 @@ def main(words: arguments.Words = None) -> int:
     """Tries several desks, or measures them."""
     asked = arguments.given(__doc__, words, "program", order=["try", "measure"])
     program = Path(asked.program).resolve()
-    return measure(program) if asked.order == "measure" else trials.judged("scale", cases(program))
+    if asked.order == "measure":
+        measure(program)
+        return 0
+    return trials.judged("scale", cases(program))

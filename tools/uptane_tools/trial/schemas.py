@@ -3,13 +3,18 @@ rows of today's.
 """
 import sqlite3
 from contextlib import closing
+from pathlib import Path
+from typing import Any
 
 from uptane_tools.operate import page_sums
 from uptane_tools.operate.statements import LACKS, SCHEMA, made
 from uptane_tools.trial import trials
 
 
-def described(db):
+def described(
+    db: sqlite3.Connection
+) -> dict[str, tuple[int, list[tuple[int, str, str, int, None, int]], list[tuple[tuple[
+        int, str], tuple[Any, ...]]], list[tuple[int, int, str, str, str, str, str, str]]]]:
     """Each table as SQLite describes it: strictness, columns, keys and references."""
     found = {}
     listed = ("SELECT name, strict FROM pragma_table_list WHERE schema = 'main' AND name <> "
@@ -24,7 +29,10 @@ def described(db):
     return found
 
 
-def of_schema(number):
+def of_schema(
+    number: int
+) -> dict[str, tuple[int, list[tuple[int, str, str, int, None, int]], list[tuple[tuple[
+        int, str], tuple[Any, ...]]], list[tuple[int, int, str, str, str, str, str, str]]]]:
     with closing(sqlite3.connect(":memory:")) as db:
         return described(made(db, number))
 
@@ -32,7 +40,7 @@ def of_schema(number):
 DESCRIBED = {number: of_schema(number) for number in LACKS}
 
 
-def number_in(db):
+def number_in(db: sqlite3.Connection) -> int:
     """The schema whose tables the database has and whose number `meta` has; none where it has
     others.
     """
@@ -43,13 +51,13 @@ def number_in(db):
                  if told == [(1, "uptane_desk", n)] and described(db) == tables), None)
 
 
-def schema_of(path):
+def schema_of(path: str | Path) -> int:
     """The schema that the file has; none where it has none of ours."""
     with trials.read(path) as db:
         return number_in(db)
 
 
-def rows(path):
+def rows(path: str | Path) -> dict[str, list[tuple[Any, ...]]]:
     """All rows of a file as they are, or are to be, once it was raised; none where it has tables
     of no schema.
     """
@@ -58,14 +66,14 @@ def rows(path):
         if found is None:
             return None
         there = [table for table in trials.TABLES if table not in LACKS[found]]
-        told = {
+        told: dict[str, Any] = {
             table: sorted(map(tuple, db.execute("SELECT * FROM " + table)), key=repr)
             for table in there}
         told["meta"] = [(*told["meta"][0][:2], SCHEMA, *told["meta"][0][3:])]
         return {table: told.get(table, []) for table in trials.TABLES}
 
 
-def written(path, to, number):
+def written(path: str | Path, to: Path, number: int) -> Path:
     """The same rows, table by table, in a file that SQLite makes by the statements of an older
     schema. Its pages have no sums.
     """
@@ -77,7 +85,7 @@ def written(path, to, number):
     return to
 
 
-def lowered(path, to, number):
+def lowered(path: str | Path, to: Path, number: int) -> Path | None:
     """A copy of a file of the program's own, whose tables SQLite takes back to an older schema.
     Its pages have sums.
     """

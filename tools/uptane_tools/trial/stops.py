@@ -22,6 +22,8 @@ import json
 import sqlite3
 import subprocess
 from contextlib import closing
+from pathlib import Path
+from typing import Any
 
 from uptane_tools import arguments
 from uptane_tools.operate import statements
@@ -38,7 +40,8 @@ OTHER_NOW = {"add_vehicle": "refused 22 VehicleTaken"}
 MOST = 2000
 
 
-def made(program, path, lines, inject=None):
+def made(program: str | Path, path: str | Path, lines: list[str],
+         inject: Any = None) -> tuple[int, list[str], str]:
     """The status, the lines printed and the message of a run, of which a call goes wrong."""
     words = [program, "run", str(path)]
     if inject:
@@ -51,7 +54,7 @@ def made(program, path, lines, inject=None):
         "ascii", "replace")
 
 
-def kept(path):
+def kept(path: str | Path) -> dict[Any, Any]:
     """Each reply that the file keeps, none where it holds no tables yet."""
     with trials.read(path) as db:
         if not db.execute("SELECT name FROM sqlite_schema WHERE name = 'kept'").fetchall():
@@ -59,7 +62,7 @@ def kept(path):
         return {row[:2]: row[2] for row in db.execute("SELECT vehicle, version, reply FROM kept")}
 
 
-def is_well(line, own, is_answered, again, is_replaced):
+def is_well(line: str, own: Any, is_answered: Any, again: Any, is_replaced: Any) -> Any:
     do = json.loads(line)["do"]
     told = (AGAIN | OTHER_NOW if is_replaced else AGAIN).get(do, "already")
     if own == "done":
@@ -72,17 +75,18 @@ class Run:
     program itself answers to them.
     """
 
-    def __init__(self, program, lines, begun=None, number=None):
+    def __init__(self, program: str | Path, lines: list[str], begun: Any = None,
+                 number: int | None = None) -> None:
         self.program, self.lines, self.begun, self.number = program, lines, begun, number
         with trials.folder() as folder:
             self.own = made(program, self.begin(folder / "own"), lines)[1]
         lost = [range(done, len(lines)) for done in range(len(lines) + 1)] if begun else []
         self.states = [self.ruled(it)[1] for it in lost]
 
-    def begin(self, path):
+    def begin(self, path: str | Path) -> str | Path:
         return trials.copied(self.begun, path) if self.begun else path
 
-    def ruled(self, lost):
+    def ruled(self, lost: Any) -> tuple[list[Any], dict[str, list[tuple[Any, ...]]]]:
         """What the rules answer to the lines without the lost ones, and the tables that they leave.
         """
         with closing(sqlite3.connect(":memory:")) as db:
@@ -94,7 +98,7 @@ class Run:
                 desk.answer(line.encode()) for i, line in enumerate(self.lines) if i not in lost]
             return answers, trials.rows_in(db)
 
-    def is_left(self, path, answered):
+    def is_left(self, path: str | Path, answered: int) -> bool:
         """Whether a file of an older schema is as a stop may leave it after so many answers."""
         if not self.begun:
             return True
@@ -102,7 +106,7 @@ class Run:
             statements.SCHEMA]
         return is_either and schemas.rows(path) in self.states[answered:answered + 2]
 
-    def stopped(self, inject):
+    def stopped(self, inject: Any) -> Any:
         """Whether a run was stopped, and whether it could be made again as it has to be."""
         lines = self.lines
         with trials.folder() as folder:
@@ -123,7 +127,7 @@ class Run:
             return was_stopped, well and not trials.faults(
                 path) and replies.items() <= kept(path).items()
 
-    def is_by_the_rules(self, path, printed):
+    def is_by_the_rules(self, path: str | Path, printed: Any) -> Any:
         """Whether the lines that weren't lost are answered by the rules, and the tables are
         those that they leave, or one more.
         """
@@ -138,7 +142,7 @@ class Run:
             left == self.ruled([i for i in lost if i != one])[1] for one in lost)
 
 
-def swept(run, call):
+def swept(run: Any, call: str) -> trials.Cases:
     """The number of stops at calls of a kind, and the first that went wrong."""
     most = 0
     for how in (KILLED, FAILING, FAILED):
@@ -154,7 +158,7 @@ def swept(run, call):
     yield "%d of each kind" % most, True
 
 
-def runs(program, own):
+def runs(program: str | Path, own: Path) -> trials.Cases:
     """Each run with its name: over a new file, and over a file of each older schema, with sums
     of its pages or without.
     """
@@ -169,7 +173,7 @@ def runs(program, own):
             yield "run %d over schema %d" % (at, number), Run(program, lines[first:], begun, number)
 
 
-def cases(program):
+def cases(program: str | Path) -> trials.Cases:
     with trials.folder() as own:
         for name, run in runs(program, own):
             for call in CALLS:

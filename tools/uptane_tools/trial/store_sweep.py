@@ -19,18 +19,20 @@ promise: store-memory
 import shutil
 import subprocess
 from pathlib import Path
+from typing import Any
 
 from uptane_tools import arguments
 from uptane_tools.rows import cases
 from uptane_tools.trial import sweeps, trials
 
 
-def sections():
+def sections() -> list[str]:
     texts = cases.kinds("up_test_store")["store"].split("\n# ")
     return [text for text in texts if text.startswith("each disk call refused")]
 
 
-def carried_out(program, place, section, variables):
+def carried_out(program: str, place: str, section: str,
+                variables: dict[str, str] | None) -> tuple[int, bytes, bytes]:
     """The status and what is told."""
     rows = cases.headed({"store": f"\n# {section}"}).encode()
     ran = subprocess.run([program, place], input=rows, capture_output=True, env=variables,
@@ -38,7 +40,7 @@ def carried_out(program, place, section, variables):
     return ran.returncode, ran.stdout, ran.stderr
 
 
-def swept(program, place, section, library, numbers):
+def swept(program: str, place: str, section: str, library: Any, numbers: Any) -> tuple[int, int]:
     """How many runs told what they had to, and how many didn't."""
     mark, words = library.parent / "mark", section.split("\n")[0]
     whole = carried_out(program, place, section, {})

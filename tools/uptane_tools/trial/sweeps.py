@@ -38,8 +38,10 @@ import sqlite3
 import stat
 import subprocess
 import sys
+from collections.abc import Iterator
 from contextlib import closing
 from pathlib import Path
+from typing import Any
 
 from uptane_tools import arguments
 from uptane_tools.measure import fleet
@@ -62,7 +64,7 @@ UNOPENED = [trials.UNOPENED[name] for name in ("memory", "path", "damaged")]
 POSTS = 4
 
 
-def built(own):
+def built(own: Path) -> Path:
     """The library that makes calls fail."""
     to, source = own / "failing.so", Path(__file__).resolve().parent / "failing.c"
     subprocess.run(["cc", "-shared", "-fPIC", "-O1", "-o",
@@ -73,27 +75,28 @@ def built(own):
 class Failing:
     """What starts the program so that one call fails, and tells whether it did."""
 
-    def __init__(self, library, mark, kind, number):
+    def __init__(self, library: Any, mark: Any, kind: str, number: int) -> None:
         self.mark, self.told = mark, {
             "LD_PRELOAD": str(library), "FAIL_MARK": str(mark), VARIABLES[kind]: str(number)}
         self.mark.unlink(missing_ok=True)
 
-    def start(self, words):
-        pipes = {"stdin": subprocess.PIPE, "stdout": subprocess.PIPE, "stderr": subprocess.PIPE}
+    def start(self, words: Any) -> Any:
+        pipes: dict[str, Any] = {
+            "stdin": subprocess.PIPE, "stdout": subprocess.PIPE, "stderr": subprocess.PIPE}
         return subprocess.Popen([str(word) for word in words], env=os.environ | self.told, **pipes)
 
-    def failed(self):
+    def failed(self) -> Any:
         return self.mark.exists()
 
 
 class Sweep:
     """Which calls are made to fail."""
 
-    def __init__(self, own, kind, every, first):
+    def __init__(self, own: Path, kind: str, every: int, first: int) -> None:
         self.own, self.kind, self.every, self.first = own, kind, every, first
         self.library = built(own)
 
-    def over(self, name, attempt, passed=0):
+    def over(self, name: str, attempt: Any, passed: int = 0) -> tuple[str, bool]:
         """Makes calls of attempts behind those that are passed fail in turn, until one ends
         without; tells each that went otherwise than it has to.
         """
@@ -114,7 +117,7 @@ class Sweep:
 class Row:
     """A row's lines, what they print, and the tables after each of them."""
 
-    def __init__(self, name, own):
+    def __init__(self, name: str, own: Path) -> None:
         lines, wanted = translated.under(trials.TOP / "rows" / name, reference.METHOD)
         self.name, self.lines, self.printed = name, [line for line in lines if line], []
         path, self.states = own / ("rules " + name), []
@@ -124,11 +127,12 @@ class Row:
             self.states.append(trials.rows(path))
         assert translated.are_as(wanted, self.printed)
 
-    def begin(self, path):
+    def begin(self, path: str | Path) -> None:
+        part: Any
         for part in (path, trials.log_of(path)):
             part.unlink(missing_ok=True)
 
-    def shown(self, path):
+    def shown(self, path: Any) -> dict[str, list[tuple[Any, ...]]] | None:
         """The tables of the file, or none where it isn't a database; those of the empty state
         where nothing was written.
         """
@@ -137,7 +141,7 @@ class Row:
         except sqlite3.DatabaseError:
             return None
 
-    def is_private(self, path):
+    def is_private(self, path: Path) -> bool:
         """Whether the file and its log, where they were made, are their owner's alone."""
         return all(
             stat.S_IMODE(part.stat().st_mode) == 0o600 for part in (path, trials.log_of(path))
@@ -149,7 +153,8 @@ class Begun(Row):
     one too, so that it is given again.
     """
 
-    def __init__(self, program, name, own, is_given_again=False):
+    def __init__(self, program: str | Path, name: str, own: Path,
+                 is_given_again: bool = False) -> None:
         super().__init__(name, own)
         at = next(at for at, line in enumerate(self.lines) if '"bench"' in line)
         done, self.begun = at + is_given_again, own / ("%s before %s" % (type(self).__name__, name))
@@ -159,11 +164,11 @@ class Begun(Row):
         self.states = self.states[done:done + is_given_again] + self.states[done:]
         self.name += " from its first manifest on"
 
-    def begin(self, path):
+    def begin(self, path: str | Path) -> None:
         super().begin(path)
         trials.copied(self.begun, path)
 
-    def is_private(self, path):
+    def is_private(self, path: Path) -> bool:
         return True
 
 
@@ -173,7 +178,7 @@ class Large(Begun):
     the start is made to fail.
     """
 
-    def __init__(self, program, name, own):
+    def __init__(self, program: str | Path, name: str, own: Path) -> None:
         super().__init__(program, name, own)
         self.name += " over a large file"
         rules, more = own / ("rules " + self.name), list(filling())
@@ -188,13 +193,13 @@ class Large(Begun):
 class Older(Begun):
     """The same over a file of an older schema, in which the first manifest is there."""
 
-    def __init__(self, program, name, number, own):
+    def __init__(self, program: str | Path, name: str, number: int, own: Path) -> None:
         super().__init__(program, name, own, True)
         self.begun, self.number = schemas.lowered(self.begun, own / ("older " + name),
                                                   number), number
         self.name += " over schema %d" % number
 
-    def shown(self, path):
+    def shown(self, path: str | Path) -> Any:
         """The tables as they are once they were raised; none where they are of neither schema."""
         try:
             return schemas.rows(path) if schemas.schema_of(path) in (self.number,
@@ -203,7 +208,7 @@ class Older(Begun):
             return None
 
 
-def filling(number=36):
+def filling(number: int = 36) -> Iterator[str]:
     """A vehicle, and manifests of it that are as long as they may be nearly."""
     key = fleet.key(9)
     yield fleet.line("add_vehicle", vehicle="VF", primary="PF", ecus=[{
@@ -219,7 +224,7 @@ def filling(number=36):
                                                           reference.canonical(told)))
 
 
-def calls_of_a_start(program, row, sweep, path):
+def calls_of_a_start(program: str | Path, row: Any, sweep: Any, path: str | Path) -> int:
     """How many calls a start makes before it answers a line that asks nothing of the file."""
     few, many = 0, 1 << 20
     while few + 1 < many:
@@ -234,7 +239,7 @@ def calls_of_a_start(program, row, sweep, path):
     return few
 
 
-def ask(it, line):
+def ask(it: Any, line: str) -> str:
     """The answer to a line, without its newline; empty where the program has ended."""
     try:
         it.stdin.write(line.encode() + b"\n")
@@ -244,7 +249,7 @@ def ask(it, line):
     return it.stdout.readline().decode("ascii").removesuffix("\n")
 
 
-def answered(it, row, kind, path):
+def answered(it: Any, row: Any, kind: str, path: str | Path) -> tuple[int, bool]:
     """How many lines had the row's answers, and whether the last answer, if another, is one that
     there may be.
     """
@@ -260,7 +265,7 @@ def answered(it, row, kind, path):
     return len(row.lines), True
 
 
-def stays_shut(it, row, count):
+def stays_shut(it: Any, row: Any, count: int) -> bool:
     """Whether the lines behind so many are answered by the database's refusal, or are refused as
     the row has it.
     """
@@ -270,7 +275,7 @@ def stays_shut(it, row, count):
         for line, wanted in rest)
 
 
-def ended(it, count):
+def ended(it: Any, count: int) -> Any:
     """Whether the program ends as it may, with so many lines answered: none, if not even its
     words could be read.
     """
@@ -281,7 +286,7 @@ def ended(it, count):
                                     *((3, line) for line in UNOPENED))
 
 
-def found(path, row, count):
+def found(path: str | Path, row: Any, count: int) -> int | None:
     """How many lines of the row the file has carried out; none where it isn't what it has to be."""
     rows = row.shown(path)
     if rows is None:
@@ -289,7 +294,7 @@ def found(path, row, count):
     return next((at for at in (count, count + 1) if row.states[at:at + 1] == [rows]), None)
 
 
-def tried(program, row, failing, kind, path):
+def tried(program: str | Path, row: Any, failing: Any, kind: str, path: str | Path) -> Any:
     """What went otherwise than it has to, in words; none where all went well."""
     row.begin(path)
     it = failing.start([program, "run", path])
@@ -309,12 +314,13 @@ def tried(program, row, failing, kind, path):
         path) == [] else "other rows at the end"
 
 
-def over_rows(program, own, sweep):
+def over_rows(program: str | Path, own: Path, sweep: Any) -> Iterator[Any]:
     rows, begun = [Row(name, own) for name in ROWS], [Begun(program, name, own) for name in READING]
     older = [Older(program, name, number, own) for name, number in OLDER]
     fails = sweep.kind if sweep.kind in REFUSED else "memory"
     large = [Large(program, name, own) for name in READING] if sweep.kind == "disk" else []
-    for row in {"older": older, "reading": begun}.get(sweep.kind, rows + begun + older + large):
+    kinds: dict[str, list[Any]] = {"older": older, "reading": begun}
+    for row in kinds.get(sweep.kind, [*rows, *begun, *older, *large]):
         passed = calls_of_a_start(program, row, sweep, own / "swept") if row in large else 0
         yield sweep.over(row.name,
                          lambda failing: tried(program, row, failing, fails, own / "swept"), passed)
@@ -323,17 +329,25 @@ def over_rows(program, own, sweep):
 # ---- HTTP
 
 
-def before_a_manifest():
+def before_a_manifest() -> Iterator[str]:
     """Lines that found, add the vehicle and some images, and open campaigns: for all, for
     another vehicle, and one that is closed.
     """
     yield from http_cases.FIRST_PATH[:2]
     lines = (trials.TOP / "rows" / READING[0] / "script").read_text("ascii").split("\n")
     done = next(at for at, line in enumerate(lines) if '"bench"' in line)
-    yield from (line for line in lines[1:done] if '"vehicle":"V1"' not in line)
+    yield from (with_public(line) for line in lines[1:done] if '"vehicle":"V1"' not in line)
 
 
-def by_the_rules(path):
+def with_public(line: str) -> str:
+    """The line, with what its ECUs show of their keys, where it adds a vehicle."""
+    said = json.loads(line)
+    if said["do"] != "add_vehicle":
+        return line
+    return str(reference.canonical(said | {"ecus": [*map(fleet.with_public, said["ecus"])]}))
+
+
+def by_the_rules(path: str | Path) -> Any:
     """The tables after the manifest was accepted at the moment that the file has kept, and its
     reply.
     """
@@ -349,7 +363,7 @@ def by_the_rules(path):
         return trials.rows_in(db), desk.one("SELECT reply FROM kept")[0].encode()
 
 
-def posted(program, path, failing):
+def posted(program: str | Path, path: str | Path, failing: Any) -> Any:
     """What went otherwise than it has to while the manifest was posted over connections of its
     own each.
     """
@@ -371,24 +385,24 @@ def posted(program, path, failing):
     if len(lost) > 1 or any(got[at - 1] not in (b"", memory) for at in lost):
         return "other answers: %r" % got
     told = [b"uptane_desk: connection %d: memory\n" % at for at in lost if got[at - 1] == b""]
-    return None if http_cases.REFUSED.sub(b"", err) == b"".join(told) else (
-        "another message: %r" % err)
+    return None if http_cases.REFUSED.sub(b"", err) == b"".join(told) else ("another message: %r" %
+                                                                            err)
 
 
-def over_http(program, own, sweep):
+def over_http(program: str | Path, own: Path, sweep: Any) -> Iterator[Any]:
     """The file was founded and has the vehicle, images and campaigns, so that the first post is
     accepted and the others are repeats.
     """
     assert set(trials.printed(program, own / "first", before_a_manifest())) == {"done"}
 
-    def attempt(failing):
+    def attempt(failing: Any) -> Any:
         trials.log_of(own / "swept").unlink(missing_ok=True)
         return posted(program, trials.copied(own / "first", own / "swept"), failing)
 
     yield sweep.over("a manifest over HTTP", attempt)
 
 
-def drawn(first, every):
+def drawn(first: Any, every: Any) -> int:
     """The call to begin with: a number, or the one that a word draws."""
     if first.isdecimal():
         return int(first)

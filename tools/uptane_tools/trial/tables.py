@@ -19,19 +19,21 @@ import shlex
 import shutil
 import sqlite3
 import subprocess
+from collections.abc import Iterator
 from contextlib import closing
 from itertools import combinations
+from pathlib import Path
+from typing import Any
 
 from uptane_tools import arguments
 from uptane_tools.measure import fleet
-from uptane_tools.operate import page_sums
+from uptane_tools.operate import page_sums, statements
 from uptane_tools.oracle import reference
-from uptane_tools.trial import schemas
-from uptane_tools.operate import statements
 from uptane_tools.rows import translated
-from uptane_tools.trial import trials
+from uptane_tools.trial import schemas, trials
 
-FLEET = {"vehicles": 9, "ecus": 4, "rounds": 3, "images": 14, "campaigns": 4, "seed": 13}
+FLEET: dict[str, Any] = {
+    "vehicles": 9, "ecus": 4, "rounds": 3, "images": 14, "campaigns": 4, "seed": 13}
 DAY = list(fleet.script(**FLEET, second_hashes=0.5))
 HALF = len(DAY) // 2
 # what an older program may have done
@@ -39,31 +41,30 @@ OLD_DAY = list(fleet.script(**FLEET))
 SHOWS = [fleet.line("show", vehicle="v%06d" % number) for number in range(9)]
 
 
-def has_the_schema(path):
+def has_the_schema(path: Any) -> trials.Cases:
     with trials.read(path) as db:
         yield "the file's tables are those of the page", schemas.number_in(db) == statements.SCHEMA
         texts = db.execute("SELECT sql FROM sqlite_schema WHERE type = 'table' ORDER BY rowid")
         told = [row[0].split() for row in texts]
         yield "so is the text of each", told == [
-            statement.split() for statement in statements.schema()
-        ]
+            statement.split() for statement in statements.schema()]
 
 
-def backed_up(path, to):
+def backed_up(path: str | Path, to: Path) -> Path | None:
     """SQLite's own backup, with the sums of its pages made anew."""
     with trials.read(path) as db, closing(sqlite3.connect(to)) as made:
         db.backup(made)
     return to if page_sums.rewritten(to) == 0 else None
 
 
-def dumped(path, to):
+def dumped(path: Path, to: Path) -> Path:
     """What `.dump` prints, read by a new file."""
     with trials.read(path) as db, closing(sqlite3.connect(to)) as made:
         made.executescript("\n".join(db.iterdump()))
     return to
 
 
-def by_the_page(path, to):
+def by_the_page(path: str | Path, to: Path) -> Path:
     """The page's own commands for a copy of a file and its log, where `sqlite3` is installed."""
     commands = re.search(
         r"^    (sqlite3 FILE '\.backup BACKUP')\n    (tools/run page_sums BACKUP)$",
@@ -76,7 +77,7 @@ def by_the_page(path, to):
     return to
 
 
-def copies(program, own):
+def copies(program: str | Path, own: Path) -> trials.Cases:
     """What is made of the file halfway goes on as the file itself does."""
     half = own / "half"
     yield "the first half", trials.printed(program, half, DAY[:HALF]) is not None
@@ -86,8 +87,7 @@ def copies(program, own):
         "a backup by the page's commands": by_the_page(trials.copied(half, own / "other"),
                                                        own / "page"),
         "a dump read again": dumped(half, own / "dumped"),
-        "a copy": shutil.copy(half, own / "copied"),
-    }
+        "a copy": shutil.copy(half, own / "copied"), }
     wanted = trials.printed(program, half, DAY[HALF:] + SHOWS)
     yield "the second half", wanted is not None
     for name, path in made.items():
@@ -99,30 +99,21 @@ def copies(program, own):
 
 OURS = "INSERT INTO meta VALUES (1, 'uptane_desk', %d, 0, 0, 0)"
 
-
 NEWER = ["schema %d's" % number for number in (4, 2**62)]
 
 
-def foreign(program, own):
+def foreign(program: str | Path, own: Path) -> trials.Cases:
     """Databases of others, and files that hold none, are refused and stay as they are."""
     made = {
         "another product's": [
             "CREATE TABLE meta (id INTEGER PRIMARY KEY, app TEXT, schema INTEGER)",
-            "INSERT INTO meta VALUES (1, 'other', 1)"
-        ],
-        **{
-            "schema %d's" % number: statements.schema() + [OURS % number]
-            for number in (0, 4, -1, 2**62)
-        },
-        **{
-            "one set back to schema %d" % number: statements.schema() + [OURS % number]
-            for number in statements.OLDER
-        },
-        "one without our row":
-        statements.schema(),
-        "tables of the same names":
-        ["CREATE TABLE %s (a INTEGER) STRICT" % table for table in trials.TABLES],
-    }
+            "INSERT INTO meta VALUES (1, 'other', 1)"],
+        "one without our row": statements.schema(), "tables of the same names": [
+            "CREATE TABLE %s (a INTEGER) STRICT" % table for table in trials.TABLES]}
+    for schema in (0, 4, -1, 2**62):
+        made["schema %d's" % schema] = statements.schema() + [OURS % schema]
+    for schema in statements.OLDER:
+        made["one set back to schema %d" % schema] = statements.schema() + [OURS % schema]
     for number, (name, sql) in enumerate(made.items()):
         path = own / ("foreign%d" % number)
         with closing(sqlite3.connect(path)) as db, db:
@@ -136,7 +127,7 @@ def foreign(program, own):
     yield "a text is refused and stays", is_refused(program, path, ["product", "damaged"])
 
 
-def is_refused(program, path, causes):
+def is_refused(program: str | Path, path: Any, causes: Any) -> Any | bool:
     before = path.read_bytes()
     status, out, err = trials.run(program, path, DAY[:1])
     wanted = [trials.UNOPENED[cause] for cause in causes]
@@ -147,14 +138,13 @@ def is_refused(program, path, causes):
 
 WORKED = [
     "first_manifest", "kept_reply_after_a_rotation", "equal_and_greater_releases",
-    "withheld_for_a_need", "vehicles_in_turn"
-]
+    "withheld_for_a_need", "vehicles_in_turn"]
 FILES = [("director", "root.json"), ("director", "1.root.json"), ("image", "root.json"),
          ("image", "targets.json"), ("image", "snapshot.json"), ("image", "timestamp.json"),
          ("image", "2.root.json")]
 
 
-def worked():
+def worked() -> trials.Cases:
     """Scripts after which a database is taken back to an older schema: worked rows, and half a day.
     """
     for name in WORKED:
@@ -165,7 +155,7 @@ def worked():
     yield "reports with second hashes", list(second_hashes_reported())
 
 
-def second_hashes_reported():
+def second_hashes_reported() -> Iterator[Any]:
     """An older program took reports that have one, and kept them, but registered no image with one.
     """
     yield fleet.line("found", **fleet.key_set(1))
@@ -175,18 +165,17 @@ def second_hashes_reported():
         yield delivered("V1", counter, "P1", "S1", file="a", second=hash)
 
 
-BOTH = {
+BOTH: dict[str, Any] = {
     "file": "both.bin", "length": 1, "sha256": fleet.digest("both"), "sha512": fleet.second("both"),
-    "hardware": ["HS"], "release": 99
-}
+    "hardware": ["HS"], "release": 99}
 
 
-def asked_again(lines):
+def asked_again(lines: Any) -> Iterator[str]:
     """After a script: its vehicles are shown, files fetched, its lines given again, each vehicle
     sends one more manifest, and an ECU of it is replaced, after which its last manifests come
     again and the new one reports, at last an image with a second hash.
     """
-    told = [json.loads(line) for line in lines]
+    told: Any = [json.loads(line) for line in lines]
     names = [it["vehicle"] for it in told if it["do"] == "add_vehicle"]
     yield from (fleet.line("show", vehicle=name) for name in names)
     yield from (fleet.line("fetch", repository=repository, file=file) for repository, file in FILES)
@@ -212,7 +201,8 @@ def asked_again(lines):
     yield from (fleet.line("show", vehicle=name) for name in names)
 
 
-def raised(program, path, asked, wanted, rules):
+def raised(program: str | Path, path: str | Path, asked: Any, wanted: Any,
+           rules: Any) -> trials.Cases:
     """A file of an older schema is raised as it is, then goes on as it would have gone on."""
     before = schemas.rows(path)
     yield "is taken", trials.printed(program, path, []) == []
@@ -228,7 +218,7 @@ def raised(program, path, asked, wanted, rules):
     yield "is whole", trials.faults(path) == []
 
 
-def older(program, own):
+def older(program: str | Path, own: Path) -> trials.Cases:
     """Databases of each older schema: made by its statements, and files of the program's own
     that are taken back to it.
     """
@@ -247,8 +237,8 @@ def older(program, own):
     with closing(sqlite3.connect(path)) as db, db:
         db.execute("INSERT INTO retired VALUES ('old-ecu', 'v000001')")
     yield "schema 2 with a retired ECU is taken", trials.printed(program, path, []) == []
-    yield "and keeps it", trials.rows(path)["retired"] == [("old-ecu", "v000001")
-                                                           ] and trials.faults(path) == []
+    yield "and keeps it", trials.rows(path)["retired"] == [
+        ("old-ecu", "v000001")] and trials.faults(path) == []
 
 
 # ---- what refusals read
@@ -268,53 +258,48 @@ LATE = 4102444801
 LOST = "refused 2 Store"
 
 
-def image(file, kind="HP", release=1):
+def image(file: str, kind: str = "HP", release: int = 1) -> str:
     members = {
-        "file": file, "length": 1, "sha256": fleet.digest(file), "hardware": [kind], "release":
-        release
-    }
+        "file": file, "length": 1, "sha256": fleet.digest(file), "hardware": [kind],
+        "release": release}
     return fleet.line("add_image", **members)
 
 
-def campaign(name, vehicles, kind, file):
-    return fleet.line("open_campaign",
-                      campaign=name,
-                      vehicles=vehicles,
-                      items=[{"hardware": kind, "file": file}])
+def campaign(name: str, vehicles: Any, kind: str, file: Any) -> str:
+    return fleet.line("open_campaign", campaign=name, vehicles=vehicles, items=[{
+        "hardware": kind, "file": file}])
 
 
-def close(name):
+def close(name: str) -> str:
     return fleet.line("close_campaign", campaign=name)
 
 
-def vehicle(name, *ecus):
+def vehicle(name: str, *ecus: str) -> str:
     told = [{"ecu": ecu, "hardware": "HP", "key": fleet.key(7)} for ecu in ecus]
     return fleet.line("add_vehicle", vehicle=name, primary=ecus[0], ecus=told)
 
 
-def replaced(vehicle, old, ecu, at=fleet.START):
-    return fleet.line("replace_ecu",
-                      at,
-                      vehicle=vehicle,
-                      old=old,
-                      ecu=ecu,
-                      hardware="HP",
+def replaced(vehicle: Any, old: str, ecu: str | dict[str, Any] | None,
+             at: int = fleet.START) -> str:
+    return fleet.line("replace_ecu", at, vehicle=vehicle, old=old, ecu=ecu, hardware="HP",
                       key=fleet.key(7))
 
 
-def delivered(name, counter, *ecus, primary="P1", key=7, report_key=7, of=0, file=None, **second):
+def delivered(name: str, counter: int | str | None, *ecus: Any, primary: str = "P1", key: int = 7,
+              report_key: int = 7, of: int = 0, file: str | None = None, **second: Any) -> str:
     """A manifest with a report of each ECU, at the counter of the manifest or at another; of the
     factory's image or of a file, and with what stands in the place of a `second` hash.
     """
     had = {"file": file, "length": 1, "sha256": fleet.digest(file)} if file else fleet.FACTORY
-    report = {"counter": of or counter, "key": fleet.key(report_key), "time": fleet.START, **had}
+    report: dict[str, Any] = {
+        "counter": of or counter, "key": fleet.key(report_key), "time": fleet.START, **had}
     report |= {"sha512": hash for hash in second.values()}
     told = {"vehicle": name, "primary": primary, "key": fleet.key(key), "counter": counter}
     return fleet.line("deliver",
                       body=fleet.body(told | {"reports": [report | {"ecu": ecu} for ecu in ecus]}))
 
 
-def founded():
+def founded() -> Iterator[Any]:
     """Two vehicles, images `a` and `b`, and campaigns: for the first one, for the other one, and
     one that is closed.
     """
@@ -325,13 +310,13 @@ def founded():
     yield from (delivered("V1", 1, "P1", "S1"), delivered("V1", 3, "P1", "S1"))
 
 
-def repeated_keys():
+def repeated_keys() -> dict[str, Any]:
     keys = fleet.key_set(1)
     keys["image"]["root"]["keys"] *= 2
     return keys
 
 
-def all_damaged():
+def all_damaged() -> Iterator[tuple[str, str]]:
     """Refusals for which no image and no campaign is read, where all are damaged, and between
     them lines that read one.
     """
@@ -367,7 +352,7 @@ def all_damaged():
     yield fleet.line("fetch", repository="image", file="none"), "refused 29 UnknownFile"
 
 
-def others_damaged():
+def others_damaged() -> Iterator[Any]:
     """Those for which only the image and the campaigns that they name are read, where all others
     are damaged. A manifest reads all images and running campaigns, before its vehicle is looked
     at: so each is lost.
@@ -390,7 +375,7 @@ def others_damaged():
     yield image("a"), "already"
 
 
-def one_damaged():
+def one_damaged() -> Iterator[Any]:
     """A manifest reads the images and the running campaigns, whomever they are for, unless they
     were read before.
     """
@@ -399,7 +384,7 @@ def one_damaged():
     yield vehicle("V1", "P1", "S1"), "already"
 
 
-def closed_damaged():
+def closed_damaged() -> Iterator[Any]:
     """What is read of no closed campaign, where those are damaged, each line twice."""
     for line, wanted in deliveries():
         yield from ((line, wanted), (line, wanted))
@@ -409,7 +394,7 @@ def closed_damaged():
     yield from deliveries()
 
 
-def deliveries():
+def deliveries() -> Iterator[tuple[str, str]]:
     """Manifests that are refused, and a repeat. None of them changes a row."""
     yield delivered("V9", 4, "P1", "S1"), "refused 10 UnknownVehicle"
     yield delivered("V1", 4, "P1", "S1", primary="S1"), "refused 11 WrongPrimary"
@@ -423,7 +408,7 @@ def deliveries():
     yield delivered("V1", 4, "P1", "S1", of=2), "refused 18 ReportReplayed P1"
 
 
-def second_hashes_damaged():
+def second_hashes_damaged() -> Iterator[Any]:
     """Those for which an image's second hash is read, where all of them are damaged, and
     refusals before that.
     """
@@ -440,24 +425,24 @@ def second_hashes_damaged():
     yield close("over"), "already"
 
 
-def in_part():
+def in_part() -> list[tuple[str, ...]]:
     """One or two of the three columns that say together what an ECU has installed."""
     return [*combinations(INSTALLED, 1), *combinations(INSTALLED, 2)]
 
 
-def emptied(columns):
+def emptied(columns: Any) -> str:
     return "UPDATE ecu SET %s WHERE ecu = 'S1'" % ", ".join(column + " = NULL"
                                                             for column in columns)
 
 
-def installed_in_part():
+def installed_in_part() -> Iterator[tuple[str, str]]:
     """Lines that read what an ECU has installed, where a part of it is null."""
     yield fleet.line("show", vehicle="V1"), LOST
     yield delivered("V1", 4, "P1", "S1"), LOST
     yield replaced("V1", "S1", "S2"), LOST
 
 
-def unfounded():
+def unfounded() -> Iterator[tuple[str, str]]:
     """Before the founding, over an image that no call of the product leaves."""
     yield fleet.line("rotate", **fleet.key_set(9)), "refused 8 NotFounded"
     yield fleet.line("refresh", version=99), "refused 8 NotFounded"
@@ -468,7 +453,7 @@ def unfounded():
     yield fleet.line("found", **fleet.key_set(1)), LOST
 
 
-def read(program, own):
+def read(program: Any, own: Path) -> trials.Cases:
     """Refusals that come before images or campaigns are read, whatever their rows hold. None of
     these lines changes a row.
     """
@@ -488,14 +473,11 @@ def read(program, own):
                           second_hashes_damaged()),
         **{
             "installed " + " and ".join(columns): (founded(), [emptied(columns)], installed_in_part(
-                                                   ))
-            for columns in in_part()
-        },
+                                                   )) for columns in in_part()},
         "unfounded": ([], [strange], unfounded()),
         "64 roots": ([*founded(), *rotated], [DAMAGED_IMAGES], [(rotate, "refused 30 RootFull")]),
-        "the greatest version":
-        ([*founded(), greatest], [DAMAGED_IMAGES], [(rotate, "refused 21 VersionLimit")]),
-    }
+        "the greatest version": ([*founded(), greatest], [DAMAGED_IMAGES], [
+            (rotate, "refused 21 VersionLimit")]), }
     for name, (before, sql, asked_of_it) in made.items():
         begun = trials.printed(program, own / name, before)
         yield "before %s" % name, begun is not None and not any(
@@ -514,15 +496,15 @@ def read(program, own):
 # ---- the queries of the page
 
 
-def queries():
+def queries() -> list[str]:
     """The queries of the page, in order."""
     page = statements.PAGE.read_text(encoding="ascii").split("## Queries")[1]
     return re.findall(r"^    (SELECT .*?)\n\n", page, re.S | re.M)
 
 
-def last_told(answers):
+def last_told(answers: list[str]) -> dict[str, list[str]]:
     """The words of the reply of each vehicle's last accepted manifest."""
-    found = {}
+    found: Any = {}
     for words in (answer.split(" ") for answer in answers):
         if words[0] == "reply" and (words[1] not in found
                                     or int(words[3]) > int(found[words[1]][3])):
@@ -530,7 +512,7 @@ def last_told(answers):
     return found
 
 
-def shown(answers):
+def shown(answers: list[str]) -> Iterator[Any]:
     """What each `show` line says of each ECU: vehicle, ECU, filename, and the filename that is
     assigned.
     """
@@ -541,16 +523,17 @@ def shown(answers):
             yield (words[1], ecu, *(files.split(">") + [None])[:2])
 
 
-def due_ecus(ecus, offered):
+def due_ecus(ecus: list[tuple[str, str, str]],
+             offered: list[dict[str, Any]]) -> Iterator[tuple[str, int]]:
     """How many ECUs each campaign still has to reach, by the fleet's own script and what the
     ECUs run.
     """
     images = {it["file"]: it for it in offered if it["do"] == "add_image"}
 
-    def suits(kind, file):
+    def suits(kind: str, file: str) -> bool:
         return file in images and kind in images[file]["hardware"]
 
-    def release(kind, file):
+    def release(kind: str, file: str) -> int:
         return images[file]["release"] if suits(kind, file) else -1
 
     for campaign in (it for it in offered if it["do"] == "open_campaign"):
@@ -562,10 +545,13 @@ def due_ecus(ecus, offered):
         yield campaign["campaign"], left
 
 
-def replacing(lines):
+def replacing(
+    lines: list[dict[str,
+                     Any]]) -> tuple[dict[str, list[str]], list[tuple[str, str]], dict[str, str]]:
     """The ECUs that are in each vehicle after the lines, those that were replaced in order, and
     the hardware of all.
     """
+    kinds: Any
     present, retired, kinds = {}, [], {}
     for it in lines:
         if it["do"] == "add_vehicle":
@@ -579,32 +565,32 @@ def replacing(lines):
     return present, retired, kinds
 
 
-def replaced_day():
+def replaced_day() -> list[str]:
     """The day with replacements between its rounds and, of some vehicles, at its end."""
     day = list(fleet.script(**FLEET, replaced=0.3, second_hashes=0.5))
     present, _, kinds = replacing([json.loads(line) for line in day])
     for vehicle in sorted(present)[::2]:
         for old in present[vehicle][1:3]:
             told = {
-                "vehicle": vehicle, "old": old, "ecu": old + "-new", "hardware": kinds[old], "key":
-                fleet.key(9)
-            }
+                "vehicle": vehicle, "old": old, "ecu": old + "-new", "hardware": kinds[old],
+                "key": fleet.key(9)}
             day.append(fleet.line("replace_ecu", **told))
     return day
 
 
-def last_versions(lines, answers, retired):
+def last_versions(lines: list[dict[str, Any]], answers: list[str],
+                  retired: list[tuple[str, str]]) -> list[tuple[str, str, int]]:
     """Each replaced ECU, vehicle by vehicle, with the last version whose manifest had a report
     of it.
     """
-    had = {}
+    had: Any = {}
     for it, answer in zip(lines, answers):
         for report in it.get("reports", []) if answer.startswith("reply ") else []:
             had[report["ecu"]] = max(int(answer.split(" ")[3]), had.get(report["ecu"], 0))
     return [(vehicle, ecu, had.get(ecu)) for vehicle, ecu in sorted(retired, key=lambda it: it[0])]
 
 
-def asked(program, own):
+def asked(program: Path, own: Path) -> trials.Cases:
     path = own / "day"
     script = [*replaced_day(), *SHOWS]
     answers = trials.printed(program, path, script)
@@ -618,8 +604,8 @@ def asked(program, own):
     seen, told = sorted(set(shown(answers[-len(SHOWS):]))), last_told(answers)
     with trials.read(path) as db:
         assigned, run, history, withheld, left, replaced, new = queries()
-        yield "open assignments", sorted(db.execute(assigned)) == [(v, e, to)
-                                                                   for v, e, _, to in seen if to]
+        yield "open assignments", sorted(db.execute(assigned)) == [
+            (v, e, to) for v, e, _, to in seen if to]
         told_to_run = sorted((v, e, f) for f, _, v, e in db.execute(run))
         yield "ECUs that run an image", told_to_run == [it[:3] for it in seen if it[2] != "-"]
         _, retired, kinds = replacing(lines)
@@ -641,7 +627,7 @@ def asked(program, own):
             yield "the history of " + vehicle, [(row[0], row[4]) for row in past] == wanted
 
 
-def by_second_hashes(program, own):
+def by_second_hashes(program: Path, own: Path) -> trials.Cases:
     """What the queries tell of ECUs that report an image with its second hash, with another,
     without one, and with none that is one.
     """
@@ -649,11 +635,10 @@ def by_second_hashes(program, own):
     lines = [
         fleet.line("found", **fleet.key_set(1)),
         vehicle("V1", "E1", "E2", "E3", "E4"),
-        fleet.line("add_image", **BOTH | {"hardware": ["HP"]})
-    ]
-    reports = [{
-        "ecu": ecu, "key": fleet.key(7), "counter": 1, "time": fleet.START, **fleet.content(BOTH)
-    } for ecu in ("E1", "E2", "E3", "E4")]
+        fleet.line("add_image", **BOTH | {"hardware": ["HP"]})]
+    reports: list[dict[str, Any]] = [{
+        "ecu": ecu, "key": fleet.key(7), "counter": 1, "time": fleet.START, **fleet.content(BOTH)}
+                                     for ecu in ("E1", "E2", "E3", "E4")]
     reports[0]["sha512"] = reports[0]["sha512"].upper()
     reports[1]["sha512"] = hash
     del reports[2]["sha512"]
@@ -661,12 +646,10 @@ def by_second_hashes(program, own):
     told = {"vehicle": "V1", "primary": "E1", "key": fleet.key(7), "counter": 1, "reports": reports}
     lines += [
         campaign("mine", "all", "HP", BOTH["file"]),
-        fleet.line("deliver", body=fleet.body(told))
-    ]
+        fleet.line("deliver", body=fleet.body(told))]
     answers = trials.printed(program, path, lines)
     yield "an ECU with another second hash is assigned the image", answers == 4 * ["done"] + [
-        "reply V1 version 1 targets 1"
-    ]
+        "reply V1 version 1 targets 1"]
     with trials.read(path) as db:
         assigned, run, _, _, left, *_ = queries()
         yield "and it alone", db.execute(assigned).fetchall() == [("V1", "E2", BOTH["file"])]
@@ -676,7 +659,7 @@ def by_second_hashes(program, own):
         yield "it is left", db.execute(left).fetchall() == [("mine", 1)]
 
 
-def cases(program):
+def cases(program: Path) -> trials.Cases:
     with trials.folder() as own:
         yield from asked(program, own)
         yield from by_second_hashes(program, own)

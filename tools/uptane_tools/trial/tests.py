@@ -6,6 +6,7 @@ need no program.
 import importlib
 import importlib.util
 import unittest
+from typing import Any
 
 from uptane_tools import TOP, arguments
 
@@ -18,7 +19,7 @@ class Counts:
     def __init__(self) -> None:
         self.passed = self.failed = 0
 
-    def pytest_runtest_logreport(self, report) -> None:
+    def pytest_runtest_logreport(self, report: Any) -> None:
         """Counts a test once it has run, or couldn't begin or end."""
         self.passed += report.when == "call" and report.passed
         self.failed += report.failed

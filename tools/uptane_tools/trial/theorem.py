@@ -4,6 +4,7 @@ quote, and counts the definitions that the theorem's statement rests on.
     tools/run theorem            tells what differs
     tools/run theorem write      writes the quotes and the counts anew
     tools/run theorem sizes      lists each definition that is counted, with its words
+    tools/run theorem unled      lists each definition to which no contract leads
 
 A line `<!-- quote FILE NAME -->` stands above a quote: the function's contract or the definition
 of that name, as the file has it; a line `<!-- example FILE NAME -->` above a whole function,
@@ -17,8 +18,10 @@ import re
 import shutil
 import sys
 from collections import defaultdict
+from collections.abc import Iterator
 from functools import lru_cache
 from pathlib import Path
+from typing import Any
 
 from uptane_tools import arguments
 from uptane_tools.trial import trials
@@ -28,15 +31,17 @@ PAGE = TOP / "docs" / "trust" / "THEOREM.md"
 HEADLINE = ("crates/up_desk/src/desk.rt", "run")
 # the same over fresh tables, whose statements have nothing of the inside
 FRESH = "crates/up_shipped/src/fresh.rt", ["run_fresh", "script_fresh"]
+# to these definitions no contract leads, but proofs, or nothing yet
+OF_PROOFS = {"up_curve": "e_of f_of g_of h_of", "up_records": "FindsSuch IsThere"}
 # the law of the scheme that a desk is over, by the bound of its type
 BOUND = TOP / "crates" / "up_sign" / "src" / "scheme.rt"
 QUOTE = re.compile(r"^<!-- (quote|example) (\S+) (\w+) -->\n\n((?:    .*\n|\n(?=    ))*)",
                    re.MULTILINE)
 SIZES = re.compile(r"^<!-- sizes -->\n\n((?:\|.*\n)*)", re.MULTILINE)
 KIT_TABLE = re.compile(r"^<!-- kit -->\n\n((?:\|.*\n)*)", re.MULTILINE)
-BEGINS = re.compile(
-    r"^(?:abbrev|unfoldable|record|data|pub record|pub data|abbrev pub|unfoldable pub) (?:pub "
-    r")?(\w+)", re.MULTILINE)
+DECLARED = r"(?:abbrev|unfoldable|pub record|pub data|record|data)(?: pub)? "
+BEGINS = re.compile(DECLARED + r"(?!use |pub |mutual\b)(\S+)")
+MUTUAL = re.compile(DECLARED + r"mutual\b")
 WORD = re.compile(r"[A-Za-z_]\w*(?:\.[A-Za-z_]\w*)*")
 # what a part of the definitions is for, by crate
 PARTS = {
@@ -51,7 +56,7 @@ PARTS = {
     "up_records": "what tables show to a desk, and its cache"}
 
 
-def without_comments(text):
+def without_comments(text: str) -> str:
     # (lines of a comment first: without its words such a line would be an empty one, at which a
     # record is cut)
     return re.sub(r"[ \t]+--(?: .*)?$", "", re.sub(r"^[ \t]*--.*\n", "", text, flags=re.MULTILINE),
@@ -61,14 +66,14 @@ def without_comments(text):
 # ---- quotes
 
 
-def function_of(text, name):
+def function_of(text: str, name: str) -> Any:
     """The head of a public function, with its contract."""
     found = re.search(r"^( *)pub fn %s\b.*?(?=^\1\{\n|^\1\{\}\n)" % name, text,
                       re.MULTILINE | re.DOTALL)
     return found and re.sub(r"(?m)^%s" % found[1], "", found[0])
 
 
-def definition_of(text, name):
+def definition_of(text: str, name: str) -> Any:
     """A definition, with the comment above it."""
     begins = (r"^((?:--[^\n]*\n)*)(?:abbrev|unfoldable|record|data|pub record|pub data)(?: pub)? "
               r"%s\b") % name
@@ -76,14 +81,14 @@ def definition_of(text, name):
     return found and found[0].rstrip("\n") + "\n"
 
 
-def example_of(text, name):
+def example_of(text: str, name: str) -> Any:
     """A function with its body, and its attributes."""
     found = re.search(r"^( *)(?:#\[[^\n]*\]\n *)*(?:pub(?:\(crate\))? )?fn %s\b.*?^\1\}\n" % name,
                       text, re.MULTILINE | re.DOTALL)
     return found and re.sub(r"(?m)^%s" % found[1], "", found[0])
 
 
-def quoted(kind, file, name):
+def quoted(kind: str, file: str, name: str) -> str:
     text = (TOP / file).read_text(encoding="utf-8")
     found = example_of(text, name) if kind == "example" else function_of(
         text, name) if file.endswith(".rt") else definition_of(text, name)
@@ -96,24 +101,31 @@ def quoted(kind, file, name):
 # ---- what the statement leads to
 
 
+def parts_of(text: str) -> dict[str | Any, Any]:
+    """The declarations of a module: the text of each, with its fields or equations, by its name.
+    Those that are defined by one another stand in one block, and are apart here.
+    """
+    parts = {}
+    for block in re.split(r"(?m)^(?=%s)" % DECLARED, without_comments(text))[1:]:
+        found = BEGINS.match(block)
+        if found:
+            parts[found[1]] = block.strip() + "\n"
+        for one in re.split(r"(?m)^  (?=pub \w+ :)", block)[1:] if MUTUAL.match(block) else ():
+            parts[one.split()[1]] = one.strip() + "\n"
+    return parts
+
+
 @lru_cache(None)
-def module(crate, path):
+def module(crate: str, path: str) -> Any:
     """A module of definitions: the texts of its declarations, and what it takes from which
     module, by the name that it uses.
     """
     file = TOP / "crates" / crate / "specs" / ("%s.antt" % path.replace(".", "/"))
     text = file.read_text(encoding="utf-8")
-    body = without_comments(text)
-    parts = {}
-    for block in re.split(r"\n\s*\n", body):
-        found = BEGINS.search(block)
-        if found and not block.startswith("use "):
-            # (a type with its fields, or a function with its equations, stands in one block)
-            parts[found[1]] = block.strip() + "\n"
-    return file, parts, taken(text)
+    return file, parts_of(text), taken(text)
 
 
-def taken(text):
+def taken(text: str) -> dict[str, tuple[Any, str]]:
     """The imports of a text, of both forms."""
     found = {}
     for path, names in re.findall(r"use Rattle\.([\w.]+?)(?:\.\{([^}]*)\}|(?= as))", text):
@@ -125,7 +137,7 @@ def taken(text):
     return found
 
 
-def place_of(path):
+def place_of(path: Any) -> tuple[str | Any, str] | None:
     """The crate and the module of a path; the module of a type of the code begins with `declared`.
     """
     crate, *rest = path.split(".")
@@ -133,7 +145,7 @@ def place_of(path):
             ".".join(rest[1:])) if crate.startswith("up_") and rest and rest[0] == "specs" else None
 
 
-def declared(crate, path):
+def declared(crate: str, path: str) -> Any:
     """The file of a type of the code, and its text there."""
     _, file, name, *_ = path.split(".") + ["", ""]
     source = TOP / "crates" / crate / "src" / ("%s.rt" % file)
@@ -144,7 +156,7 @@ def declared(crate, path):
     return found and (source, name, re.sub(r"^\s*///?.*\n", "", found[0], flags=re.MULTILINE))
 
 
-def names_in(text, parts, imports):
+def names_in(text: str, parts: Any, imports: Any) -> trials.Cases:
     """Where the names of a text lead: a crate, a module and a name."""
     for word in WORD.findall(text):
         head, _, rest = word.partition(".")
@@ -155,7 +167,7 @@ def names_in(text, parts, imports):
             yield None, head
 
 
-def closure(head=HEADLINE):
+def closure(head: Any = HEADLINE) -> list[Any]:
     """Each definition that the contract leads to, and the law of the scheme that it is over: the
     file, its name and its text.
     """
@@ -163,8 +175,9 @@ def closure(head=HEADLINE):
     text, bound = (TOP / file).read_text(encoding="utf-8"), BOUND.read_text(encoding="utf-8")
     law = re.search(r"ghost lawful: .*", bound)
     waiting, done, found = [], set(), []
+    source: Any
     for source, begins in ((text, function_of(text, name)), (bound, law[0])):
-        imports = taken(re.sub(r"^(ghost )", "", source, flags=re.MULTILINE))
+        imports: Any = taken(re.sub(r"^(ghost )", "", source, flags=re.MULTILINE))
         waiting += [(path, known) for path, known in names_in(begins, {}, imports) if path]
     while waiting:
         path, known = waiting.pop()
@@ -180,6 +193,7 @@ def closure(head=HEADLINE):
             continue
         if not (TOP / "crates" / crate / "specs" / ("%s.antt" % at.replace(".", "/"))).is_file():
             continue
+        parts: Any
         source, parts, imports = module(crate, at)
         if known in parts and (source, known, parts[known]) not in found:
             found.append((source, known, parts[known]))
@@ -187,7 +201,37 @@ def closure(head=HEADLINE):
     return found
 
 
-def to_read(text):
+def unled() -> list[tuple[str, Any]]:
+    """The definitions of the folders specs/ to which no contract of any function leads."""
+    modules, waiting = {}, []
+    for file in (TOP / "crates").glob("up*/specs/**/*.antt"):
+        path: Any
+        _: Any
+        crate, _, *path = file.relative_to(TOP / "crates").with_suffix("").parts
+        modules[crate, ".".join(path)] = file
+    for file in (TOP / "crates").glob("up*/src/**/*.rt"):
+        text = re.sub(r"(?m)^\s*//.*\n", "", file.read_text(encoding="utf-8"))
+        imports: Any = taken(text)
+        name: Any
+        for path, name in names_in(re.sub(r"(?m)^ghost use [^;]*;", "", text), {}, imports):
+            waiting.append((place_of(path or ""), name))
+    # (where an operator stands isn't seen)
+    waiting += [(place, name) for place in modules for name in module(*place)[1] if "◌" in name]
+    led = set()
+    while waiting:
+        place, name = waiting.pop()
+        if place in modules and (place, name) not in led:
+            led.add((place, name))
+            parts: Any
+            _, parts, imports = module(*place)
+            other: Any
+            for path, other in names_in(parts.get(name, ""), parts, imports):
+                waiting.append((place_of(path) if path else place, other))
+    return sorted((str(modules[place].relative_to(TOP)), name) for place in modules
+                  for name in module(*place)[1] if (place, name) not in led)
+
+
+def to_read(text: str) -> Iterator[Any]:
     """The files that the page lists to be read; one without a folder is in that of the one before.
     """
     folder = None
@@ -197,11 +241,11 @@ def to_read(text):
         yield folder / name
 
 
-def counted(head=HEADLINE):
+def counted(head: Any = HEADLINE) -> dict[Any, tuple[Any, int, Any, Any]]:
     """For each crate, in the order of the table: how many definitions, files, lines and words."""
-    rows = defaultdict(lambda: [0, set(), 0, 0])
+    rows: Any = defaultdict(lambda: [0, set(), 0, 0])
     for source, _, text in closure(head):
-        row = rows[source.relative_to(TOP / "crates").parts[0]]
+        row: Any = rows[source.relative_to(TOP / "crates").parts[0]]
         row[0] += 1
         row[1].add(source)
         row[2] += len([line for line in text.split("\n") if line.strip()])
@@ -210,11 +254,11 @@ def counted(head=HEADLINE):
     return {it: (rows[it][0], len(rows[it][1]), rows[it][2], rows[it][3]) for it in order}
 
 
-def total_of(rows):
+def total_of(rows: Any) -> str:
     return " | ".join("{:,}".format(sum(row[at] for row in rows.values())) for at in range(4))
 
 
-def table():
+def table() -> str:
     rows = counted()
     lines = ["| Part | Crate | Definitions | Files | Lines | Words |", "|---|---|---|---|---|---|"]
     lines += [
@@ -235,7 +279,7 @@ FAMILIES = [("Rust's libraries", r"core|std|std_\w+|io"), ("the system's calls",
             ("HTTP", r"httparse|http\w*|matchit"), ("SQLite", r"sqlite\w*"), ("other", r".*")]
 
 
-def kit_crates(kit):
+def kit_crates(kit: Any) -> list[Any]:
     """The kit's crates that the program stands on."""
     program = (TOP / "crates.txt").read_text(encoding="utf-8").split("\n#")[0]
     waiting = ["core", "std"] + [
@@ -252,11 +296,11 @@ def kit_crates(kit):
     return sorted(found)
 
 
-def lines_of(folder, pattern):
+def lines_of(folder: Path, pattern: str) -> int:
     return sum(path.read_text(encoding="utf-8").count("\n") for path in folder.glob(pattern))
 
 
-def foreign(folder):
+def foreign(folder: Path) -> int:
     """How many functions of C the crate calls."""
     blocks = [
         block for path in folder.glob("src/**/*.rt")
@@ -265,7 +309,7 @@ def foreign(folder):
     return sum(len(re.findall(r"\bfn \w+", block)) for block in blocks)
 
 
-def kit_table(kit):
+def kit_table(kit: Any) -> str:
     left, lines = kit_crates(kit), [
         "| For | Crates | Code | Statements | Proofs | Calls of C |", "|---|---|---|---|---|---|"]
     for words, pattern in FAMILIES:
@@ -283,7 +327,7 @@ def kit_table(kit):
     return "\n".join(lines) + "\n"
 
 
-def kit_here():
+def kit_here() -> Path | None:
     """The folder of the kit, if there is one."""
     found = shutil.which("rt")
     return Path(found).resolve().parents[1] if found else None
@@ -292,7 +336,7 @@ def kit_here():
 # ---- the page
 
 
-def written(text):
+def written(text: str) -> str:
     """The page with the quotes and the counts of the sources."""
     text = QUOTE.sub(
         lambda it: "<!-- %s %s %s -->\n\n%s%s" % (*it.groups()[:3], quoted(*it.groups()[:3]), ""
@@ -302,11 +346,11 @@ def written(text):
     return SIZES.sub(lambda it: "<!-- sizes -->\n\n" + table(), text).rstrip("\n") + "\n"
 
 
-def pages():
+def pages() -> list[Path]:
     return [PAGE, *sorted((TOP / "crates").glob("*/README.md"))]
 
 
-def cases():
+def cases() -> trials.Cases:
     text = PAGE.read_text(encoding="utf-8")
     yield "the page quotes the headline", HEADLINE in [
         (file, name) for _, file, name, _ in QUOTE.findall(text)]
@@ -318,13 +362,19 @@ def cases():
     led = {source for source, _, _ in closure()}
     for path in to_read(text):
         yield "the headline leads to %s" % path.relative_to(TOP), path in led
+    yield "a contract leads to each definition", all(
+        name in OF_PROOFS.get(file.split("/")[1], "").split() for file, name in unled())
     if kit_here():
         yield "the counts of the kit", KIT_TABLE.findall(text) == [kit_table(kit_here())]
 
 
 def main(words: arguments.Words = None) -> int:
     """Compares the pages, writes them, or lists what is counted."""
-    order = arguments.given(__doc__, words, order=["tell", "write", "sizes"]).order
+    order = arguments.given(__doc__, words, order=["tell", "write", "sizes", "unled"]).order
+    if order == "unled":
+        for file, name in unled():
+            print("%s: %s" % (file, name))
+        return 0
     if order == "sizes":
         for path, what, text in sorted(closure(), key=lambda it: (str(it[0]), it[1])):
             print("%5d %s: %s" % (len(text.split()), path.relative_to(TOP), what))

@@ -4,14 +4,19 @@ import sqlite3
 import subprocess
 import sys
 import tempfile
+from collections.abc import Callable, Iterable, Iterator
 from contextlib import closing, contextmanager
 from pathlib import Path
+from typing import Any
 
 from uptane_tools import RUN, TOP, arguments
 from uptane_tools.operate import statements
 from uptane_tools.oracle import reference
 
 __all__ = ["RUN", "TOP"]
+AnyPath = str | Path
+# what is tried: the name of each case, and whether it is as it must be
+Cases = Iterator[tuple[str, object]]
 TABLES = [statements.table_of(statement) for statement in statements.schema()]
 # the examples of the scheme that is tried: the first path, and the messages of the small Primary
 FIRST_PATH, MESSAGES = (TOP / "examples" / it for it in {
@@ -26,7 +31,8 @@ UNOPENED = {
         "schema": b"it has a newer schema", "scheme": b"its keys are of the other scheme"}.items()}
 
 
-def run(program, path, script, limit=120):
+def run(program: Any, path: AnyPath, script: Iterable[str | bytes],
+        limit: int = 120) -> tuple[int, bytes, bytes]:
     """The status, the bytes printed and the message of a script, given as lines, over a database.
     """
     words = [str(program), "run", str(path)]
@@ -36,20 +42,21 @@ def run(program, path, script, limit=120):
     return ran.returncode, ran.stdout, ran.stderr
 
 
-def printed(program, path, script, limit=120):
+def printed(program: AnyPath, path: AnyPath, script: Any, limit: int = 120) -> Any:
     """The lines printed; none where the run didn't end well."""
     status, out, err = run(program, path, script, limit)
     return None if status or err else out.decode("ascii").split("\n")[:-1]
 
 
-def expected(path, script):
+def expected(path: AnyPath, script: Iterable[str | bytes]) -> list[str]:
     """The lines that the rules print, over tables of SQLite's own."""
     with closing(sqlite3.connect(path)) as db:
         desk = reference.Desk(db)
         return [desk.answer(line) for line in script if line]
 
 
-def tool(name, *words, given=b"", limit=120):
+def tool(name: str, *words: Any, given: bytes = b"",
+         limit: int = 120) -> tuple[int, list[str], str]:
     """The status of another tool, the lines printed and its message."""
     ran = subprocess.run([sys.executable, RUN, name, *map(str, words)], input=given,
                          capture_output=True, check=False, timeout=limit)
@@ -57,17 +64,17 @@ def tool(name, *words, given=b"", limit=120):
 
 
 @contextmanager
-def folder(within=None):
+def folder(within: Any = None) -> Iterator[Path]:
     """A new folder, in the usual place or in that one."""
     with tempfile.TemporaryDirectory(dir=within) as name:
         yield Path(name)
 
 
-def log_of(path):
+def log_of(path: AnyPath) -> Path:
     return Path(str(path) + "-wal")
 
 
-def copied(path, to):
+def copied(path: Any, to: Any) -> Path:
     """A copy of the database, with its log where it has one."""
     shutil.copy(path, to)
     if log_of(path).exists():
@@ -76,7 +83,7 @@ def copied(path, to):
 
 
 @contextmanager
-def read(path):
+def read(path: Any) -> Iterator[sqlite3.Connection]:
     """A connection of SQLite's own to a copy of the database, so that the file and its log stay
     as they are.
     """
@@ -85,27 +92,28 @@ def read(path):
         yield db
 
 
-def rows_in(db):
+def rows_in(db: sqlite3.Connection) -> dict[str, list[tuple[Any, ...]]]:
     """All rows of all tables of a database."""
     return {
         table: sorted(map(tuple, db.execute("SELECT * FROM " + table)), key=repr)
         for table in TABLES}
 
 
-def rows(path):
+def rows(path: AnyPath) -> dict[str, list[tuple[Any, ...]]]:
     """All rows of all tables of a file."""
     with read(path) as db:
         return rows_in(db)
 
 
-def faults(path):
+def faults(path: AnyPath) -> list[Any]:
     """What SQLite finds wrong with the file."""
     with read(path) as db:
         found = [row for row in db.execute("PRAGMA integrity_check") if row != ("ok", )]
         return found + db.execute("PRAGMA foreign_key_check").fetchall()
 
 
-def tried(doc, words, kind, cases, **usual):
+def tried(doc: str | None, words: arguments.Words, kind: str, cases: Callable[..., Cases],
+          **usual: Any) -> int:
     """What a tool does whose words are a program and then such numbers: it judges the cases of
     these.
     """
@@ -113,7 +121,7 @@ def tried(doc, words, kind, cases, **usual):
     return judged(kind, cases(Path(asked.program).resolve(), *(getattr(asked, it) for it in usual)))
 
 
-def judged(kind, cases):
+def judged(kind: str, cases: Any) -> int:
     """Prints each case and, last, how many passed; the status of the tool."""
     passed = failed = 0
     for name, well in cases:

@@ -20,8 +20,10 @@ import signal
 import subprocess
 import sys
 import time
+from collections.abc import Callable, Iterator
 from concurrent.futures import ThreadPoolExecutor
 from pathlib import Path
+from typing import Any
 
 from uptane_tools import arguments
 from uptane_tools.operate import package
@@ -43,7 +45,7 @@ class NoContainerError(OSError):
     pass
 
 
-def missing():
+def missing() -> list[str]:
     """What the container needs and isn't there."""
     found = [] if os.getuid() == 0 else ["root"]
     found += [
@@ -54,7 +56,7 @@ def missing():
     return found + ([] if control_groups() else ["control groups of the second version"])
 
 
-def control_groups():
+def control_groups() -> list[str]:
     """Where they are mounted."""
     return [
         line.split()[1] for line in Path("/proc/mounts").read_text("ascii").splitlines()
@@ -62,7 +64,7 @@ def control_groups():
 
 
 @contextlib.contextmanager
-def mounted(own):
+def mounted(own: Path) -> Iterator[Path]:
     """This machine's files, with what is written to them in memory. No service but systemd's own
     starts with them.
     """
@@ -85,7 +87,7 @@ def mounted(own):
 
 
 @contextlib.contextmanager
-def own_group():
+def own_group() -> Iterator[Path]:
     """A control group of its own, so that two containers don't meet in one."""
     group = Path(control_groups()[0]) / ("unit_cases_%d" % os.getpid())
     group.mkdir()
@@ -97,7 +99,7 @@ def own_group():
 
 
 @contextlib.contextmanager
-def booted(root, group, folders):
+def booted(root: Any, group: Any, folders: Any) -> Iterator[Any]:
     """The words that enter a container of these files in which systemd has come up."""
     words = ["sh", "-c", 'echo $$ > "$0" && exec "$@"', str(group / "cgroup.procs")]
     words += [
@@ -119,7 +121,7 @@ def booted(root, group, folders):
         running.wait(PATIENCE)
 
 
-def entered(running):
+def entered(running: subprocess.Popen[bytes]) -> list[str]:
     scheme = ["SCHEME=" + os.environ["SCHEME"]] if "SCHEME" in os.environ else []
     children = Path("/proc/%d/task/%d/children" % (running.pid, running.pid))
     for _ in range(PATIENCE):
@@ -137,25 +139,25 @@ def entered(running):
 # ---- inside
 
 
-def ran(*words, limit=PATIENCE, **more):
+def ran(*words: Any, limit: int = PATIENCE, **more: Any) -> subprocess.CompletedProcess[Any]:
     return subprocess.run(words, capture_output=True, check=False, timeout=limit, **more)
 
 
-def well(*words, **more):
+def well(*words: Any, **more: Any) -> Any:
     return ran(*words, **more).returncode == 0
 
 
-def shown(name, unit=UNIT):
+def shown(name: str, unit: Any = UNIT) -> Any:
     """A property of the unit."""
     return ran("systemctl", "show", "-p", name, "--value", unit, text=True).stdout.strip()
 
 
-def said(line):
+def said(line: Any) -> bool:
     """Whether the service wrote this."""
     return line in ran("journalctl", "-q", "-o", "cat", "-u", UNIT).stdout
 
 
-def changed(lines, unit=UNIT):
+def changed(lines: Any, unit: Any = UNIT) -> Any:
     """Whether the unit could be given these lines in the place of its own, or its own again
     where there are none.
     """
@@ -165,7 +167,7 @@ def changed(lines, unit=UNIT):
     return well("systemctl", "daemon-reload")
 
 
-def until(test):
+def until(test: Any) -> bool:
     """Whether a test holds within the time that is given to it."""
     end = time.monotonic() + PATIENCE
     while not test():
@@ -175,7 +177,7 @@ def until(test):
     return True
 
 
-def asked(target, body=None, port=PORT):
+def asked(target: str, body: bytes | None = None, port: int = PORT) -> bytes | None:
     """The body of an answer, once the service gives one."""
     for _ in range(PATIENCE):
         with contextlib.suppress(OSError, http.client.HTTPException):
@@ -187,35 +189,35 @@ def asked(target, body=None, port=PORT):
     return None
 
 
-def delivered(body):
+def delivered(body: bytes) -> Any:
     return asked("/director/manifest", body)
 
 
-def version():
+def version() -> Any:
     """The Image repository's version."""
     return json.loads(asked("/image/timestamp.json"))["signed"]["version"]
 
 
-def page():
+def page() -> list[Any]:
     """The blocks of commands of the page: to install, to found, and for several desks."""
     return re.findall(r"(?m)((?:^    .*\n)+)", (GIVEN / "README.md").read_text("ascii"))
 
 
-def carried_out(block, folder):
+def carried_out(block: Any, folder: Path) -> tuple[Any, Any]:
     """What the commands print, and whether they go well, one after another."""
     done = ran("sh", "-eu", limit=4 * PATIENCE, cwd=folder, input=block.encode("ascii"))
     print(done.stderr.decode("utf-8", "replace") if done.returncode else "", end="")
     return done.stdout.decode("ascii"), done.returncode == 0
 
 
-def installing(program):
+def installing(program: str | Path) -> Any:
     """The page's commands, for a program of which there may be no proof yet."""
     text = page()[0].replace("apt install ./", "dpkg --force-depends --install ./")
     return text.replace("tools/run package", "tools/run package --unproved") if package.is_unproved(
         Path(program)) else text
 
 
-def set_up(program, own):
+def set_up(program: str | Path, own: Path) -> trials.Cases:
     """The page's commands, given where it says: the package is made and installed, and the
     service starts behind the founding.
     """
@@ -267,34 +269,34 @@ def set_up(program, own):
 # ---- how the program ends
 
 
-def replies():
+def replies() -> tuple[list[tuple[bytes, bytes]], Callable[[Callable[[], object]], bool]]:
     """Manifests with their replies, and what tells whether they come back when the program has
     ended so.
     """
     kept = [(http_cases.MANIFEST, http_cases.REPLY)]
 
-    def comes_back(end):
+    def comes_back(end: Callable[[], object]) -> bool:
         body = http_cases.next_manifest(len(kept) + 1)
         kept.append((body, delivered(body)))
         before = shown("MainPID")
-        return end() and until(lambda: shown("MainPID") not in
-                               ("0", before)) and delivered(body) == kept[-1][1]
+        return bool(end()) and until(lambda: shown("MainPID") not in
+                                     ("0", before)) and delivered(body) == kept[-1][1]
 
     return kept, comes_back
 
 
-def served_so(count):
+def served_so(count: int) -> str:
     """The unit's lines for another COUNT."""
     return "[Service]\nExecStart=\nExecStart=%s serve %s %d %s\n" % (RUN[0], FILE, PORT, count)
 
 
-def by_script(path, *lines):
+def by_script(path: str | Path, *lines: Any) -> Any:
     """What an operator's script prints, given as the page says, while the service doesn't run."""
     return ran(*AS_OWNER, *RUN, str(path),
                input="".join(line + "\n" for line in lines).encode("ascii")).stdout.decode("ascii")
 
 
-def ends():
+def ends() -> trials.Cases:
     """However the program ends, the service comes back with what it had."""
     kept, comes_back = replies()
     yield "a restart", comes_back(lambda: well("systemctl", "restart", UNIT))
@@ -380,12 +382,12 @@ SEEN = [name for name in OTHERS if name.startswith(("/tmp", "/home"))]
 MAY = ["writes in /var/lib/uptane", "a socket of AF_INET", "sends to 127.0.0.1"]
 
 
-def told_of(word, path):
+def told_of(word: str, path: Any) -> list[Any]:
     """What the probe may do, or may not."""
     return re.findall("(?m)^%s: (.*)$" % word, path.read_text("ascii"))
 
 
-def hardened():
+def hardened() -> trials.Cases:
     """A program in the place of the service's may do what the service does, and nothing of what
     the same user may otherwise.
     """
@@ -411,7 +413,7 @@ def hardened():
 # ---- new files of the Image repository
 
 
-def refreshed():
+def refreshed() -> trials.Cases:
     """The refreshing script gives new files and leaves the service running; the timer starts it
     at its time, and after a missed one.
     """
@@ -423,7 +425,8 @@ def refreshed():
     fewer, before = changed("[Unit]\nStartLimitBurst=2\n"), version()
     yield "as many as operators need, one behind another", fewer and all(
         well("systemctl", "start", REFRESH)
-        for _ in range(4)) and version() == before + 4 and changed("")
+        for _ in range(7)) and version() == before + 7 and changed("")
+    yield "however quickly", shown("StartLimitIntervalUSec", REFRESH) == "0"
     before = version()
     yield "after one that fails the service runs", not well(
         "env", "OWNER=nobody", "/usr/lib/uptane_desk/apply.sh", "--refresh") and version() == before
@@ -442,7 +445,7 @@ def refreshed():
 # ---- scripts, copies, and requests while the service starts anew
 
 
-def dropped():
+def dropped() -> trials.Cases:
     """An operator drops a script, and the next refresh gives it; who it was stands in the journal.
     """
     made = well("useradd", "alice") and well("usermod", "-a", "-G", "uptane-operators", "alice")
@@ -476,7 +479,7 @@ def dropped():
             told.exists) and failed_so("uptane-desk-now.service")
 
 
-def failed_so(unit):
+def failed_so(unit: Any) -> Any:
     """Whether that this unit failed is told."""
     told = Path("/run/failed")
     found = until(lambda: told.exists() and unit in told.read_text("ascii").split())
@@ -484,7 +487,7 @@ def failed_so(unit):
     return found
 
 
-def killed():
+def killed() -> trials.Cases:
     """apply.sh is killed while it gives a script: the unit starts the desk again, and the script
     is held.
     """
@@ -510,7 +513,7 @@ def killed():
 # ---- what alarms
 
 
-def broken():
+def broken() -> trials.Cases:
     """A service that can't open its file gives up, and that is told; so are a Timestamp near its
     end, and a copy that is old.
     """
@@ -558,7 +561,7 @@ def broken():
 # ---- a restore, and a newer program
 
 
-def lost():
+def lost() -> trials.Cases:
     """The file is removed while it is served: that is told within the next look, and what the
     program has is copied. Once it has ended, each start fails, which is told too.
     """
@@ -591,7 +594,7 @@ def lost():
         shutil.rmtree(path)
 
 
-def restored():
+def restored() -> trials.Cases:
     """The file is lost; the tool that the page names brings the newest copy back, and the
     service runs over it.
     """
@@ -606,8 +609,9 @@ def restored():
     yield "its log says that it is damaged", said(trials.UNOPENED["damaged"])
     done = ran("/usr/lib/uptane_desk/tools/run", "restore", str(backup))
     print(done.stdout.decode("utf-8") + done.stderr.decode("utf-8"), end="")
-    yield "it is restored, and served", done.returncode == 0 and shown(
-        "ActiveState") == "active" and delivered(http_cases.MANIFEST) == kept
+    # (a start answers before the unit tells that it is done)
+    yield "it is restored, and served", done.returncode == 0 and delivered(
+        http_cases.MANIFEST) == kept and until(lambda: shown("ActiveState") == "active")
     modes = [path.stat().st_mode & 0o777 for path in (FOLDER, FILE)]
     yield "with its owner and mode", modes == [0o700, 0o600] and FILE.owner() == "uptane"
     aside = list(FOLDER.glob("before-*"))
@@ -617,7 +621,7 @@ def restored():
         "systemctl", "restart", UNIT) and delivered(http_cases.MANIFEST) == kept
 
 
-def upgraded(program, own):
+def upgraded(program: str | Path, own: Path) -> trials.Cases:
     """An upgrade leaves the service as it runs, and says so. A start that raises an older schema
     copies the file before.
     """
@@ -645,7 +649,7 @@ def upgraded(program, own):
     yield "with all rows", rows == schemas.rows(FILE) and well("systemctl", "start", UNIT)
 
 
-def copied():
+def copied() -> trials.Cases:
     before = shown("MainPID")
     delivered(http_cases.MANIFEST.replace(b'"V1"', b'"V7"'))
     yield "a refused manifest is in its log, by vehicle", said(
@@ -654,20 +658,20 @@ def copied():
     own = settings.read_text("ascii")
     settings.write_text(own + "METRICS=%s\n" % made, "ascii")
 
-    def copies():
+    def copies() -> list[Path]:
         return sorted(Path("/var/backups/uptane").glob("desk-*Z.db"))
 
     yield "a copy while it serves", well("systemctl", "start", BACKUP) and len(
         copies()) == 1 and shown("MainPID") == before
     settings.write_text(own, "ascii")
     yield "metrics count what its log has", (
-        'uptane_desk_refusals_logged{desk="desk",refusal="UnknownVehicle"} 1\n') in made.read_text(
-            "ascii")
+        'uptane_desk_refusals_logged{desk="desk",refusal="UnknownVehicle"} 1\n'
+    ) in made.read_text("ascii")
     drilled = ran("/usr/lib/uptane_desk/tools/run", "restore_drill", RUN[0], str(copies()[0]))
     yield "a restore of it, tried", drilled.returncode == 0 and b"\nserves: " in drilled.stdout
 
 
-def queued(own):
+def queued(own: Path) -> trials.Cases:
     """A hundred requests through HAProxy while the unit is started anew: none is refused."""
     if not shutil.which("haproxy"):
         print("haproxy isn't installed, so no request waits")
@@ -686,11 +690,11 @@ def queued(own):
 # ---- several desks, and the end
 
 
-def several(own):
+def several(own: Path) -> trials.Cases:
     """Four desks by the page's commands, and a refresh of each."""
     folder, desks = "/var/lib/uptane-division", range(1, 5)
 
-    def divide(*words):
+    def divide(*words: Any) -> Any:
         return ran(sys.executable, str(own / "tools" / "run"), "divide_script", folder, *words,
                    input=(own / "founding.script").read_bytes())
 
@@ -718,7 +722,7 @@ def several(own):
     yield "they start one after another", begun and again and all(
         starts[at][1] <= starts[at + 1][0] for at in range(3))
 
-    def versions():
+    def versions() -> list[Any]:
         return [
             json.loads(asked("/image/timestamp.json", None, 8080 + desk))["signed"]["version"]
             for desk in desks]
@@ -728,7 +732,7 @@ def several(own):
         it + 1 for it in before]
 
 
-def removed():
+def removed() -> trials.Cases:
     """The package goes, and leaves the data."""
     there = sorted(str(it) for it in FOLDER.iterdir() if it.suffix == ".db")
     gone = well("dpkg", "--remove", "uptane-desk") and not Path(RUN[0]).exists()
@@ -736,7 +740,7 @@ def removed():
         str(it) for it in FOLDER.iterdir() if it.suffix == ".db") == there and len(there) == 5
 
 
-def cases(program, names):
+def cases(program: str | Path, names: Any) -> trials.Cases:
     with trials.folder() as own:
         own.chmod(0o755)
         yield from set_up(program, own)

@@ -24,7 +24,9 @@ import sys
 import time
 import urllib.error
 import urllib.request
+from collections.abc import Iterator
 from pathlib import Path
+from typing import Any
 
 from uptane_tools import arguments
 from uptane_tools.measure import fleet, speed
@@ -36,27 +38,27 @@ TOOLS, SERVICE = trials.TOP / "tools", trials.TOP / "examples" / "service"
 NOW, DAY = int(time.time()), 86400
 
 
-def ran(*words, **more):
+def ran(*words: Any, **more: Any) -> subprocess.CompletedProcess[str]:
     return subprocess.run(list(map(str, words)), capture_output=True, text=True, check=False,
-                          **{"timeout": 120} | more)
+                          **dict[str, Any](timeout=120) | more)
 
 
-def tool(name, *words, **more):
+def tool(name: Any, *words: Any, **more: Any) -> Any:
     return ran(sys.executable, trials.RUN, name, *words, **more)
 
 
 # ---- the planner
 
 
-def near(value, wanted, part):
+def near(value: Any, wanted: Any, part: Any) -> Any:
     return abs(value - wanted) <= part * wanted
 
 
-def first_manifests(vehicles, ecus, names, hashes):
+def first_manifests(vehicles: int, ecus: int, names: int, hashes: int) -> Iterator[str]:
     """A fleet whose vehicles, ECUs and files have names of so many bytes, and one manifest of each.
     """
 
-    def name(word, at):
+    def name(word: str, at: int) -> str:
         return "%s%0*d" % (word, names - len(word), at)
 
     image = fleet.FACTORY | {"file": name("f", 0)
@@ -74,7 +76,7 @@ def first_manifests(vehicles, ecus, names, hashes):
                 "reports": reports}))
 
 
-def planned(program, own):
+def planned(program: Path, own: Path) -> trials.Cases:
     """What it tells of small files that are really made; those of SPEED are large ones."""
     for ecus, kept, names, hashes in ((1, 12000, 8, 1), (3, 6000, 20, 2), (5, 4000, 30, 2)):
         path = own / ("kept of %d" % ecus)
@@ -96,11 +98,11 @@ def planned(program, own):
     asked = ["--vehicles", "1000", "--ecus", "4"]
     away = [
         plan.Desk(plan.parsed([*asked, *words]), 1).away
-        for words in ([], ["--refreshes", "0"], ["--refreshes", "0", "--requests", "1000"])]
+        for words in ((), ("--refreshes", "0"), ("--refreshes", "0", "--requests", "1000"))]
     start = plan.Desk(plan.parsed(asked), 1).start + 1
     yield "two starts a refresh, and one behind a million connections", near(
         away[0] - away[1], 4 * start, 0.001) and near(away[2], start, 0.001)
-    disks = [plan.Desk(plan.parsed([*asked, *words]), 1) for words in ([], ["--clones"])]
+    disks = [plan.Desk(plan.parsed([*asked, *words]), 1) for words in ((), ("--clones", ))]
     yield "48 whole copies, or clones", near(disks[0].disk, 49 * disks[0].file,
                                              0.001) and disks[1].disk < 1.01 * disks[1].file
     few, many = (tool("plan", "--vehicles", 10_000, "--ecus", 4, *words)
@@ -116,7 +118,7 @@ def planned(program, own):
 # ---- metrics
 
 
-def sample(text, name, **labels):
+def sample(text: str, name: str, **labels: Any) -> int | None:
     """The value of a metric with these labels, among others."""
     found = [
         line for line in text.splitlines() if line.startswith("uptane_desk_%s{" % name) and all(
@@ -124,7 +126,7 @@ def sample(text, name, **labels):
     return int(found[0].split()[-1]) if len(found) == 1 else None
 
 
-def measured(program, own):
+def measured(program: str | Path, own: Path) -> trials.Cases:
     path, lines = own / "fleet", list(fleet.script(vehicles=30, ecus=4, rounds=4,
                                                    second_hashes=0.3))
     lines.append(
@@ -135,11 +137,11 @@ def measured(program, own):
     text = tool("metrics", path, "--now", after).stdout
     with trials.read(path) as db:
 
-        def one(sql):
+        def one(sql: str) -> Any:
             return db.execute(sql).fetchone()[0]
 
         last = "FROM vehicle JOIN kept USING (vehicle, version)"
-        plans = {}
+        plans: Any = {}
         for vehicle, text_of in db.execute(
                 "SELECT vehicle, plan_text FROM kept ORDER BY vehicle, version"):
             plans.setdefault(vehicle, []).append({
@@ -231,7 +233,7 @@ RUNUSER = '#!/bin/sh\nshift 3\nexec "$@"\n'
 class Service:
     """One desk or several, with their folders, and a systemd in small."""
 
-    def __init__(self, program, own, desks):
+    def __init__(self, program: str | Path, own: Path, desks: int) -> None:
         self.own, self.desks, self.names = own, desks, [str(at) for at in range(1, desks + 1)
                                                         ] if desks else [""]
         for name in ("bin", "spool", "spool/answers", "copies", "run", "data"):
@@ -247,7 +249,7 @@ class Service:
                            ("journalctl", JOURNALCTL % (own / "run")), ("runuser", RUNUSER)):
             (own / "bin" / name).write_text(text, encoding="ascii")
             (own / "bin" / name).chmod(0o755)
-        told = {
+        told: dict[str, Any] = {
             "PROGRAM": program, "TOOLS": TOOLS, "FOLDER": own / "data", "SPOOL": own / "spool",
             "JOURNAL": own / "journal", "COPIES": own / "copies"}
         told |= {
@@ -261,19 +263,19 @@ class Service:
         self.env = os.environ | {name: str(value) for name, value in told.items()} | {
             "PATH": "%s:%s" % (own / "bin", os.environ["PATH"])}
 
-    def unit(self, name):
+    def unit(self, name: str) -> str:
         return "uptane-desk@%s.service" % name if name else "uptane-desk.service"
 
-    def file(self, name=""):
+    def file(self, name: str = "") -> Path:
         return self.own / "data" / ("desk%s.db" % name)
 
-    def script(self, name, *words):
+    def script(self, name: str, *words: Any) -> Any:
         return ran("sh", SERVICE / name, *words, env=self.env, timeout=120)
 
-    def systemctl(self, verb):
+    def systemctl(self, verb: Any) -> list[subprocess.CompletedProcess[str]]:
         return [ran(self.own / "bin" / "systemctl", verb, self.unit(name)) for name in self.names]
 
-    def calls(self):
+    def calls(self) -> list[str]:
         """What systemd was asked since the last time, but what it shows."""
         path = self.own / "run" / "calls"
         made = [
@@ -282,33 +284,33 @@ class Service:
         path.unlink(missing_ok=True)
         return made
 
-    def drop(self, name, *lines, mode=0o600):
+    def drop(self, name: str, *lines: Any, mode: int = 0o600) -> None:
         (self.own / "spool" / name).write_text("".join(line + "\n" for line in lines),
                                                encoding="ascii")
         (self.own / "spool" / name).chmod(mode)
 
-    def answers(self, name):
+    def answers(self, name: str) -> list[str] | None:
         path = self.own / "spool" / "answers" / name
         return path.read_text("ascii").splitlines() if path.exists() else None
 
-    def journal(self):
+    def journal(self) -> list[Any]:
         path = self.own / "journal"
         return [json.loads(line) for line in path.read_text("ascii").splitlines()
                 ] if path.exists() else []
 
-    def get(self, target, name=""):
+    def get(self, target: str | dict[str, Any], name: str = "") -> Any:
         with urllib.request.urlopen("http://127.0.0.1:%d%s" % (self.ports[name], target),
                                     timeout=60) as answer:
             return answer.read()
 
-    def version(self, name=""):
+    def version(self, name: str = "") -> Any:
         with urllib.request.urlopen("http://127.0.0.1:%d/image/timestamp.json" % self.ports[name],
                                     timeout=60) as answer:
             return json.load(answer)["signed"]["version"]
 
 
 @contextlib.contextmanager
-def service(program, own, desks=0):
+def service(program: str | Path, own: Path, desks: int = 0) -> Iterator[Service]:
     it = Service(program, own, desks)
     try:
         yield it
@@ -316,17 +318,17 @@ def service(program, own, desks=0):
         it.systemctl("stop")
 
 
-def vehicle(name, number=9):
+def vehicle(name: str, number: int = 9) -> str:
     return fleet.line("add_vehicle", NOW, vehicle=name, primary=name + "-p", ecus=[{
         "ecu": name + "-p", "hardware": "HP", "key": fleet.key(number)}])
 
 
-def image(release):
+def image(release: int) -> str:
     return fleet.line("add_image", NOW, file="hp-%d.bin" % release, length=3,
                       sha256=fleet.digest("%d" % release), hardware=["HP"], release=release)
 
 
-def campaign(name, vehicles="all", release=2):
+def campaign(name: str, vehicles: Any = "all", release: int = 2) -> str:
     return fleet.line("open_campaign", NOW, campaign=name, vehicles=vehicles, items=[{
         "hardware": "HP", "file": "hp-%d.bin" % release}])
 
@@ -334,7 +336,7 @@ def campaign(name, vehicles="all", release=2):
 FOUNDING = [fleet.line("found", NOW, **fleet.key_set(1)), vehicle("V1"), image(1)]
 
 
-def applied(program, own):
+def applied(program: str | Path, own: Path) -> trials.Cases:
     with service(program, own) as it:
         trials.printed(program, it.file(), FOUNDING)
         it.systemctl("start")
@@ -423,7 +425,7 @@ def applied(program, own):
         yield from turned(it)
 
 
-def read_alone(it):
+def read_alone(it: Any) -> trials.Cases:
     """A script that only shows stops nothing. Nothing is left of an earlier one of its name."""
     it.calls()
     it.drop("show.script", "{}")
@@ -440,7 +442,7 @@ def read_alone(it):
         path.name for path in (it.own / "data").iterdir() if path.is_dir()] == []
 
 
-def killed(it):
+def killed(it: Any) -> trials.Cases:
     """apply.sh is killed while it gives a script: no desk stays down, and no script is lost."""
     (it.own / "fails").write_text(
         "#!/bin/sh\nread line || exit 0\necho done\n: > %s/stands\nexec sleep 600\n" % it.own,
@@ -462,7 +464,7 @@ def killed(it):
                                                (it.own / "spool").glob("taken.*")) == []
 
 
-def between():
+def between() -> trials.Cases:
     """Nobody waits for the timer: a path is watched whose unit gives what was dropped; and no
     Timestamp comes near its end before the timer's next time.
     """
@@ -479,7 +481,7 @@ def between():
         gaps) + 60 * delay < DAY - least
 
 
-def turned(it):
+def turned(it: Any) -> trials.Cases:
     """The journal is rotated, and what is given then is in the file that has the name."""
     if not shutil.which("logrotate"):
         print("there is no logrotate, so no journal is rotated")
@@ -498,7 +500,7 @@ def turned(it):
             one["asked"]["do"] for one in it.journal()] == ["refresh"]
 
 
-def rotated(it):
+def rotated(it: Any) -> trials.Cases:
     """Behind a rotation a copy is made, which has the new keys."""
     it.drop("keys.script", fleet.line("rotate", NOW, **fleet.key_set(2)))
     after = it.own / "after"
@@ -513,7 +515,7 @@ def rotated(it):
             "SELECT root FROM meta").fetchone() == (2, )
 
 
-def watched(program, own):
+def watched(program: str | Path, own: Path) -> trials.Cases:
     """What is amiss is told once: a service that is down, a Timestamp near its end, no copy, or
     an old one.
     """
@@ -522,7 +524,7 @@ def watched(program, own):
                        FOUNDING + [fleet.line("refresh", NOW - DAY + 3600, version=9)])
         it.systemctl("start")
 
-        def look():
+        def look() -> tuple[Any, list[Any]]:
             return (lambda done:
                     (done.returncode, [line.split(": ")[1] for line in done.stderr.splitlines()]))(
                         it.script("watch.sh"))
@@ -552,13 +554,13 @@ def watched(program, own):
         yield "no copy at all", look() == (1, ["there is no copy"])
 
 
-def applied_to_several(program, own):
+def applied_to_several(program: str | Path, own: Path) -> trials.Cases:
     with service(program, own, 2) as it:
         asked = FOUNDING + [vehicle("V2"), vehicle("V3")]
         tool("divide_script", own / "division", "--desks", 2,
              input="".join(line + "\n" for line in asked))
         for name in it.names:
-            told = trials.run(
+            told: Any = trials.run(
                 program, it.file(name),
                 (own / "division" / ("desk%s.script" % name)).read_text("ascii").splitlines())[1]
             (own / "division" / ("desk%s.answers" % name)).write_bytes(told)
@@ -596,7 +598,7 @@ def applied_to_several(program, own):
             line.split(", ")[0] for line in told.stderr.splitlines()] == [
                 "desk2: its file is gone"]
         copies = sorted((own / "copies").glob("desk2-*Z.db"))
-        done = [tool("restore", copies[-1], *words, env=it.env) for words in ([], ["--desk", "2"])]
+        done = [tool("restore", copies[-1], *words, env=it.env) for words in ((), ("--desk", "2"))]
         print(done[0].stderr + done[1].stdout + done[1].stderr, end="")
         calls = [line for line in it.calls() if not line.startswith("is-failed ")]
         yield "and restored, the other goes on", [
@@ -607,7 +609,7 @@ def applied_to_several(program, own):
 # ---- copies, and what a restore forgets
 
 
-def posted(port, body):
+def posted(port: int, body: Any) -> tuple[int, Any]:
     client = http_cases.http.client.HTTPConnection("127.0.0.1", port, timeout=60)
     with contextlib.closing(client):
         client.request("POST", "/director/manifest", body)
@@ -615,15 +617,16 @@ def posted(port, body):
         return came.status, json.loads(came.read())
 
 
-def manifest(name, number, key=9, ecu=None):
+def manifest(name: str, number: int, key: int = 9, ecu: str | dict[str, Any] | None = None) -> str:
     ecu = ecu or name + "-p"
-    report = {"ecu": ecu, "key": fleet.key(key), "counter": number, "time": NOW, **fleet.FACTORY}
+    report: dict[str, Any] = {
+        "ecu": ecu, "key": fleet.key(key), "counter": number, "time": NOW, **fleet.FACTORY}
     return fleet.body({
         "vehicle": name, "primary": ecu, "key": fleet.key(key), "counter": number, "reports": [
             report]})
 
 
-def backed_up(program, own):
+def backed_up(program: str | Path, own: Path) -> trials.Cases:
     with service(program, own) as it:
         trials.printed(program, it.file(), FOUNDING + [vehicle("V2", 8)])
         it.systemctl("start")
@@ -692,11 +695,11 @@ def backed_up(program, own):
         yield from by_journal(it, backup)
 
 
-def refused(it, damaged):
+def refused(it: Any, damaged: Any) -> trials.Cases:
     """What keeps a restore from being done is told before anything is changed."""
     before, script = it.file().read_bytes(), it.own / "again.script"
     it.calls()
-    for words in ([], ["--tell"]):
+    for words in ((), ("--tell", )):
         done = tool("restore", damaged, *words, env=it.env)
         yield "a damaged copy isn't restored", done.returncode == 1 and done.stderr.endswith(
             "%s; nothing is changed: take an older copy\n" %
@@ -711,7 +714,7 @@ def refused(it, damaged):
     ) == [] and script.stat().st_size > 0 and left == []
 
 
-def by_journal(it, backup):
+def by_journal(it: Any, backup: Any) -> trials.Cases:
     """The file can't be read: what operators gave is in the journal, and the keys of a rotation
     in the copy that was made behind it. A file that lies elsewhere is named.
     """
@@ -748,7 +751,7 @@ def by_journal(it, backup):
     yield "a lost file that lies elsewhere tells", "to give again: add_vehicle V8\n" in told
 
 
-def lost(program, own):
+def lost(program: str | Path, own: Path) -> trials.Cases:
     """A file that is gone is told, while the program still has it and once it is down; what the
     program has is copied, and nothing is forgotten.
     """
@@ -769,7 +772,7 @@ def lost(program, own):
             "desk: its file is gone, and the program still has it: don't stop it") in told.stderr
         yield "and a metric", sample((own / "watch.prom").read_text("ascii"), "file_there") == 0
         it.drop("late.script", image(2))
-        given = [it.script("apply.sh", *words) for words in ([], ["--refresh"])]
+        given = [it.script("apply.sh", *words) for words in ((), ("--refresh", ))]
         yield "nothing is given then, and nothing stopped", [one.returncode for one in given] == [
             1, 1] and it.calls() == []
         time.sleep(1.1)
@@ -792,7 +795,7 @@ def lost(program, own):
             begun.stderr)
 
 
-def damaged(program, own):
+def damaged(program: str | Path, own: Path) -> trials.Cases:
     """A file is damaged while it is served: its copy doesn't count, no older one goes, and what
     comes behind a backup gets whole files.
     """
@@ -838,7 +841,7 @@ def damaged(program, own):
         yield "an older one is restored", tool("restore", good[-1], env=it.env).returncode == 0
 
 
-def logged(program, own):
+def logged(program: str | Path, own: Path) -> trials.Cases:
     """Each refusal is a line of the service's log, with the vehicle that a manifest names; of more
     than 60 a minute the rest is left out. The answers are as ever.
     """
@@ -849,7 +852,7 @@ def logged(program, own):
         posted(port, manifest("V1", 5))
         said = own / "run" / "uptane-desk.service.said"
 
-        def lines():
+        def lines() -> list[str]:
             return said.read_text("ascii").splitlines()[1:]
 
         told = [
@@ -881,7 +884,7 @@ def logged(program, own):
             for name in ("Stale", "UnknownFile", "not found")] == [len(stale), 1, 1]
 
 
-def restored(it, backup, lines):
+def restored(it: Any, backup: Any, lines: list[str]) -> trials.Cases:
     """What vehicles then meet is what the drill and the restore say: V1 had version 5 and has 2,
     V2 had 1 and has none.
     """
@@ -922,7 +925,7 @@ def restored(it, backup, lines):
     }) and words["V3"].split(" is ")[1].startswith("refused 10")
 
 
-def given_again(it):
+def given_again(it: Any) -> trials.Cases:
     """The lines that the restore wrote are taken as a script, and bring back what operators had
     made.
     """
@@ -946,7 +949,7 @@ def given_again(it):
 # ---- the package
 
 
-def packaged(program, own):
+def packaged(program: str | Path, own: Path) -> trials.Cases:
     if not shutil.which("dpkg-deb"):
         print("there is no dpkg, so no package is made")
         return
@@ -974,7 +977,7 @@ def packaged(program, own):
         tool("package", "--unproved", "--bench", "--program", program, "--to", own).stdout.strip())
     listed = ran("dpkg-deb", "--contents", bench).stdout
     alone = "/usr/bin/uptane_desk_bench\n" in listed and "systemd" not in listed
-    named = "Package: uptane-desk-bench" in ran("dpkg-deb", "--field", bench).stdout
+    named: Any = "Package: uptane-desk-bench" in ran("dpkg-deb", "--field", bench).stdout
     yield "one for benches has the program alone", alone and named
     root = own / "root"
     (root / "var/lib/dpkg/info").mkdir(parents=True)
@@ -1047,19 +1050,21 @@ def packaged(program, own):
 # ---- the small Primary
 
 
-def paced():
-    _, _, primary = small_primary.modules()
+def paced() -> trials.Cases:
+    primary: Any = small_primary.modules()[2]
     waits = {failed: [primary.pause(failed) for _ in range(200)] for failed in (0, 1, 2, 30)}
 
-    def within(its, least, most):
+    def within(its: list[float], least: float, most: float) -> bool:
         return all(least <= it <= most for it in its) and max(its) - min(its) > (most - least) / 2
 
     yield "a Primary asks once a day, a tenth more or less", within(waits[0], 0.9 * DAY, 1.1 * DAY)
     yield "sooner behind a failure, and then less often", within(waits[1], 150, 300) and within(
         waits[2], 300, 600) and within(waits[30], DAY / 2, DAY)
+    slept: Any
+    rounds: Any
     slept, rounds = [], []
 
-    def round(*_):
+    def round(*_: Any) -> int:
         rounds.append(len(rounds))
         if len(rounds) < 3:
             raise primary.Failed("no answer")
@@ -1077,31 +1082,31 @@ def paced():
         primary.go_round, primary.time.sleep = before
     yield "rounds go on behind failures", len(
         slept) == 4 and 150 <= slept[0] <= 300 <= slept[1] <= 600 and min(slept[2:]) > 0.8 * DAY
-    leaves = []
-    for name in ("/etc/passwd", "../x", "a/../../x"):
-        with contextlib.suppress(primary.verify.Refused):
-            leaves.append(primary.within(Path("images"), name))
-    yield "it takes no image from another folder", leaves == [] and primary.within(
-        Path("images"), "a/b.bin") == Path("images/a/b.bin")
+    images = Path("images")
+    paths = [
+        primary.path_of(images, name)
+        for name in ("/etc/passwd", "../x", "a/../../x", "..", ".", "a/b.bin")]
+    yield "it takes no image from another folder", all(
+        it.parent == images and it.name not in (".", "..") for it in paths)
 
 
-def first_round(program, own):
+def first_round(program: str | Path, own: Path) -> trials.Cases:
     """A vehicle's file as the small Primary's page says it begins: it trusts, and goes a round."""
     with service(program, own) as it:
         trials.printed(program, it.file(), FOUNDING)
         it.systemctl("start")
         is_public = b'"method":"ed25519"' in it.get("/director/root.json")
-        told = {
+        told: dict[str, Any] = {
             "vehicle": "V1", "primary": "V1-p", "counter": 0, "director": {"versions": {}},
             "image": {"versions": {}}, "ecus": [{
                 "ecu": "V1-p", "hardware": "HP", "secret": fleet.key(9), "counter": 0,
                 "installed": {
                     "file": "hp-1.bin", "length": 3, "sha256": fleet.digest("1"), "release": 1}}]}
         keys = fleet.key_set(1)
-        told |= {"method": "ed25519"} if is_public else {
-            "role_secrets": [
-                key for of in ("director", "image") for role in keys[of].values()
-                for key in role["keys"]]}
+        secrets = [
+            key for of in ("director", "image") for role in keys[of].values()
+            for key in role["keys"]]
+        told["method" if is_public else "role_secrets"] = "ed25519" if is_public else secrets
         path = own / "vehicle.json"
         path.write_text(json.dumps(told), encoding="ascii")
         words = [
@@ -1111,7 +1116,7 @@ def first_round(program, own):
         yield "a new vehicle's file", words[1].stdout == "verified: version 1, targets 0\n"
 
 
-def cases(program):
+def cases(program: Path) -> trials.Cases:
     yield from paced()
     yield from between()
     parts = [planned, measured]

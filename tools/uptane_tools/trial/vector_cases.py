@@ -15,7 +15,10 @@ import re
 import shutil
 import subprocess
 import types
+from collections.abc import Callable, Iterator
 from contextlib import closing
+from pathlib import Path
+from typing import Any
 
 from uptane_tools import arguments
 from uptane_tools.measure import fleet
@@ -32,12 +35,12 @@ CASES = {"cases", "files", "signatures", "encodings", "envelopes", "builds", "co
 HMAC, METHOD = schemes.HmacSha256.method, reference.METHOD
 
 
-def vectors(name, method=None):
+def vectors(name: str, method: str | None = None) -> dict[str, Any]:
     """The vectors of a name, of this scheme or of both."""
     return json.loads((FOLDER / (method or "") / (name + ".json")).read_text(encoding="ascii"))
 
 
-def made():
+def made() -> trials.Cases:
     yield "the vectors are those of the rules", make_vectors.main(["--check"]) == 0
     shown = re.findall(r"(?s)```json\n(.*?)\n```", (trials.TOP / "docs" / "integrate" /
                                                     "PRIMARY.md").read_text(encoding="ascii"))
@@ -60,7 +63,7 @@ def made():
 # ---- the small Primary
 
 
-def by_primary():
+def by_primary() -> trials.Cases:
     for case in vectors("canonical_texts")["cases"]:
         if "canonical" in case:
             yield "canonical text: %(name)s" % case, envelopes.canonical(json.loads(
@@ -76,7 +79,7 @@ def by_primary():
         yield from (("%s: %s" % (method, name), well) for name, well in under(method))
 
 
-def under(method):
+def under(method: str) -> trials.Cases:
     """The vectors of a scheme."""
     envelopes.use({"method": method})
     scheme, told = envelopes.SCHEMES[method], vectors("signatures", method)
@@ -111,7 +114,7 @@ def under(method):
             SMALL, lacks, {"base": "rotation"})[0] == "refused"
 
 
-def begins_again(told):
+def begins_again(told: dict[str, Any]) -> bool:
     """Whether the small Primary verifies the Image repository where its Targets were of another
     moment once, and not where they always are.
     """
@@ -122,7 +125,7 @@ def begins_again(told):
     for times in (1, 2):
         mixed = times * [envelopes.File(other["image/targets.json"])]
 
-        def fetch(name):
+        def fetch(name: str) -> Any:
             return mixed.pop() if mixed and name == "image/targets.json" else files.get(name)
 
         trust = {"root": files["image/1.root.json"], "versions": {}}
@@ -132,18 +135,20 @@ def begins_again(told):
     return found == [files["image/targets.json"]]
 
 
-def by_node():
+def by_node() -> trials.Cases:
     """Whether the small Primary in JavaScript answers all of them."""
     if shutil.which("node"):
         words = [
-            "node", trials.TOP / "examples" / "primary_node" / "primary.mjs", "vectors", FOLDER]
-        ran = subprocess.run(words, capture_output=True, check=False, timeout=http_cases.PATIENCE)
+            "node",
+            str(trials.TOP / "examples" / "primary_node" / "primary.mjs"), "vectors",
+            str(FOLDER)]
+        ran = subprocess.run(words, capture_output=True, check=False, timeout=600)
         counts = re.fullmatch(rb"([0-9]+) passed, 0 failed\n", ran.stdout)
         yield "the small Primary in JavaScript", ran.returncode == 0 and not ran.stderr and bool(
             counts) and int(counts[1]) > 100
 
 
-def verified(small, method):
+def verified(small: types.SimpleNamespace, method: str) -> trials.Cases:
     """Whether this small Primary gives each chain and each image its verdict, and trusts then
     what it has to.
     """
@@ -154,7 +159,7 @@ def verified(small, method):
         yield "image: %(name)s" % case, image_is_answered(small, case)
 
 
-def image_is_answered(small, case):
+def image_is_answered(small: types.SimpleNamespace, case: dict[str, Any]) -> bool:
     try:
         small.verify.check_image(case["target"], case["content"].encode())
     except small.verify.Refused:
@@ -162,19 +167,20 @@ def image_is_answered(small, case):
     return case["verdict"] == "accepted"
 
 
-def answer_is_answered(small, case):
+def answer_is_answered(small: types.SimpleNamespace, case: dict[str, Any]) -> bool:
     return small.primary.follows(case["status"], case["body"]) == (case["then"], case["value"])
 
 
-def get_is_answered(small, case):
+def get_is_answered(small: types.SimpleNamespace, case: dict[str, Any]) -> bool:
     return small.primary.of_get(case["status"], case["body"]) == case["then"]
 
 
-def build_is_answered(small, case):
+def build_is_answered(small: types.SimpleNamespace, case: dict[str, Any]) -> bool:
     return small.envelopes.manifest(case["build"]) == case["body"]
 
 
-def chain_is_answered(small, told, case):
+def chain_is_answered(small: types.SimpleNamespace, told: dict[str, Any], case: dict[str,
+                                                                                     Any]) -> bool:
     verdict, due, known = verdict_of(small, told, case)
     wanted = (case["verdict"],
               case.get("installs", told["installs"]) if case["verdict"] == "accepted" else None)
@@ -185,7 +191,8 @@ def chain_is_answered(small, told, case):
     return (verdict, due) == wanted and states == case["state"]
 
 
-def vehicle_of(small, told, case, files):
+def vehicle_of(small: types.SimpleNamespace, told: dict[str, Any], case: dict[str, Any],
+               files: Callable[..., Any]) -> dict[str, Any]:
     """What the vehicle of a case knows."""
     renamed, ecus = case.get("replaced", {}), copy.deepcopy(told["vehicle"]["ecus"])
     for ecu in ecus:
@@ -200,11 +207,12 @@ def vehicle_of(small, told, case, files):
     return {"vehicle": told["vehicle"]["vehicle"], "ecus": ecus, "replaced": [*renamed]} | trust
 
 
-def verdict_of(small, told, case):
+def verdict_of(small: types.SimpleNamespace, told: dict[str, Any],
+               case: dict[str, Any]) -> tuple[str, dict[str, str] | None, dict[str, Any]]:
     """What a small Primary says of a chain, what it would install, and what it trusts then."""
     texts = told["files of " + case["base"]] | case.get("replace", {})
 
-    def files(name):
+    def files(name: str) -> Any:
         return small.envelopes.File(texts[name]) if texts.get(name) is not None else None
 
     known = vehicle_of(small, told, case, files)
@@ -222,11 +230,11 @@ def verdict_of(small, told, case):
 # ---- the program
 
 
-def delivered(body, at=None):
+def delivered(body: Any, at: int | None = None) -> str:
     return fleet.line("deliver", at or vectors("manifests", METHOD)["at"], body=body)
 
 
-def of_text(secret, counter, case):
+def of_text(secret: Any, counter: Any, case: dict[str, Any]) -> str:
     """A manifest of VIN-2 that has the text as a member more. One level of a text that is as
     deep as may be is left to what is signed, which has it round the member; of one that is as deep
     as JSON may be, two, since the body is another.
@@ -242,7 +250,7 @@ def of_text(secret, counter, case):
     return '{"signatures":%s,"signed":%s}' % (reference.canonical(signature), with_member[0])
 
 
-def texts(program):
+def texts(program: str | Path) -> trials.Cases:
     told, setup = vectors("canonical_texts")["cases"], vectors("manifests", METHOD)["setup"]
     secret, version, lines, wanted = bytes.fromhex(vector_fleet.key(0xA4)), 0, [], []
     for counter, case in enumerate(told, 1):
@@ -257,10 +265,10 @@ def texts(program):
         yield "the program: canonical text: %(name)s" % case, line == it
 
 
-def identifiers(program):
+def identifiers(program: str | Path) -> trials.Cases:
     keys = [case for case in vectors("key_identifiers")["cases"] if len(case["public"]) == 64]
 
-    def role(*given):
+    def role(*given: Any) -> dict[str, Any]:
         return {"keys": list(given), "threshold": 1}
 
     roles = {it: role(vector_fleet.key(0x70 + at)) for at, it in enumerate(reference.ROLES)}
@@ -274,7 +282,7 @@ def identifiers(program):
         root) and root["signed"]["roles"]["root"]["keyids"] == [case["keyid"] for case in keys]
 
 
-def signatures(program):
+def signatures(program: str | Path) -> trials.Cases:
     told = vectors("signatures", METHOD)
     printed = trials.printed(program, ":memory:", [
         *told["setup"], *(delivered(case["envelope"]) for case in told["envelopes"])]) or []
@@ -286,11 +294,11 @@ def signatures(program):
                                                                  if "refused" in case else wanted)
 
 
-def body_of(case):
+def body_of(case: dict[str, Any]) -> Any:
     return case["body"] if "body" in case else case["spaces"] * " "
 
 
-def manifests(program, own):
+def manifests(program: str | Path, own: Path) -> trials.Cases:
     told = vectors("manifests", METHOD)
     printed = trials.printed(program, ":memory:", [
         *told["setup"], *(delivered(body_of(case)) for case in told["cases"])]) or []
@@ -305,7 +313,7 @@ def manifests(program, own):
         yield "the program ends well", http_cases.ended(running)
 
 
-def builds(program):
+def builds(program: str | Path) -> trials.Cases:
     """Each manifest that is to be built is taken."""
     told = vectors("manifests", METHOD)
     for case in told["builds"]:
@@ -314,7 +322,7 @@ def builds(program):
         yield "the program: build: %(name)s" % case, (printed or [None])[-1] == wanted
 
 
-def posted(running, body):
+def posted(running: http_cases.Served, body: Any) -> tuple[int, Any | None] | None:
     """The status of a manifest that is posted, and the body of the answer where it is refused."""
     with contextlib.suppress(OSError, http.client.HTTPException), closing(
             http.client.HTTPConnection("127.0.0.1", running.port, timeout=90)) as client:
@@ -325,14 +333,14 @@ def posted(running, body):
     return None
 
 
-def answered(case):
+def answered(case: dict[str, Any]) -> tuple[Any, dict[str, Any] | None]:
     """The same as the vector says."""
     words = case["printed"].split(" ", 2)
     return case["status"], {"error": int(words[1]), "text": words[2]
                             } if words[0] == "refused" else None
 
 
-def replies(program, own):
+def replies(program: str | Path, own: Path) -> trials.Cases:
     told = vectors("replies", METHOD)
     path = own / "replies"
     trials.printed(program, path, told["setup"])
@@ -347,7 +355,7 @@ def replies(program, own):
             case["reply"], )
 
 
-def bases(program, own):
+def bases(program: str | Path, own: Path) -> trials.Cases:
     """The files and the reply of each base are those that the program makes."""
     told = vectors("chains", METHOD)
     for base in ("update", "rotation"):
@@ -364,7 +372,7 @@ def bases(program, own):
         yield "the program: the files and the reply of the base %s" % base, well
 
 
-def by_program(program):
+def by_program(program: str | Path) -> Iterator[tuple[str, Any]]:
     with trials.folder() as own:
         yield from texts(program)
         # (under Ed25519 no key is given whose public part is chosen)
@@ -376,7 +384,7 @@ def by_program(program):
         yield from bases(program, own)
 
 
-def cases(program=None):
+def cases(program: None = None) -> trials.Cases:
     yield from made()
     yield from by_primary()
     yield from by_node()

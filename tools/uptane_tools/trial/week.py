@@ -37,6 +37,7 @@ from concurrent.futures import ProcessPoolExecutor, ThreadPoolExecutor
 from contextlib import closing
 from http.client import HTTPConnection, HTTPException
 from pathlib import Path
+from typing import Any
 
 from uptane_tools import arguments
 from uptane_tools.measure import fleet
@@ -58,7 +59,7 @@ BROKEN = 500
 # ---- vehicles
 
 
-def image(kind, release):
+def image(kind: str, release: int) -> dict[str, Any]:
     name = "%s/%d.bin" % (kind.lower(), release)
     return {
         "file": name, "length": 1000 + release, "sha256": fleet.digest(name), "hardware": [kind],
@@ -75,7 +76,7 @@ class Vehicle:
     assigns that it takes.
     """
 
-    def __init__(self, number, rng):
+    def __init__(self, number: int, rng: random.Random) -> None:
         self.name, self.key = "VIN%07d" % number, "%064x" % (number + 1)
         self.ecus = [[self.name + "-" + kind[:2], kind] for kind in KINDS]
         self.installed = {kind: image(kind, 1)["file"] for kind in KINDS}
@@ -85,14 +86,14 @@ class Vehicle:
         self.is_silent, self.is_stubborn, self.is_twice = (
             rng.random() < share for share in (SILENT, STUBBORN, TWICE))
         self.attack = "a counter went back" if number % 2500 == 7 else ""
-        self.pending = None
+        self.pending = ""
 
-    def line(self):
+    def line(self) -> str:
         ecus = [{"ecu": ecu, "hardware": kind, "key": self.key} for ecu, kind in self.ecus]
         return fleet.line("add_vehicle", START, vehicle=self.name, primary=self.ecus[0][0],
                           ecus=ecus)
 
-    def manifest(self, now):
+    def manifest(self, now: int) -> Any:
         """A new body, or the one that wasn't answered yet."""
         if not self.pending:
             self.counter += 1
@@ -105,11 +106,11 @@ class Vehicle:
                 "counter": self.counter, "reports": reports})
         return self.pending
 
-    def takes(self, reply):
+    def takes(self, reply: dict[str, Any]) -> bool:
         """Whether the vehicle takes a reply: one of a lower version than it has verified it
         refuses.
         """
-        self.pending = None
+        self.pending = ""
         if reply["version"] < self.verified:
             self.refused += 1
             return False
@@ -126,7 +127,8 @@ class Vehicle:
 class Week(upkeep_cases.Service):
     """Eight desks, nginx, a clock, and what was answered."""
 
-    def __init__(self, program, own, to, vehicles, seed=1):
+    def __init__(self, program: str | Path, own: Path, to: Path, vehicles: int,
+                 seed: int = 1) -> None:
         super().__init__(program, own, DESKS)
         self.rng, self.to, self.program = random.Random(seed), to, program
         self.library, self.clock = own / "clock.so", own / "clock"
@@ -137,23 +139,24 @@ class Week(upkeep_cases.Service):
         self.set_clock(START)
         self.env |= {"LD_PRELOAD": str(self.library), "CLOCK_FILE": str(self.clock)}
         self.vehicles = [Vehicle(number, self.rng) for number in range(vehicles)]
-        self.home, self.log, self.lock = {}, {name: [] for name in self.names}, threading.Lock()
-        self.counts, self.notes, self.again, self.forgotten, self.foretold = Counter(), [], [], set(
-        ), 0
+        self.home, self.log, self.lock = dict[Any, Any](), {
+            name: list[Any]() for name in self.names}, threading.Lock()
+        self.counts, self.notes, self.again, self.forgotten, self.foretold = Counter[Any](
+        ), list[Any](), list[Any](), set[Any](), 0
 
-    def set_clock(self, now):
+    def set_clock(self, now: int) -> None:
         self.now = now
         mode = "r+b" if self.clock.exists() else "wb"
         with open(self.clock, mode) as file:
             file.write(struct.pack("<q", now))
 
-    def note(self, words):
+    def note(self, words: Any) -> None:
         self.notes.append("%s %s" % (time.strftime("%Y-%m-%d %H:%M", time.gmtime(self.now)), words))
         print("%.0f s: %s" % (time.monotonic() - BEGUN, self.notes[-1]), flush=True)
 
     # -- scripts
 
-    def found(self):
+    def found(self) -> Any | bool:
         lines = [
             fleet.line("found", START, **fleet.key_set(1)),
             *(fleet.line("add_image", START, **image(kind, 1)) for kind in KINDS)]
@@ -180,7 +183,7 @@ class Week(upkeep_cases.Service):
         self.home = {vehicle: desk.removeprefix("desk") for vehicle, desk in self.home.items()}
         return joined.returncode == 0 and len(self.home) == len(self.vehicles)
 
-    def apply(self):
+    def apply(self) -> bool:
         """Gives what was dropped, with a refresh; what each desk was given is kept for the
         comparison.
         """
@@ -202,7 +205,7 @@ class Week(upkeep_cases.Service):
             self.note("apply.sh: %s" % ran.stderr.strip())
         return ran.returncode == 0
 
-    def spying(self):
+    def spying(self) -> None:
         """The program as `apply.sh` runs it, and what it was given and answered beside it."""
         words = self.own / "bin" / "uptane_desk"
         words.write_text(
@@ -214,19 +217,19 @@ class Week(upkeep_cases.Service):
 
     # -- requests
 
-    def nginx(self):
+    def nginx(self) -> Any:
         """The configuration for several desks, with as many as there are."""
         self.folder = self.own / "division"
         self.proxy = Eight(self.own, "nginx", http_cases.free_port(), self,
                            [self.ports[name] for name in self.names], False)
         return self.proxy.running()
 
-    def post(self, client, vehicle, body):
+    def post(self, client: Any, vehicle: Any, body: bytes) -> tuple[Any, Any]:
         client.request("POST", "/%s/director/manifest" % vehicle, body)
         came = client.getresponse()
         return came.status, came.read().decode("ascii")
 
-    def deliver(self, vehicle, times=1):
+    def deliver(self, vehicle: Any, times: int = 1) -> None:
         """One vehicle's round: it keeps its manifest where no answer comes, and sends it again
         later.
         """
@@ -249,14 +252,14 @@ class Week(upkeep_cases.Service):
         if status == 200 and not vehicle.takes(json.loads(text)):
             with self.lock:
                 self.again.append(vehicle)
-        vehicle.pending = None
+        vehicle.pending = ""
 
-    def round(self, vehicles):
+    def round(self, vehicles: Any) -> None:
         """Posts a manifest of each, by several clients at once."""
         with ThreadPoolExecutor(THREADS) as pool:
             list(pool.map(lambda it: self.deliver(it, 2 if it.is_twice else 1), vehicles))
 
-    def hour(self, number, meanwhile):
+    def hour(self, number: int, meanwhile: Any) -> None:
         """The vehicles of an hour, and those that weren't answered or refused a reply, in
         quarters of it; and what else happens.
         """
@@ -271,7 +274,7 @@ class Week(upkeep_cases.Service):
 
     # -- what goes wrong
 
-    def kill(self, name):
+    def kill(self, name: str) -> bool:
         """Kills a desk among its requests; systemd would start it anew."""
         path = self.own / "run" / (self.unit(name) + ".pid")
         time.sleep(0.5)
@@ -285,7 +288,7 @@ class Week(upkeep_cases.Service):
         self.note("desk %s is started again" % name)
         return self.version(name) > 0
 
-    def restore(self, name):
+    def restore(self, name: str) -> Any:
         """A desk loses its file, and is restored from the newest copy, as the page says; the
         drill tells before what is forgotten.
         """
@@ -311,7 +314,7 @@ class Week(upkeep_cases.Service):
         self.log[name].append(("restore", self.forgotten))
         return drilled.returncode == 0
 
-    def backup(self):
+    def backup(self) -> None:
         ran = upkeep_cases.ran("sh", upkeep_cases.SERVICE / "backup.sh", env=self.env, timeout=3600)
         self.counts["backups"] += ran.returncode == 0
         self.counts["stood still, ms"] += int(
@@ -323,7 +326,7 @@ class Week(upkeep_cases.Service):
 class Eight(scale_cases.Before):
     """nginx before as many desks as there are: the file of the examples has four."""
 
-    def changed(self, text):
+    def changed(self, text: str) -> Any:
         block = re.search(r"    upstream desk1 \{.*?\n    \}\n", text, re.S)[0]
         text = re.sub(
             r"(    upstream desk\d \{.*?\n    \}\n)+", lambda _: "".join(
@@ -335,14 +338,14 @@ class Eight(scale_cases.Before):
 # ---- the week
 
 
-def operators(week, hour):
+def operators(week: Any, hour: Any) -> None:
     """The scripts that operators drop before an hour, by their names."""
     at = START + DAY + HOUR * hour
 
-    def line(do, **members):
+    def line(do: str, **members: Any) -> str:
         return fleet.line(do, at, **members)
 
-    def offer(name, kinds, release, vehicles='all'):
+    def offer(name: str, kinds: Any, release: int, vehicles: Any = 'all') -> Any:
         return (line(
             "open_campaign", campaign=name, vehicles=vehicles,
             items=[{"hardware": kind, "file": image(kind, release)["file"]} for kind in kinds]))
@@ -365,12 +368,12 @@ def operators(week, hour):
             line("replace_ecu", vehicle=broken.name, old=old, ecu=broken.name + "-new",
                  hardware="DISPLAY", key=broken.key))
         broken.installed["DISPLAY"] = image("DISPLAY", 1)["file"]
-        broken.pending = None
+        broken.pending = ""
     if hour == 134:
         week.drop("over.script", line("close_campaign", campaign="spring"))
 
 
-def lived(week, days):
+def lived(week: Any, days: Any) -> trials.Cases:
     """The hours, one after another."""
     for hour in range(24 * days):
         operators(week, hour)
@@ -395,21 +398,21 @@ def lived(week, days):
                  sum(it.refused for it in week.vehicles), sizes(week)))
 
 
-def sizes(week):
+def sizes(week: Any) -> str:
     return "%d MB" % (sum(week.file(name).stat().st_size for name in week.names) >> 20)
 
 
 # ---- the comparison
 
 
-def moment_of(text):
+def moment_of(text: str) -> int:
     """The moment at which a reply was made: seven days before it expires."""
     return calendar.timegm(
         time.strptime(json.loads(text)["timestamp"]["signed"]["expires"],
                       "%Y-%m-%dT%H:%M:%SZ")) - 7 * DAY
 
 
-def replayed(events):
+def replayed(events: Any) -> tuple[Any, Any]:
     """How many answers of a desk were compared with those of the rules, and which differ. What a
     restore forgets is left out from the beginning, but for its answers, which are compared
     before the restore.
@@ -423,7 +426,7 @@ def replayed(events):
     return first[0] + second[0], first[1] + second[1]
 
 
-def compared(events, left_out, begin=0):
+def compared(events: Any, left_out: Any, begin: int = 0) -> tuple[int, list[tuple[str, Any, Any]]]:
     """Carries the events out by the rules; those from `begin` on are compared."""
     number, wrong = 0, []
     with closing(sqlite3.connect(":memory:", isolation_level=None)) as db:
@@ -452,13 +455,13 @@ def compared(events, left_out, begin=0):
     return number, wrong
 
 
-def kept_in(path):
+def kept_in(path: str | Path) -> dict[tuple[Any, Any], Any]:
     with trials.read(path) as db:
         return {(row[0], row[1]): row[2]
                 for row in db.execute("SELECT vehicle, counter, reply FROM kept")}
 
 
-def judged(week):
+def judged(week: Any) -> trials.Cases:
     """What has to hold at the end."""
     with ProcessPoolExecutor(max(2, os.cpu_count() // 2)) as pool:
         found = list(pool.map(replayed, [week.log[name] for name in week.names]))
@@ -507,10 +510,11 @@ def judged(week):
                                    encoding="utf-8")
 
 
-def cases(program, vehicles, days, to, within):
+def cases(program: str | Path, vehicles: int, days: Any, to: Path,
+          within: Path | str | None) -> trials.Cases:
     with trials.folder(within) as own, contextlib.ExitStack() as up:
         own.chmod(0o755)
-        week = Week(program, own, to, vehicles)
+        week: Any = Week(program, own, to, vehicles)
         up.callback(week.systemctl, "stop")
         week.hours = 24 * days
         week.spying()

@@ -9,8 +9,10 @@ import functools
 import re
 import sys
 import types
+from collections.abc import Callable, Iterator
 from dataclasses import dataclass
 from pathlib import Path
+from typing import Any
 
 from uptane_tools import arguments
 from uptane_tools.trial import small_rounds, trials, vector_cases
@@ -54,7 +56,7 @@ WRONG = listed()
 # ---- how they are tried
 
 
-def changed(wrong):
+def changed(wrong: Wrong) -> str:
     """The text of the file after the change; of a check that is left out, all of its call."""
     source = (FOLDER / (wrong.file + ".py")).read_text(encoding="ascii")
     if source.count(wrong.old) != 1:
@@ -68,11 +70,11 @@ def changed(wrong):
 
 
 @functools.cache
-def compiled(text, path):
+def compiled(text: str, path: str) -> Any:
     return compile(text, path, "exec")
 
 
-def loaded(file, source):
+def loaded(file: str | None, source: str | None) -> types.SimpleNamespace:
     """The modules of the small Primary, of which one has another source."""
     kept, made = {name: sys.modules.pop(name, None) for name in NAMES}, {}
     try:
@@ -90,7 +92,7 @@ def loaded(file, source):
     return types.SimpleNamespace(**made)
 
 
-def vectors():
+def vectors() -> Iterator[tuple[tuple[str, str], Callable[..., Any]]]:
     """The vectors of a Primary by scheme and name, and how each is tried by its modules."""
     chain, image = vector_cases.chain_is_answered, vector_cases.image_is_answered
     for method in (HMAC, ED25519):
@@ -114,7 +116,7 @@ def vectors():
         yield (HMAC, "GET: " + case["name"]), functools.partial(get, case=case)
 
 
-def answer(small, method, is_answered):
+def answer(small: types.SimpleNamespace, method: str, is_answered: Callable[..., Any]) -> Any:
     """Whether a vector is answered so, or what broke: that is no verdict."""
     small.envelopes.use({"method": method})
     try:
@@ -123,12 +125,12 @@ def answer(small, method, is_answered):
         return repr(broke)
 
 
-def lines_of_checks():
+def lines_of_checks() -> list[str]:
     source = (FOLDER / "verify.py").read_text(encoding="ascii")
     return re.findall(r"(?m)^ +((?:expect|check_signed)\(.*)$", source)
 
 
-def cases():
+def cases() -> trials.Cases:
     found, right = dict(vectors()), loaded(None, None)
     yield "at least sixty wrong Primaries", len({it.what for it in WRONG}) == len(WRONG) >= 60
     without = [it.old for it in WRONG if it.new is None]

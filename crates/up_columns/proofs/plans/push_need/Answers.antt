@@ -1,15 +1,15 @@
 use Rattle.std.specs.Prelude.{codes}
 use Rattle.up_canon.proofs.Joined.{pushed}
 use Rattle.up_canon.proofs.Printable.{both}
-use Rattle.up_canon.specs.Canon.{quoted}
+use Rattle.up_canon.specs.Canon.{json_string}
 use Rattle.up_columns.proofs.plans.push_need.Goals as goal
 
 pub returns-clause-value : goal.returns-clause-value
 returns-clause-value c =
     pushed _ _ _ (codes "{\"ecu\":") _ c.in_ok-push_str.ensures.bytes (
-    pushed _ _ _ (quoted c.args.name.now) _ c.in_ok-push_ident.ensures (
+    pushed _ _ _ (json_string c.args.name.now) _ c.in_ok-push_ident.ensures (
     pushed _ _ _ (codes ",\"hardware\":") _ c.in_ok-push_str-2.ensures.bytes (
-    pushed _ _ _ (quoted c.args.hardware.now) (codes "}") c.in_ok-push_ident-2.ensures c.in_ok-push_str-3.ensures.bytes
+    pushed _ _ _ (json_string c.args.hardware.now) (codes "}") c.in_ok-push_ident-2.ensures c.in_ok-push_str-3.ensures.bytes
     )
     )
     )

@@ -1,5 +1,6 @@
 use Rattle.up_curve.proofs.Curve.{add_point, add_associative, add_comm, add_neutral, neutral_point, order_of_base}
 use Rattle.up_curve.proofs.Negated.{negated_point, add_negated}
+use Rattle.up_curve.proofs.Order.{order_number}
 use Rattle.up_curve.proofs.laws.curve_laws.Goals as goal
 
 pub returns-clause-group : goal.returns-clause-group
@@ -15,3 +16,6 @@ returns-clause-group c = record {
 
 pub returns-clause-order : goal.returns-clause-order
 returns-clause-order c = order_of_base
+
+pub returns-clause-prime : goal.returns-clause-prime
+returns-clause-prime c = order_number

@@ -1,36 +1,53 @@
-use Rattle.std.proofs.Common.{ℕ, Ok, refl, subst}
-use Rattle.up_machine.specs.Decisions.{GivesDelivered, decide_incoming}
-use Rattle.up_records.specs.Standing.{state}
-use Rattle.up_records.specs.Steps.{IsDueOrFails}
-use Rattle.up_desk.proofs.Decided.{when_repeated}
-use Rattle.up_desk.proofs.Steps.{after_reads, refused, unchanged}
+use Rattle.std.proofs.Common.{◌≡◌, Ok, refl, sym, subst}
+use Rattle.up_machine.specs.declared.answer.Answer.TheVariants.{Reply as Replied}
+use Rattle.up_machine.specs.Decisions.{decide_incoming}
+use Rattle.up_machine.specs.Deliveries.{with_entry}
+use Rattle.up_rows.specs.Changes.{with_accepted_rows}
+use Rattle.up_store.specs.Fitting.{IsRecorded}
+use Rattle.up_store.specs.Puts.{MayAccept}
+use Rattle.up_store.specs.Writes.{FitsAccepted, accept_writes}
+use Rattle.up_store.proofs.Ended.{of_made}
+use Rattle.up_records.proofs.Cataloged.{entry_fits}
+use Rattle.up_records.proofs.Fitting.{accepting_fits}
+use Rattle.up_desk.proofs.Carrying.{lost_with, put_with, refused_with, unchanged_with}
+use Rattle.up_desk.proofs.Commits.{one_more}
+use Rattle.up_desk.proofs.Decided.{when_accepted, when_repeated}
 use Rattle.up_desk.proofs.deliveries.receive.Goals as goal
 
 pub returns-in-Ok-Repeat : goal.returns-in-Ok-Repeat
-returns-in-Ok-Repeat g c = let k = g.K.Scheme.rules c.args.scheme.now in record {
-  serves = λ s sound was. unchanged refl (λ next h same. h same) was c.decide.ensures.reads (λ clean.
-      when_repeated k s c.args.incoming.now.manifest.vehicle c.in-Ok-Repeat.field-0 c.in-Ok-Repeat.reply _ c.in-Ok-Repeat.field-0-is
-      (subst (λ (at : ℕ). GivesDelivered k s c.args.incoming.now.manifest.vehicle (Ok c.in-Ok-Repeat.field-0) (decide_incoming k s at c.args.incoming.now)) c.moment.ensures.value (c.in-Ok-Repeat.ensures.decided clean s sound tt was)));
-  can = λ can. c.decide.ensures.reads.can can;
-}
-
-pub returns-in-Ok-Accepted : goal.returns-in-Ok-Accepted
-returns-in-Ok-Accepted g c =
+returns-in-Ok-Repeat g c inside =
     let k = g.K.Scheme.rules c.args.scheme.now in
-    let accept = c.accept.ensures k in
-    record {
-      serves = λ s sound was.
-          let name = c.args.incoming.now.manifest.vehicle in
-          let computed = decide_incoming k s c.args.at c.args.incoming.now in
-          after_reads was c.decide.ensures.reads (accept.serves s name computed sound (c.decide.ensures.reads.keeps s was) (λ clean.
-          subst (λ d. GivesDelivered k s name (Ok d) computed) c.in-Ok-Accepted.field-0-is
-          (subst (λ (at : ℕ). GivesDelivered k s name (Ok c.in-Ok-Accepted.field-0) (decide_incoming k s at c.args.incoming.now)) c.moment.ensures.value (c.in-Ok-Accepted.ensures.decided clean s sound tt was))));
-      can = λ can. accept.can (c.decide.ensures.reads.can can);
-    }
+    let name = c.args.incoming.now.manifest.vehicle in
+    unchanged_with g.D.Store k (λ s fits. fits) (record { fits = c.decide.ensures.kept.fits inside; can = c.decide.ensures.kept.can }) (Replied c.in-Ok-Repeat.reply) (c.in-Ok-Repeat.ensures.decided inside) refl (λ s commit. commit refl)
+    (λ s gives. when_repeated k s name c.in-Ok-Repeat.field-0 c.in-Ok-Repeat.reply _ c.in-Ok-Repeat.field-0-is gives)
 
 pub returns-in-Err : goal.returns-in-Err
-returns-in-Err g c = let k = g.K.Scheme.rules c.args.scheme.now in record {
-  serves = λ s sound was. refused was c.decide.ensures.reads (λ clean.
-      subst (λ (at : ℕ). IsDueOrFails (state g.D.Store c.args.records.now) (state g.D.Store c.decide.new.self) c.in-Err.refusal (decide_incoming k s at c.args.incoming.now)) c.moment.ensures.value (c.in-Err.ensures.decided clean s sound tt was));
-  can = λ can. c.decide.ensures.reads.can can;
-}
+returns-in-Err g c inside =
+    let k = g.K.Scheme.rules c.args.scheme.now in
+    refused_with g.D.Store k (λ s fits. fits) (record { fits = c.decide.ensures.kept.fits inside; can = c.decide.ensures.kept.can }) (c.in-Err.ensures.decided inside)
+
+pub returns-in-Err-targets_in : goal.returns-in-Err-targets_in
+returns-in-Err-targets_in g c inside =
+    let k = g.K.Scheme.rules c.args.scheme.now in
+    lost_with g.D.Store k (λ s fits. fits) (record { fits = c.decide.ensures.kept.fits inside; can = c.decide.ensures.kept.can }) (c.in-Ok-Accepted.ensures.decided inside)
+
+pub returns-in-Ok : goal.returns-in-Ok
+returns-in-Ok g c inside =
+    let k = g.K.Scheme.rules c.args.scheme.now in
+    let rows = c.in-Ok-Accepted.rows in
+    let name = c.args.incoming.now.manifest.vehicle in
+    put_with g.D.Store k _ _ _ c.args.catalog.now _ (accept_writes rows) (λ all. IsRecorded rows all × FitsAccepted rows) (IsRecorded rows) (λ all. with_accepted_rows all rows) (MayAccept rows) (Replied c.reply_in.result) (c.in-Ok-Accepted.ensures.decided inside) refl
+    (λ all lists held. record { rows = all; lists = lists; recorded = held.0; fits = held.1 }) (λ s fits. fits) (record { fits = c.decide.ensures.kept.fits inside; can = c.decide.ensures.kept.can })
+    (λ s sound gives.
+    let computed = decide_incoming k s c.args.at c.args.incoming.now in
+    let it = when_accepted k s name c.in-Ok-Accepted.field-0 rows computed c.in-Ok-Accepted.field-0-is gives in
+    record {
+      next = with_entry s name it.vehicle it.entry;
+      computed_is = subst (λ r. computed ≡ Ok (record { answer = Replied r; next = with_entry s name it.vehicle it.entry })) (sym c.reply_in.ensures) it.decided;
+      commit = one_more s it.vehicle name it.entry it.found;
+      write = accepting_fits k s name it.vehicle it.entry rows sound c.rows_are_found.ensures.vehicles c.manifests_are_added.ensures c.ecus_tell_their_hash.ensures it.found it.has;
+    })
+    (λ s sound gives same.
+    let it = when_accepted k s name c.in-Ok-Accepted.field-0 rows (decide_incoming k s c.args.at c.args.incoming.now) c.in-Ok-Accepted.field-0-is gives in
+    entry_fits s name it.vehicle it.entry _ it.found same)
+    c.put_accepted-put.result c.put_of.ensures inside (λ within. of_made g.D.Store (c.put_accepted-put.ensures within))

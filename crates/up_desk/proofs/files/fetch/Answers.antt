@@ -1,15 +1,10 @@
 use Rattle.std.proofs.Common.{refl}
-use Rattle.up_desk.proofs.Steps.{refused, unchanged}
+use Rattle.up_machine.specs.declared.answer.Answer.TheVariants.{File}
+use Rattle.up_desk.proofs.Carrying.{refused_on, unchanged_on}
 use Rattle.up_desk.proofs.files.fetch.Goals as goal
 
-pub returns-in-Ok : goal.returns-in-Ok
-returns-in-Ok g c k = let read = c.read_file.ensures k in record {
-  serves = λ s sound was. unchanged refl (λ next commit same. commit) was read.reads (λ clean. (c.in-Ok.ensures k).decided clean s sound tt was);
-  can = λ can. read.reads.can can;
-}
+pub returns-in-Ok-clause-carries : goal.returns-in-Ok-clause-carries
+returns-in-Ok-clause-carries g c k kept inside = unchanged_on g.D.Store k kept (File c.in-Ok.text) (c.in-Ok.ensures.decided k inside) refl (λ s commit. commit) (λ s gives. gives)
 
-pub returns-in-Err : goal.returns-in-Err
-returns-in-Err g c k = let read = c.read_file.ensures k in record {
-  serves = λ s sound was. refused was read.reads (λ clean. (c.in-Err.ensures k).decided clean s sound tt was);
-  can = λ can. read.reads.can can;
-}
+pub returns-in-Err-clause-carries : goal.returns-in-Err-clause-carries
+returns-in-Err-clause-carries g c k kept inside = refused_on g.D.Store k kept (c.in-Err.ensures.decided k inside)

@@ -1,29 +1,39 @@
-use Rattle.std.proofs.Common.{◌≡◌, ◌≤◌, ℕ, List, false, Err, ap, refl, sym, ◌∙◌, subst}
-use Rattle.std.specs.List.{list_all}
-use Rattle.up_canon.specs.Moments.{last_command_moment}
-use Rattle.up_machine.specs.declared.vehicle.NewEcu.{NewEcu}
-use Rattle.up_machine.specs.Vehicles.{NewVehicleData, public_fits}
-use Rattle.up_records.specs.Standing.{state}
-use Rattle.up_desk.proofs.Serving.{by_key, unfit_vehicle}
-use Rattle.up_desk.proofs.Standings.{reads_none}
-use Rattle.up_desk.proofs.Steps.{refused}
+use Rattle.std.proofs.Common.{◌≡◌, refl}
+use Rattle.up_machine.specs.declared.answer.Answer.TheVariants.{Already, Done}
+use Rattle.up_machine.specs.declared.rows.VehicleRows.{VehicleRows}
+use Rattle.up_machine.specs.Inventory.{decide_vehicle, with_vehicle}
+use Rattle.up_machine.specs.Rows.{rows_of}
+use Rattle.up_machine.specs.State.{added}
+use Rattle.up_rows.specs.Changes.{with_vehicle_rows}
+use Rattle.up_store.specs.Fitting.{IsNewVehicle}
+use Rattle.up_store.specs.Writes.{FitsVehicle, vehicle_writes}
+use Rattle.up_store.proofs.Ended.{of_made}
+use Rattle.up_records.proofs.Fitting.{vehicle_fits}
+use Rattle.up_desk.proofs.Carrying.{put_on, refused_on, unchanged_on}
+use Rattle.up_desk.proofs.Decided.{when_already, when_new}
 use Rattle.up_desk.proofs.inventory.add_vehicle.Goals as goal
 
-pub returns-then-publics_fit-clause-key : goal.returns-then-publics_fit-clause-key
-returns-then-publics_fit-clause-key g c = λ none.
-    let all = λ (es : List NewEcu). list_all (λ (e : NewEcu). public_fits (g.K.Scheme.rules c.args.scheme.now) e.public) es in
-    let is : c.publics_fit.result ≡ false = c.publics_fit.ensures ∙ ap all (c.as_slice.ensures ∙ ap (λ (d : NewVehicleData). d.ecus) c.new.view_is) ∙ none in
-    absurd (let e = sym c.if-publics_fit.true ∙ is in cc)
+pub returns-in-Ok-Already : goal.returns-in-Ok-Already
+returns-in-Ok-Already g c inside =
+    let new = c.args.new.now in
+    unchanged_on g.D.Store (g.K.Scheme.rules c.args.scheme.now) c.args.catalog.now Already (c.in-Ok-Already.ensures inside) refl (λ s commit. commit)
+    (λ s gives. when_already (λ (r : VehicleRows). r ≡ rows_of new.vehicle (added new)) s (with_vehicle s new) c.in-Ok-Already.field-0 _ c.in-Ok-Already.field-0-is gives)
 
-pub returns-else-publics_fit-clause-carries : goal.returns-else-publics_fit-clause-carries
-returns-else-publics_fit-clause-carries g c =
+pub returns-in-Ok-New : goal.returns-in-Ok-New
+returns-in-Ok-New g c inside =
     let k = g.K.Scheme.rules c.args.scheme.now in
-    let all = λ (es : List NewEcu). list_all (λ (e : NewEcu). public_fits k e.public) es in
-    let none : all c.args.new.now.ecus ≡ false = sym (c.publics_fit.ensures ∙ ap all (c.as_slice.ensures ∙ ap (λ (d : NewVehicleData). d.ecus) c.new.view_is)) ∙ c.if-publics_fit.false in
+    let new = c.args.new.now in
+    let rows = c.in-Ok-New.rows in
+    put_on g.D.Store k c.args.catalog.now (vehicle_writes rows) (λ _. FitsVehicle rows) (IsNewVehicle rows) (λ all. with_vehicle_rows all rows) Done (c.in-Ok-New.ensures inside) refl c.forget.ensures
+    (λ s sound gives.
+    let it = when_new (λ (r : VehicleRows). r ≡ rows_of new.vehicle (added new)) s (with_vehicle s new) c.in-Ok-New.field-0 rows (decide_vehicle k s c.args.at new) c.in-Ok-New.field-0-is gives in
     record {
-      serves = λ s sound was. refused was (reads_none k (state g.D.Store c.args.records.now)) (λ clean. by_key (state g.D.Store c.args.records.now) (state g.D.Store c.args.records.now) c.from.result _ (unfit_vehicle k s c.args.at c.args.new.now (subst (λ (at : ℕ). at ≤ last_command_moment) c.moment.ensures.value c.moment.ensures.limit) none) c.from.ensures);
-      can = λ can. can;
-    }
+      next = with_vehicle s new;
+      computed_is = it.0;
+      commit = tt;
+      write = vehicle_fits k s c.args.at new rows c.rows_are_found.ensures.vehicles c.vehicles_are_added.ensures.vehicles c.vehicles_are_added.ensures.new c.ecus_tell_their_hash.ensures it;
+    })
+    c.put_vehicle.result c.put_of.ensures inside (λ within. of_made g.D.Store (c.put_vehicle.ensures within)) (λ all lists fits. fits)
 
-pub returns-else-publics_fit-clause-key : goal.returns-else-publics_fit-clause-key
-returns-else-publics_fit-clause-key g c = λ none. record { refused = ap (λ r. Err r) c.from.ensures; unread = refl }
+pub returns-in-Err : goal.returns-in-Err
+returns-in-Err g c inside = refused_on g.D.Store (g.K.Scheme.rules c.args.scheme.now) c.args.catalog.now (c.in-Err.ensures inside)

@@ -1,25 +1,27 @@
-use Rattle.std.proofs.Common.{◌≡◌, ◌≤◌, ℕ, false, Err, ap, refl, sym, ◌∙◌, subst}
-use Rattle.up_canon.specs.Moments.{last_command_moment}
-use Rattle.up_machine.specs.Vehicles.{public_fits}
-use Rattle.up_records.specs.Standing.{state}
-use Rattle.up_desk.proofs.Serving.{by_key, unfit_ecu}
-use Rattle.up_desk.proofs.Standings.{reads_none}
-use Rattle.up_desk.proofs.Steps.{refused}
+use Rattle.std.proofs.Common.{refl}
+use Rattle.std.specs.Prelude.{⊤}
+use Rattle.up_machine.specs.declared.answer.Answer.TheVariants.{Done}
+use Rattle.up_machine.specs.Inventory.{with_replacement}
+use Rattle.up_rows.specs.Changes.{with_replaced_rows}
+use Rattle.up_store.specs.Fitting.{IsReplacement}
+use Rattle.up_store.specs.Writes.{replace_writes}
+use Rattle.up_store.proofs.Ended.{of_put}
+use Rattle.up_records.proofs.Fitting.{replacement_fits}
+use Rattle.up_desk.proofs.Carrying.{put_on, refused_on}
 use Rattle.up_desk.proofs.replacements.replace_ecu.Goals as goal
 
-pub returns-then-public_fits-clause-key : goal.returns-then-public_fits-clause-key
-returns-then-public_fits-clause-key g c = λ none.
-    let is : c.public_fits.result ≡ false = c.public_fits.ensures ∙ ap (public_fits (g.K.Scheme.rules c.args.scheme.now)) c.as_slice.ensures ∙ none in
-    absurd (let e = sym c.if-public_fits.true ∙ is in cc)
-
-pub returns-else-public_fits-clause-carries : goal.returns-else-public_fits-clause-carries
-returns-else-public_fits-clause-carries g c =
+pub returns-in-Ok : goal.returns-in-Ok
+returns-in-Ok g c inside =
     let k = g.K.Scheme.rules c.args.scheme.now in
-    let none : public_fits k c.args.new.now.ecu.public ≡ false = sym (c.public_fits.ensures ∙ ap (public_fits k) c.as_slice.ensures) ∙ c.if-public_fits.false in
-    record {
-      serves = λ s sound was. refused was (reads_none k (state g.D.Store c.args.records.now)) (λ clean. by_key (state g.D.Store c.args.records.now) (state g.D.Store c.args.records.now) c.from.result _ (unfit_ecu k s c.args.at c.args.new.now (subst (λ (at : ℕ). at ≤ last_command_moment) c.moment.ensures.value c.moment.ensures.limit) none) c.from.ensures);
-      can = λ can. can;
-    }
+    let new = c.args.new.now in
+    put_on g.D.Store k c.args.catalog.now (replace_writes new) (λ _. ⊤) (IsReplacement new) (λ rows. with_replaced_rows rows new) Done (c.in-Ok.ensures inside) refl c.forget.ensures
+    (λ s sound gives. record {
+      next = with_replacement s new gives.0;
+      computed_is = gives.2;
+      commit = tt;
+      write = replacement_fits k s c.args.at new gives.0 sound c.rows_are_found.ensures.vehicles c.ecus_are_replaced.ensures.replaced c.ecus_are_replaced.ensures.fits gives.1 gives.2;
+    })
+    c.put_replaced.result c.put_of.ensures inside (λ within. of_put g.D.Store (c.put_replaced.ensures within)) (λ rows lists fits. tt)
 
-pub returns-else-public_fits-clause-key : goal.returns-else-public_fits-clause-key
-returns-else-public_fits-clause-key g c = λ none. record { refused = ap (λ r. Err r) c.from.ensures; unread = refl }
+pub returns-in-Err : goal.returns-in-Err
+returns-in-Err g c inside = refused_on g.D.Store (g.K.Scheme.rules c.args.scheme.now) c.args.catalog.now (c.in-Err.ensures inside)

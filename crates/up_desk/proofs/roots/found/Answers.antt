@@ -1,17 +1,27 @@
 use Rattle.std.proofs.Common.{refl}
-use Rattle.up_desk.proofs.Steps.{done_written, refused}
+use Rattle.up_machine.specs.declared.answer.Answer.TheVariants.{Done}
 use Rattle.up_machine.specs.Repositories.{stamped, with_root}
+use Rattle.up_rows.specs.Changes.{with_root_rows}
+use Rattle.up_store.specs.Fitting.{IsNextRoot}
+use Rattle.up_store.specs.Writes.{FitsFounding, root_writes}
+use Rattle.up_store.proofs.Ended.{of_made}
+use Rattle.up_records.proofs.Fitting.{founding_fits}
+use Rattle.up_desk.proofs.Carrying.{put_on, refused_on}
 use Rattle.up_desk.proofs.roots.found.Goals as goal
 
 pub returns-in-Ok : goal.returns-in-Ok
-returns-in-Ok g c = record {
-  serves = λ s sound was. done_written (c.write_found.ensures (g.K.Scheme.rules c.args.scheme.now)) c.done_of.ensures sound was c.decide_founding.ensures.reads (λ clean.
-      let it = c.in-Ok.ensures.decided clean s sound tt was in record { next = stamped (with_root s c.args.at c.args.keys.now) c.args.at 1; computed_is = it.0; commit = tt; is_next = (c.args.at, c.args.keys.now, refl, it) });
-  can = λ can. (c.write_found.ensures (g.K.Scheme.rules c.args.scheme.now)).can (c.decide_founding.ensures.reads.can can);
-}
+returns-in-Ok g c inside =
+    let k = g.K.Scheme.rules c.args.scheme.now in
+    let keys = c.args.keys.now in
+    let rows = c.in-Ok.rows in
+    put_on g.D.Store k c.args.catalog.now (root_writes rows) (λ _. FitsFounding rows.founding) (IsNextRoot rows) (λ all. with_root_rows all rows) Done (c.in-Ok.ensures inside) refl c.forget.ensures
+    (λ s sound gives. record {
+      next = stamped (with_root s c.args.at keys) c.args.at 1;
+      computed_is = gives.0;
+      commit = tt;
+      write = founding_fits k s c.args.at keys rows sound c.roots_are_added.ensures gives;
+    })
+    c.put_root.result c.put_of.ensures inside (λ within. of_made g.D.Store (c.put_root.ensures within)) (λ all lists fits. fits)
 
 pub returns-in-Err : goal.returns-in-Err
-returns-in-Err g c = record {
-  serves = λ s sound was. refused was c.decide_founding.ensures.reads (λ clean. c.in-Err.ensures.decided clean s sound tt was);
-  can = λ can. c.decide_founding.ensures.reads.can can;
-}
+returns-in-Err g c inside = refused_on g.D.Store (g.K.Scheme.rules c.args.scheme.now) c.args.catalog.now (c.in-Err.ensures inside)

@@ -1,6 +1,6 @@
 use Rattle.std.proofs.Common.{[], ◌∷◌, ap, ◌∙◌}
 use Rattle.std.proofs.lemmas.Str.{IsUtf8-string_bytes}
-use Rattle.up_sign.specs.Envelopes.{sealed}
+use Rattle.up_sign.specs.Envelopes.{sealed_envelope}
 use Rattle.up_sign.specs.Formats.{envelope_text}
 use Rattle.up_manifest.proofs.Built as built
 use Rattle.up_manifest.proofs.building.build_manifest_by.Goals as goal
@@ -8,7 +8,7 @@ use Rattle.up_manifest.proofs.building.build_manifest_by.Goals as goal
 pub returns : goal.returns
 returns g c =
     let k = g.K.Scheme.rules c.args.scheme.now in
-    let is = c.in_ok-body.ensures.value ∙ ap envelope_text (c.in_ok-envelope.ensures.value ∙ ap (sealed k (c.args.secret.now ∷ [])) c.in_ok-signed.ensures) in
+    let is = c.in_ok-body.ensures.value ∙ ap envelope_text (c.in_ok-envelope.ensures.value ∙ ap (sealed_envelope k (c.args.secret.now ∷ [])) c.in_ok-signed.ensures) in
     record {
       value = is;
       means = λ rs h. built.built_means c.envelope_laws.ensures.text c.envelope_laws.ensures.limits c.moment_laws.ensures.plain c.moment_laws.ensures.read k (g.met.K.Scheme.lawful c.args.scheme.now)

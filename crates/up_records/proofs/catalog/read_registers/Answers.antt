@@ -1,26 +1,26 @@
-use Rattle.std.proofs.Common.{None, sym, subst}
+use Rattle.std.proofs.Common.{Err, refl, sym, subst}
+use Rattle.up_tables.specs.declared.values.StoreFault.TheVariants as fault
 use Rattle.up_records.specs.Catalogs.{AreFew, ArePrimaries}
-use Rattle.up_records.specs.Standing.{over}
 use Rattle.up_records.proofs.Cataloged.{are_none, few_none}
-use Rattle.up_records.proofs.Viewing.{found_bare, reads_nothing, store_finds, such_both, such_failed, such_lost, such_refused}
+use Rattle.up_records.proofs.Sessions.{all_on, lost_on, none_on, refused_on, rows_on, then_on, under}
 use Rattle.up_records.proofs.catalog.read_registers.Goals as goal
 
-pub returns-in-Ok-images-clause-found : goal.returns-in-Ok-images-clause-found
-returns-in-Ok-images-clause-found g c =
-    let k = g.K.Scheme.rules c.args.scheme.now in
-    such_both _ (found_bare g.D.Store k c.args.store.now c.read_running.new.store c.in-Ok-read_running.ensures) (found_bare g.D.Store k c.read_running.new.store c.images.new.self (store_finds c.in-Ok-images.ensures))
-    (λ s campaigns images founding. record { founding = founding; campaigns = campaigns; images = images; primaries = subst (ArePrimaries s) (sym c.new.ensures) (are_none s) })
+pub returns-in-Ok-find_images-clause-found : goal.returns-in-Ok-find_images-clause-found
+returns-in-Ok-find_images-clause-found g c inside =
+    let G = g.D.Store in
+    all_on G (then_on G (then_on G (none_on G inside) (under G c.in-Ok-read_running.ensures)) (rows_on G _ (λ k s x is. is) c.in-Ok-find_images.ensures)) _ _
+    (λ k of s found founding. record { founding = founding; campaigns = found.0.1; images = found.1; primaries = subst (ArePrimaries s) (sym c.new.ensures) (are_none s) })
 
-pub returns-in-Ok-images-clause-fresh : goal.returns-in-Ok-images-clause-fresh
-returns-in-Ok-images-clause-fresh g c = record { can = record { keys = c.requires; hashed = c.in-Ok.ensures; few = subst AreFew (sym c.new.ensures) few_none }; none = c.new.ensures }
+pub returns-in-Ok-find_images-clause-fresh : goal.returns-in-Ok-find_images-clause-fresh
+returns-in-Ok-find_images-clause-fresh g c = record { can = record { keys = c.requires; hashed = c.in-Ok.ensures; few = subst AreFew (sym c.new.ensures) few_none }; none = c.new.ensures }
 
-pub returns-in-Err-images-clause-found : goal.returns-in-Err-images-clause-found
-returns-in-Err-images-clause-found g c =
-    let k = g.K.Scheme.rules c.args.scheme.now in
-    such_lost _ (found_bare g.D.Store k c.args.store.now c.read_running.new.store c.in-Ok-read_running.ensures) (found_bare g.D.Store k c.read_running.new.store c.images.new.self (store_finds c.in-Err-images.ensures))
+pub returns-in-Err-find_images-clause-found : goal.returns-in-Err-find_images-clause-found
+returns-in-Err-find_images-clause-found g c inside =
+    let G = g.D.Store in
+    lost_on G (then_on G (none_on G inside) (under G c.in-Ok-read_running.ensures)) _ (Err c.in-Err-find_images.fault) refl (rows_on G _ (λ k s x is. is) c.in-Err-find_images.ensures)
 
 pub returns-in-Err-read_running-clause-found : goal.returns-in-Err-read_running-clause-found
-returns-in-Err-read_running-clause-found g c = such_failed _ (found_bare g.D.Store (g.K.Scheme.rules c.args.scheme.now) c.args.store.now c.read_running.new.store c.in-Err-read_running.ensures)
+returns-in-Err-read_running-clause-found g c inside = let G = g.D.Store in lost_on G (none_on G inside) _ (Err c.in-Err-read_running.fault) refl (under G c.in-Err-read_running.ensures)
 
 pub returns-in-Err-clause-found : goal.returns-in-Err-clause-found
-returns-in-Err-clause-found g c = such_refused _ (reads_nothing (g.K.Scheme.rules c.args.scheme.now) (over g.D.Store c.args.store.now None))
+returns-in-Err-clause-found g c inside = let G = g.D.Store in refused_on G (none_on G inside) _ (Err fault.Memory) refl

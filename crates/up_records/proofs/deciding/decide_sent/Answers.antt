@@ -1,16 +1,21 @@
-use Rattle.sqlite.specs.Held.{state}
-use Rattle.up_machine.specs.Decisions.{GivesDelivered}
+use Rattle.std.proofs.Common.{◌∙◌}
 use Rattle.up_records.proofs.NeverStore.{never_delivered}
-use Rattle.up_records.proofs.Reading.{gives_or_fails, reads_none}
+use Rattle.up_records.proofs.Sessions.{decides_on, fails_on, none_on, rows_on, then_on}
 use Rattle.up_records.proofs.deciding.decide_sent.Goals as goal
 
-pub returns-then-is_later-clause-decided : goal.returns-then-is_later-clause-decided
-returns-then-is_later-clause-decided g c = λ clean s sound sent was.
-    gives_or_fails (reads_none (state g.D.Store c.args.store.now)) (GivesDelivered (g.K.Scheme.rules c.args.scheme.now) s c.args.incoming.now.manifest.vehicle) c.decide_later.result _ (never_delivered (g.K.Scheme.rules c.args.scheme.now) s c.args.at c.args.incoming.now) (λ r h. h) (c.decide_later.ensures s sound sent)
+pub returns-then-is_later : goal.returns-then-is_later
+returns-then-is_later g c inside =
+    let k = g.K.Scheme.rules c.args.scheme.now in
+    decides_on g.D.Store (none_on g.D.Store {rules = λ _. Rattle.std.specs.Prelude.⊤} inside) k tt c.decide_later.result (λ s. never_delivered k s c.args.at c.args.incoming.now) (λ s r h. h) (λ s sound sent _. c.decide_later.ensures s sound sent)
 
-pub returns-else-is_later-clause-decided : goal.returns-else-is_later-clause-decided
-returns-else-is_later-clause-decided g c = λ clean s sound sent was.
-    c.decide_earlier.ensures.decided (g.K.Scheme.rules c.args.scheme.now) clean s sound sent.from was
+pub returns-in-Ok : goal.returns-in-Ok
+returns-in-Ok g c inside =
+    let k = g.K.Scheme.rules c.args.scheme.now in
+    let manifest = c.args.incoming.now.manifest in
+    decides_on g.D.Store (then_on g.D.Store (none_on g.D.Store {rules = λ _. Rattle.std.specs.Prelude.⊤} inside) (rows_on g.D.Store _ (λ j s x is. is ∙ c.rows_are_found.ensures.kept j s manifest.vehicle manifest.counter) c.in-Ok.ensures)) k tt c.decide_again.result
+    (λ s. never_delivered k s c.args.at c.args.incoming.now) (λ s r h. h)
+    (λ s sound sent found. c.decide_again.ensures.decided k s c.args.at c.requires.given.0 sound sent.from (c.as_ref.ensures.value ∙ found.1))
 
-pub returns-then-is_later-clause-reads : goal.returns-then-is_later-clause-reads
-returns-then-is_later-clause-reads g c = reads_none (state g.D.Store c.args.store.now)
+pub returns-in-Err : goal.returns-in-Err
+returns-in-Err g c inside =
+    fails_on g.D.Store (none_on g.D.Store {rules = λ _. Rattle.std.specs.Prelude.⊤} inside) (g.K.Scheme.rules c.args.scheme.now) tt c.refusal_of.ensures (rows_on g.D.Store _ (λ j s x is. is) c.in-Err.ensures)

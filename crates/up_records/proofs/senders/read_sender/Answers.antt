@@ -1,48 +1,79 @@
-use Rattle.std.proofs.Common.{Bool, Err, ap, ◌∙◌, subst}
-use Rattle.std.specs.Prelude.{⊤, MatchBool, Ok}
-use Rattle.sqlite.specs.Held.{state}
-use Rattle.up_canon.specs.declared.refusal.Refusal.{Refusal}
-use Rattle.up_machine.specs.declared.rows.VehicleRows.{VehicleRows}
+use Rattle.std.proofs.Common.{◌≡◌, None, Ok, subst, sym, ◌∙◌}
+use Rattle.std.specs.Prelude.{⊤, MatchBool}
+use Rattle.std.specs.FinMap as table
+use Rattle.up_canon.specs.Refusals.{is_memory}
 use Rattle.up_machine.specs.Primaries.{GivesSent}
-use Rattle.up_records.specs.Senders.{refused_by}
-use Rattle.up_records.specs.Connected.{is_fault}
-use Rattle.up_records.proofs.Cataloged.{come_none, none_more}
-use Rattle.up_records.proofs.Reading.{reads_none}
-use Rattle.up_records.proofs.SentBy.{due, refused_unread, sent_rows}
+use Rattle.up_machine.proofs.Senders.{no_vehicle}
+use Rattle.up_records.proofs.Cataloged.{founding_more, of_more}
 use Rattle.up_records.proofs.NeverStore.{never_received}
-use Rattle.up_records.proofs.Leaving.{passed_kept}
+use Rattle.up_records.proofs.SentBy.{due, none_refused}
+use Rattle.up_records.proofs.Sessions.{decides_on, due_on, fails_on, none_on, then_on}
 use Rattle.up_records.proofs.senders.read_sender.Goals as goal
 
-pub returns-in-Ok-true-clause-from : goal.returns-in-Ok-true-clause-from
-returns-in-Ok-true-clause-from g c = λ clean s was is.
+pub returns-in-Err-clause-sent : goal.returns-in-Err-clause-sent
+returns-in-Err-clause-sent g c inside =
     let k = g.K.Scheme.rules c.args.scheme.now in
-    let sent = subst (λ b. MatchBool b (GivesSent k s c.args.incoming.now (Ok tt)) ⊤) c.in-Ok-true.field-0-test (c.in-Ok-true.ensures.sent s is) in
-    sent_rows k s c.args.incoming.now c.args.catalog.now.founding c.read_rows.result is.founding sent (c.read_rows.ensures.told clean k s was)
+    due_on g.D.Store (none_on g.D.Store {rules = λ _. ⊤} inside) k tt (λ s. never_received k s c.args.incoming.now) (λ s sound is _. due (is_memory c.in-Err.refusal) _ (c.in-Err.ensures.sent s is))
 
-pub returns-in-Err-clause-from : goal.returns-in-Err-clause-from
-returns-in-Err-clause-from g c = λ clean s was is. due (is_fault c.in-Err.refusal) _ (c.in-Err.ensures.sent s is)
+pub returns-then-is_kept-clause-sent : goal.returns-then-is_kept-clause-sent
+returns-then-is_kept-clause-sent g c inside =
+    let k = g.K.Scheme.rules c.args.scheme.now in
+    decides_on g.D.Store (then_on g.D.Store (none_on g.D.Store inside) c.in-Ok-Some.ensures.found) k tt (Ok c.in-Ok-Some.rows) (λ s. never_received k s c.args.incoming.now) (λ s r h. h)
+    (λ s sound is found.
+    let sent = subst (λ b. MatchBool b (GivesSent k s c.args.incoming.now (Ok tt)) ⊤) c.if-is_kept.true (c.in-Ok.ensures.sent s is) in
+    record { founding = is.founding; vehicle = sym found.1 ∙ c.in-Ok-Some.field-0-is; received = sent.0; receives = sent.1 })
 
-pub returns-in-Ok-true-clause-blame : goal.returns-in-Ok-true-clause-blame
-returns-in-Ok-true-clause-blame g c = λ s sound was of. c.read_rows.ensures.blame (g.K.Scheme.rules c.args.scheme.now) s sound was
+pub returns-in-Ok-test_by_rows-clause-sent : goal.returns-in-Ok-test_by_rows-clause-sent
+returns-in-Ok-test_by_rows-clause-sent g c inside =
+    let k = g.K.Scheme.rules c.args.scheme.now in
+    decides_on g.D.Store (then_on g.D.Store (none_on g.D.Store inside) c.in-Ok-Some.ensures.found) k tt (Ok c.in-Ok-Some.rows) (λ s. never_received k s c.args.incoming.now) (λ s r h. h)
+    (λ s sound is found.
+    let there = sym found.1 ∙ c.in-Ok-Some.field-0-is in
+    let sent = c.in-Ok-test_by_rows.ensures.sent s is.founding there in
+    record { founding = founding_more s c.args.catalog.now c.test_by_rows.new.catalog c.test_by_rows.ensures.more is.founding; vehicle = there; received = sent.0; receives = sent.1 })
 
-pub returns-in-Err-clause-blame : goal.returns-in-Err-clause-blame
-returns-in-Err-clause-blame g c = λ s sound was of clean is is_open unlimited.
-    absurd (never_received (g.K.Scheme.rules c.args.scheme.now) s c.args.incoming.now (c.in-Err.ensures.sent s of ∙ ap (λ (r : Refusal). Err r) is))
+pub returns-in-Ok-test_by_rows-clause-leaves : goal.returns-in-Ok-test_by_rows-clause-leaves
+returns-in-Ok-test_by_rows-clause-leaves g c =
+    let k = g.K.Scheme.rules c.args.scheme.now in
+    let kept = c.args.catalog.now in
+    record {
+      more = c.test_by_rows.ensures.more;
+      of = λ inside clean s sees is.
+          let there = sym ((c.in-Ok-Some.ensures.found inside).told clean k tt s sees) ∙ c.in-Ok-Some.field-0-is in
+          of_more s kept c.test_by_rows.new.catalog c.test_by_rows.ensures.more (c.test_by_rows.ensures.of s there is.primaries) is;
+      came = λ inside clean s sees is.
+          let there = sym ((c.in-Ok-Some.ensures.found inside).told clean k tt s sees) ∙ c.in-Ok-Some.field-0-is in
+          c.test_by_rows.ensures.came s is.founding there is.primaries;
+      unread = none_refused k kept.primaries c.args.incoming.now _ (subst (λ b. MatchBool b ⊤ (table.get kept.primaries c.args.incoming.now.manifest.vehicle ≡ None)) c.if-is_kept.false c.in-Ok.ensures.kept);
+    }
 
-pub returns-in-Ok-true-clause-leaves : goal.returns-in-Ok-true-clause-leaves
-returns-in-Ok-true-clause-leaves g c = record {
-  reads = c.read_rows.ensures.reads;
-  more = none_more c.args.catalog.now;
-  of = λ clean s was is. is;
-  came = λ clean s was is. come_none _ c.args.catalog.now.primaries;
-  unread = passed_kept (refused_by (g.K.Scheme.rules c.args.scheme.now) c.args.catalog.now.primaries c.args.incoming.now) _ _ c.in-Ok-true.ensures.forged;
-}
+pub returns-in-Err-test_by_rows-clause-sent : goal.returns-in-Err-test_by_rows-clause-sent
+returns-in-Err-test_by_rows-clause-sent g c inside =
+    let k = g.K.Scheme.rules c.args.scheme.now in
+    due_on g.D.Store (then_on g.D.Store (none_on g.D.Store inside) c.in-Ok-Some.ensures.found) k tt (λ s. never_received k s c.args.incoming.now)
+    (λ s sound is found. due (is_memory c.in-Err-test_by_rows.refusal) _ (c.in-Err-test_by_rows.ensures.sent s is.founding (sym found.1 ∙ c.in-Ok-Some.field-0-is)))
 
-pub returns-in-Err-clause-leaves : goal.returns-in-Err-clause-leaves
-returns-in-Err-clause-leaves g c = record {
-  reads = reads_none (state g.D.Store c.args.store.now);
-  more = none_more c.args.catalog.now;
-  of = λ clean s was is. is;
-  came = λ clean s was is. come_none _ c.args.catalog.now.primaries;
-  unread = refused_unread Bool VehicleRows (refused_by (g.K.Scheme.rules c.args.scheme.now) c.args.catalog.now.primaries c.args.incoming.now) (c.args.store.now, c.args.catalog.now) c.in-Err.refusal c.in-Err.ensures.forged;
-}
+pub returns-in-Err-test_by_rows-clause-leaves : goal.returns-in-Err-test_by_rows-clause-leaves
+returns-in-Err-test_by_rows-clause-leaves g c =
+    let k = g.K.Scheme.rules c.args.scheme.now in
+    let kept = c.args.catalog.now in
+    record {
+      more = c.test_by_rows.ensures.more;
+      of = λ inside clean s sees is.
+          let there = sym ((c.in-Ok-Some.ensures.found inside).told clean k tt s sees) ∙ c.in-Ok-Some.field-0-is in
+          of_more s kept c.test_by_rows.new.catalog c.test_by_rows.ensures.more (c.test_by_rows.ensures.of s there is.primaries) is;
+      came = λ inside clean s sees is.
+          let there = sym ((c.in-Ok-Some.ensures.found inside).told clean k tt s sees) ∙ c.in-Ok-Some.field-0-is in
+          c.test_by_rows.ensures.came s is.founding there is.primaries;
+      unread = none_refused k kept.primaries c.args.incoming.now _ (subst (λ b. MatchBool b ⊤ (table.get kept.primaries c.args.incoming.now.manifest.vehicle ≡ None)) c.if-is_kept.false c.in-Ok.ensures.kept);
+    }
+
+pub returns-in-Ok-None-clause-sent : goal.returns-in-Ok-None-clause-sent
+returns-in-Ok-None-clause-sent g c inside =
+    let k = g.K.Scheme.rules c.args.scheme.now in
+    due_on g.D.Store (then_on g.D.Store (none_on g.D.Store inside) c.in-Ok-None.ensures.found) k tt (λ s. never_received k s c.args.incoming.now)
+    (λ s sound is found. no_vehicle k s c.args.incoming.now c.args.catalog.now.founding is.founding (sym found.1 ∙ c.in-Ok-None.field-0-is))
+
+pub returns-in-Err-read_fitting_vehicle-clause-sent : goal.returns-in-Err-read_fitting_vehicle-clause-sent
+returns-in-Err-read_fitting_vehicle-clause-sent g c inside =
+    fails_on g.D.Store (none_on g.D.Store inside) (g.K.Scheme.rules c.args.scheme.now) tt c.refusal_of.ensures c.in-Err-read_fitting_vehicle.ensures.found

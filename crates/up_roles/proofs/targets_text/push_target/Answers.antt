@@ -3,7 +3,7 @@ use Rattle.std.specs.Prelude.{codes, decimal}
 use Rattle.serde_json.specs.Data.{string}
 use Rattle.up_canon.proofs.Joined.{pushed, pushed_as}
 use Rattle.up_canon.specs.Build.{list_with, hashes_value}
-use Rattle.up_canon.specs.Canon.{quoted, text}
+use Rattle.up_canon.specs.Canon.{json_string, text}
 use Rattle.up_roles.proofs.Spelled.{ecu_text, target_text}
 use Rattle.up_roles.proofs.targets_text.push_target.Goals as goal
 
@@ -13,7 +13,7 @@ returns-clause-value c =
     pushed_as _ _ _ _ (target_text t) (
     pushed _ _ _ (codes "{" ++ ecu_text t.ecu) _ c.in_ok-push_ecu.ensures.value (
     pushed _ _ _ (codes "\"file\":") _ c.in_ok-push_str.ensures.bytes (
-    pushed _ _ _ (quoted t.file) _ c.in_ok-push_file_name.ensures (
+    pushed _ _ _ (json_string t.file) _ c.in_ok-push_file_name.ensures (
     pushed _ _ _ (codes ",\"hardware\":") _ c.in_ok-push_str-2.ensures.bytes (
     pushed _ _ _ (text (list_with (map string t.hardware))) _ (pushed_as _ _ _ _ (ap (λ names. text (list_with (map string names))) c.as_slice.ensures) c.in_ok-push_names.ensures.value) (
     pushed _ _ _ (codes ",\"hashes\":") _ c.in_ok-push_str-3.ensures.bytes (

@@ -4,6 +4,7 @@ use Rattle.up_store.proofs.Blamed.{memory_blames}
 use Rattle.up_store.proofs.ColumnFound.{campaigns, found_in, none_found, some_found}
 use Rattle.up_store.proofs.KindsOfCampaigns.{campaign_lines_said, holds_campaign}
 use Rattle.up_store.proofs.WithinLemmas.{finds_fault}
+use Rattle.up_store.proofs.Written.{surely}
 use Rattle.up_store.proofs.campaigns.find_campaign.Goals as goal
 
 pub returns-in-Ok-Some : goal.returns-in-Ok-Some
@@ -17,6 +18,7 @@ returns-in-Ok-Some g c inside =
     record {
       found = λ clean. some_found campaigns r c.args.name.now before after (Some c.in-Ok-Some.shown) c.in-Ok-Some.shown refl c.some_campaign.ensures.same ((c.in-Ok-Some.ensures inside).reads clean) (lines clean);
       shown = λ clean. ok_then _ _ r (λ read is rows_of has lists. (Some c.in-Ok-Some.shown, (told clean rows_of has lists).said, is)) c.some_campaign.ensures.told;
+      reads = λ clean. surely r ((c.in-Ok-Some.ensures inside).reads clean);
       «open» = search rules;
       blame = memory_blames (λ _. ⊤) before after r
           (λ clean rows within fits.
@@ -33,6 +35,7 @@ returns-in-Ok-None g c inside =
     record {
       found = λ clean rows within. none_found campaigns rows c.args.name.now before after None refl ((c.in-Ok-None.ensures inside).reads clean) (λ rows_of has lists. campaign_lines_said _ _ (told clean rows_of has lists).said) within;
       shown = λ clean rows_of has lists. (None, (told clean rows_of has lists).said, refl);
+      reads = λ clean. (c.in-Ok-None.ensures inside).reads clean;
       «open» = search rules;
       blame = λ clean. tt;
       step = record { same_reference = (c.campaign.ensures inside).step.same_reference; steps = (c.campaign.ensures inside).step.steps };

@@ -4,6 +4,7 @@ use Rattle.up_store.proofs.Blamed.{memory_blames}
 use Rattle.up_store.proofs.ColumnFound.{are_running}
 use Rattle.up_store.proofs.KindsOfCampaigns.{campaign_lines_said, holds_running, running_by_name}
 use Rattle.up_store.proofs.WithinLemmas.{finds_fault}
+use Rattle.up_store.proofs.Written.{surely}
 use Rattle.up_store.proofs.campaigns.find_running.Goals as goal
 
 pub returns-in-Ok : goal.returns-in-Ok
@@ -17,6 +18,7 @@ returns-in-Ok g c inside =
     record {
       found = λ clean. ok_then _ _ r (λ read is rows within. is rows.campaigns (are clean rows within)) (rw c.as_slice.ensures.value at c.read_running.ensures.same);
       shown = λ clean. ok_then _ _ r (λ read is rows_of has lists. (found, said clean rows_of has lists, is)) (rw c.as_slice.ensures.value at c.read_running.ensures.told);
+      reads = λ clean. surely r ((c.in-Ok.ensures inside).reads clean);
       «open» = search rules;
       blame = memory_blames (λ _. ⊤) before after r (λ clean rows within fits. (rw c.as_slice.ensures.value at c.read_running.ensures.fault) rows.campaigns (are clean rows within));
       step = search rules;

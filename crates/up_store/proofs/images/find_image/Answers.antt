@@ -2,7 +2,7 @@ use Rattle.std.proofs.Common.{◌≡◌, ℕ, List, Some, None, map, rules, arit
 use Rattle.std.specs.FinMap as table
 use Rattle.up_store.proofs.Common.{⊤, option_to_list, Database, state, Row, HasCleanDisk, ImageData, image_places, columns_at, HasTables, Lists, image_sha512_table, image_table, IsImage, image_shown_line, ok_then}
 use Rattle.up_store.proofs.Blamed.{then_blames}
-use Rattle.up_store.proofs.ReadRows.{tables_stay, now_stays}
+use Rattle.up_store.proofs.ReadRows.{tables_stay, now_stays, reads_behind}
 use Rattle.up_store.proofs.ColumnFound.{images, found_in, none_found, joined_found}
 use Rattle.up_store.proofs.KindsOfImages.{holds_image, image_lines_said}
 use Rattle.up_store.proofs.WithinLemmas.{finds_fault}
@@ -28,6 +28,9 @@ returns-in-Ok-Some g c inside =
           let there = hash hashes_of (tables_stay before mid reads has) (now_stays (λ (db : Database). Lists 1 hashes_of (db.trees image_sha512_table.tree)) before mid reads beside) in
           (Some c.in-Ok-Some.shown, (told then rows_of has lists).said, there))
           (next.shown clean);
+      reads = λ clean.
+          let then : HasCleanDisk mid = omega (arith, next.step.steps.survives.clean) in
+          reads_behind _ c.find_with_sha512.result ((c.in-Ok-Some.ensures inside).reads then) (next.reads clean);
       «open» = search rules;
       blame = then_blames (λ _. ⊤) (λ rows. (image : ImageData) × (table.get rows.images c.args.file.now ≡ Some image) × IsImage c.in-Ok-Some.shown image) before mid (state g.D.Store c.find_with_sha512.new.tx.conn.now)
           c.find_with_sha512.result (c.image.ensures inside).step.steps next.step.steps (c.in-Ok-Some.ensures inside).reads
@@ -46,6 +49,7 @@ returns-in-Ok-None g c inside =
     record {
       found = λ clean rows within. none_found images rows c.args.file.now before after None refl ((c.in-Ok-None.ensures inside).reads clean) (λ rows_of has lists. image_lines_said _ _ (told clean rows_of has lists).said) within;
       shown = λ clean rows_of hashes_of has lists hashes. (None, (told clean rows_of has lists).said, refl);
+      reads = λ clean. (c.in-Ok-None.ensures inside).reads clean;
       «open» = search rules;
       blame = λ clean. tt;
       step = search rules;

@@ -1,6 +1,6 @@
 use Rattle.std.proofs.Common.{ℕ, List, arith, refl, rules}
 use Rattle.up_store.proofs.Common.{⊤, Database, state, Row, HasCleanDisk, HasTables, Lists, image_sha512_table, image_table, ok_then, AreImages}
-use Rattle.up_store.proofs.ReadRows.{tables_stay, now_stays}
+use Rattle.up_store.proofs.ReadRows.{tables_stay, now_stays, reads_behind}
 use Rattle.up_store.proofs.Blamed.{then_blames}
 use Rattle.up_store.proofs.ColumnFound.{within_read, are_images}
 use Rattle.up_store.proofs.KindsOfImages.{holds_images, image_lines_said, images_by_name}
@@ -30,6 +30,9 @@ returns-in-Ok g c inside =
             beside hashes_of (tables_stay before mid reads has) (now_stays (λ (db : Database). Lists 1 hashes_of (db.trees image_sha512_table.tree)) before mid reads hashes),
           ))
           (next.shown clean);
+      reads = λ clean.
+          let then : HasCleanDisk mid = omega (arith, next.step.steps.survives.clean) in
+          reads_behind _ c.find_with_sha512s.result ((c.in-Ok.ensures inside).reads then) (next.reads clean);
       «open» = search rules;
       blame = then_blames (λ _. ⊤) (λ rows. AreImages found rows.images) before mid (state g.D.Store c.find_with_sha512s.new.tx.conn.now) c.find_with_sha512s.result (c.images.ensures inside).step.steps next.step.steps (c.in-Ok.ensures inside).reads
           (λ clean rows within fits. are_images rows before mid found ((c.in-Ok.ensures inside).reads clean) (λ rows_of has lists name. image_lines_said _ _ (said clean rows_of has lists name)) within) next.blame;

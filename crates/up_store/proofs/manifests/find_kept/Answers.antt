@@ -11,6 +11,7 @@ returns g c inside =
     record {
       found = λ clean. kept_found c.kept.result c.args.vehicle.now c.args.counter before after (it.found clean) (it.reads clean);
       shown = λ clean. ok_then _ _ c.kept.result (λ read told rows_of has lists. (told rows_of has lists).said) (it.found clean);
+      reads = it.reads;
       «open» = λ clean. open_before c.kept.result it.step.steps clean it.step.is_open;
       blame = by_sound_statement (λ _. ⊤) _ before after c.kept.result (λ rows here fits. holds_kept c.args.vehicle.now c.args.counter before rows here) it.blame;
       step = record { same_reference = it.step.same_reference; steps = it.step.steps };

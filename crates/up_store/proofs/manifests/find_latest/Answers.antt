@@ -2,7 +2,7 @@ use Rattle.std.proofs.Common.{◌≡◌, Some, None, arith, refl, sym, ap, ◌�
 use Rattle.up_store.proofs.Common.{⊤, option_map, state, Database, HasCleanDisk, VehicleRow, latest_kept, StateRows, IsWithin, Lists, kept_table, up_schema, ok_then, ListsRows}
 use Rattle.up_store.proofs.Blamed.{then_blames}
 use Rattle.up_store.proofs.ColumnFound.{last_told, latest_is, latest_unknown, within_read}
-use Rattle.up_store.proofs.ReadRows.{now_stays, tables_stay}
+use Rattle.up_store.proofs.ReadRows.{now_stays, tables_stay, reads_behind}
 use Rattle.up_store.proofs.VehicleReads.{holds_vehicle, vehicle_in}
 use Rattle.up_store.proofs.WithinLemmas.{finds_fault}
 use Rattle.up_store.proofs.manifests.find_latest.Goals as goal
@@ -27,6 +27,7 @@ returns-in-Ok-Some g c inside =
             is kept_of (tables_stay before mid ((c.in-Ok-Some.ensures inside).reads (then clean)) has) (now_stays (λ (db : Database). Lists 1 kept_of (db.trees kept_table.tree)) before mid ((c.in-Ok-Some.ensures inside).reads (then clean)) kept),
           ))
           (two.shown clean);
+      reads = λ clean. reads_behind _ c.find_kept.result ((c.in-Ok-Some.ensures inside).reads (then clean)) (two.reads clean);
       «open» = search rules;
       blame = then_blames (λ _. ⊤) (λ _. ⊤) before mid (state g.D.Store c.find_kept.new.tx.conn.now) c.find_kept.result (c.vehicle.ensures inside).step.steps two.step.steps (c.in-Ok-Some.ensures inside).reads (λ clean rows within fits. tt) two.blame;
       step = search rules;
@@ -41,6 +42,7 @@ returns-in-Ok-None g c inside =
     record {
       found = λ clean rows within. latest_unknown rows name (ap (option_map (λ (r : VehicleRow). r.last)) (sym c.in-Ok-None.field-0-is ∙ vehicle_in rows name before mid c.in-Ok-None.field-0 ((c.in-Ok-None.ensures inside).reads clean) (told clean) within) ∙ last_told rows name);
       shown = λ clean rows_of kept_of has lists kept. (None, ((rw c.in-Ok-None.field-0-is at told clean) rows_of has lists).said, refl);
+      reads = λ clean. (c.in-Ok-None.ensures inside).reads clean;
       «open» = search rules;
       blame = λ clean. tt;
       step = search rules;

@@ -20,13 +20,11 @@ returns-in-Ok-Some-clause-finds g c inside =
           let e : read ≡ row = is in cc)
           c.held.ensures.same;
       shown = λ clean. ok_then _ _ r (λ read is has. (row, (told clean has).said, is)) c.held.ensures.same;
+      reads = λ clean. surely r (it.reads clean);
       «open» = λ clean. was_open_before r before (it.reads clean).was_open;
       blame = held_blames row before after r c.held.ensures.fault (λ clean has. said_fits (meta_shown (before.now.trees meta_table.tree)) row (told clean has).said);
       step = record { same_reference = (c.meta.ensures inside).step.same_reference; steps = (c.meta.ensures inside).step.steps };
     }
-
-pub returns-in-Ok-Some-clause-reads : goal.returns-in-Ok-Some-clause-reads
-returns-in-Ok-Some-clause-reads g c inside clean = surely c.held.result ((c.in-Ok-Some.ensures inside).reads clean)
 
 pub returns-in-Ok-None-clause-finds : goal.returns-in-Ok-None-clause-finds
 returns-in-Ok-None-clause-finds g c inside =
@@ -34,6 +32,7 @@ returns-in-Ok-None-clause-finds g c inside =
     record {
       found = λ clean. tt;
       shown = λ clean. tt;
+      reads = λ clean. tt;
       «open» = λ clean. tt;
       blame = λ clean told is_open unlimited rows within fits.
           let gone : None ≡ Some (meta_told rows.founding) = numbers_found None before (state g.D.Store c.meta.new.tx.conn.now) ((rw c.in-Ok-None.field-0-is at (c.in-Ok-None.ensures inside).found) clean) is_open rows within in absurd cc;

@@ -10,6 +10,7 @@ returns-in-Ok g c inside =
     record {
       found = λ clean rows within. c.body_of.ensures ∙ file_found {E = ⊤} (Ok c.in-Ok.found) c.args.repository c.args.name.now c.text.ensures.fits _ _ (told clean) ((c.in-Ok.ensures inside).reads clean) rows within;
       shown = λ clean rows_of has lists. (c.in-Ok.found, (told clean rows_of has lists).said, c.body_of.ensures);
+      reads = λ clean. (c.in-Ok.ensures inside).reads clean;
       «open» = search rules;
       blame = λ clean. tt;
       step = search rules;

@@ -6,7 +6,7 @@ use Rattle.up_store.proofs.FoundingReads.{founding_in, founding_told}
 use Rattle.up_store.proofs.Blamed.{memory_blames}
 use Rattle.up_store.proofs.KindsOfFounding.{founded_fault, holds_keys, keys_said}
 use Rattle.up_store.proofs.WithinLemmas.{finds_fault}
-use Rattle.up_store.proofs.Written.{was_open_before}
+use Rattle.up_store.proofs.Written.{was_open_before, surely}
 use Rattle.up_store.proofs.roots.find_founded.Goals as goal
 
 pub returns-in-Ok : goal.returns-in-Ok
@@ -27,6 +27,7 @@ returns-in-Ok g c opened inside =
           subst (ReadsFounding c.args.row all) (sym is.is)
           ((λ e. omega (arith, e, c.if-row-eq0.false)), keys, each_said (Tells SaysKey IsTypedKey key_row) SaysKey (λ r k told. told.said) _ keys (it.found clean all has lists), again))
           c.read_founding.ensures.found;
+      reads = λ clean. surely c.read_founding.result (it.reads clean);
       «open» = λ clean. was_open_before c.read_founding.result before (it.reads clean).was_open;
       blame = memory_blames (λ rows. c.args.row ≡ meta_told rows.founding) before after c.read_founding.result
           (λ clean rows within fits.

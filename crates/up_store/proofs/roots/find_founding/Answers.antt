@@ -2,7 +2,7 @@ use Rattle.std.proofs.Common.{◌∙◌, ◌≡◌, ◌∷◌, [], arith, rules,
 use Rattle.up_store.proofs.Common.{⊤, Database, state, HasCleanDisk, StateRows, IsWithin, ListsAll, meta_shown, EachSays, meta_table, role_key_table, up_schema, MetaRow, ok_then, ListsRows, SaysNumbers, meta_told}
 use Rattle.up_store.proofs.Blamed.{then_blames}
 use Rattle.up_store.proofs.ColumnFound.{within_read}
-use Rattle.up_store.proofs.ReadRows.{now_stays, tables_stay}
+use Rattle.up_store.proofs.ReadRows.{now_stays, tables_stay, reads_behind}
 use Rattle.up_store.proofs.roots.find_founding.Goals as goal
 
 pub returns-in-Ok : goal.returns-in-Ok
@@ -10,7 +10,7 @@ returns-in-Ok g c inside =
     let before = state g.D.Store c.args.tx.now.conn.now in
     let mid = state g.D.Store c.find_numbers.new.tx.conn.now in
     let numbers = c.in-Ok.ensures.finds inside in
-    let reads = c.in-Ok.ensures.reads inside in
+    let reads = numbers.reads in
     let founded = c.find_founded.ensures (λ clean. (reads clean).is_open) (λ clean. let then : HasCleanDisk before = omega (arith, clean, numbers.step.steps.survives.clean) in (reads clean).mode ∙ inside then) in
     record {
       found = λ clean.
@@ -29,6 +29,9 @@ returns-in-Ok g c inside =
             λ all lists. told all (tables_stay before mid reads has) (now_stays (λ (db : Database). ListsAll all (db.trees role_key_table.tree)) before mid reads lists),
           ))
           (founded.shown clean);
+      reads = λ clean.
+          let then : HasCleanDisk mid = omega (arith, founded.step.steps.survives.clean) in
+          reads_behind _ c.find_founded.result (reads then) (founded.reads clean);
       «open» = search rules;
       blame = then_blames (λ _. ⊤) (λ rows. c.in-Ok.row ≡ meta_told rows.founding) before mid (state g.D.Store c.find_founded.new.tx.conn.now) c.find_founded.result numbers.step.steps founded.step.steps
           reads (λ clean rows within fits. numbers.found clean rows within) founded.blame;

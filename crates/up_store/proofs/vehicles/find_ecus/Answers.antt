@@ -10,6 +10,7 @@ returns-in-Ok g c inside =
     record {
       found = λ clean rows within. c.new.ensures ∙ ecus_in rows c.args.vehicle.now (state g.D.Store c.args.tx.now.conn.now) (state g.D.Store c.ecus.new.tx.conn.now) c.in-Ok.ecus.items ((c.in-Ok.ensures inside).reads clean) (told clean) within;
       shown = λ clean rows_of has lists. let it = told clean rows_of has lists in (it.0, it.1, it.2, subst (EachSays SaysEcu (map (columns_at ecu_places) it.0)) (sym c.new.ensures) (each_said (Tells SaysEcu IsToldEcu ecu_shown) SaysEcu (λ row ecu tells. tells.said) (map (columns_at ecu_places) it.0) c.in-Ok.ecus.items it.3));
+      reads = λ clean. (c.in-Ok.ensures inside).reads clean;
       «open» = search rules;
       blame = λ clean. tt;
       step = search rules;

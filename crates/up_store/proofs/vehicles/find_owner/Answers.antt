@@ -1,11 +1,12 @@
 use Rattle.std.proofs.Common.{◌≡◌, Option, Some, None, arith, sym, ap, ◌∙◌, string_bytes, rules}
 use Rattle.up_store.proofs.Common.{⊤, option_map, option_or, state, Database, HasCleanDisk, Name, last_owner, owner_found, StateRows, IsWithin, Lists, retired_table, up_schema, ok_then, ListsRows}
-use Rattle.up_store.proofs.ReadRows.{now_stays, tables_stay}
+use Rattle.up_store.proofs.ReadRows.{now_stays, tables_stay, reads_behind}
 use Rattle.up_store.proofs.ColumnFound.{within_read}
 use Rattle.up_store.proofs.EcuReads.{owner_in}
 use Rattle.up_store.proofs.Blamed.{then_blames, memory_blames}
 use Rattle.up_store.proofs.KindsOfVehicles.{holds_owner, owner_is_named, reads_owner}
 use Rattle.up_store.proofs.WithinLemmas.{finds_fault}
+use Rattle.up_store.proofs.Written.{surely}
 use Rattle.up_store.proofs.vehicles.find_owner.Goals as goal
 
 pub returns-in-Ok-Some : goal.returns-in-Ok-Some
@@ -22,6 +23,7 @@ returns-in-Ok-Some g c inside =
       shown = λ clean. ok_then _ _ c.name_of.result
           (λ read is rows_of retired_of has lists more. (Some (string_bytes c.in-Ok-Some.shown), (rw c.in-Ok-Some.field-0-is at told clean) rows_of has lists, is))
           c.name_of.ensures.ok;
+      reads = λ clean. surely c.name_of.result ((c.in-Ok-Some.ensures inside).reads clean);
       «open» = search rules;
       blame = memory_blames (λ _. ⊤) before after c.name_of.result
           (λ clean rows within fits. reads_owner c.name_of.result c.in-Ok-Some.shown (owner_is_named rows ecu before after c.in-Ok-Some.field-0 c.in-Ok-Some.shown c.in-Ok-Some.field-0-is ((c.in-Ok-Some.ensures inside).reads clean) (told clean) within) c.name_of.ensures.fault);
@@ -48,6 +50,7 @@ returns-in-Ok-None g c inside =
             is retired_of (tables_stay before mid ((c.in-Ok-None.ensures inside).reads (then clean)) has) (now_stays (λ (db : Database). Lists 2 retired_of (db.trees retired_table.tree)) before mid ((c.in-Ok-None.ensures inside).reads (then clean)) more),
           ))
           (two.shown clean);
+      reads = λ clean. reads_behind _ c.find_retired.result ((c.in-Ok-None.ensures inside).reads (then clean)) (two.reads clean);
       «open» = search rules;
       blame = then_blames (λ _. ⊤) (λ _. ⊤) before mid (state g.D.Store c.find_retired.new.tx.conn.now) c.find_retired.result (c.ecu_owner.ensures inside).step.steps two.step.steps (c.in-Ok-None.ensures inside).reads (λ clean rows within fits. tt) two.blame;
       step = search rules;

@@ -4,6 +4,7 @@ use Rattle.up_store.proofs.EcuReads.{last_in}
 use Rattle.up_store.proofs.Blamed.{memory_blames}
 use Rattle.up_store.proofs.KindsOfVehicles.{holds_retired, last_is_named, reads_owner}
 use Rattle.up_store.proofs.WithinLemmas.{finds_fault}
+use Rattle.up_store.proofs.Written.{surely}
 use Rattle.up_store.proofs.vehicles.find_retired.Goals as goal
 
 pub returns-in-Ok-Some : goal.returns-in-Ok-Some
@@ -19,6 +20,7 @@ returns-in-Ok-Some g c inside =
       shown = λ clean. ok_then _ _ c.name_of.result
           (λ read is rows_of has lists vehicle. (rw c.in-Ok-Some.field-0-is at told clean) rows_of has lists vehicle ∙ ap (λ (o : Option Name). owns o vehicle) (sym is))
           c.name_of.ensures.ok;
+      reads = λ clean. surely c.name_of.result ((c.in-Ok-Some.ensures inside).reads clean);
       «open» = search rules;
       blame = memory_blames (λ _. ⊤) before after c.name_of.result
           (λ clean rows within fits. reads_owner c.name_of.result c.in-Ok-Some.last (last_is_named rows ecu before after c.in-Ok-Some.field-0 c.in-Ok-Some.last c.in-Ok-Some.field-0-is ((c.in-Ok-Some.ensures inside).reads clean) (told clean) within) c.name_of.ensures.fault);
@@ -33,6 +35,7 @@ returns-in-Ok-None g c inside =
     record {
       found = λ clean rows within. ap (option_map string_bytes) (sym c.in-Ok-None.field-0-is) ∙ last_in rows c.args.ecu.now before after (option_map string_bytes c.in-Ok-None.field-0) ((c.in-Ok-None.ensures inside).reads clean) (told clean) within;
       shown = λ clean rows_of has lists vehicle. (rw c.in-Ok-None.field-0-is at told clean) rows_of has lists vehicle;
+      reads = λ clean. (c.in-Ok-None.ensures inside).reads clean;
       «open» = search rules;
       blame = λ clean. tt;
       step = search rules;

@@ -12,6 +12,7 @@ returns g c inside =
     record {
       found = λ clean. vehicle_told c.vehicle.result c.args.vehicle.now before after (it.found clean) (it.reads clean);
       shown = λ clean. ok_then _ _ c.vehicle.result (λ read told rows_of has lists. (told rows_of has lists).said) (it.found clean);
+      reads = it.reads;
       «open» = λ clean. open_before c.vehicle.result it.step.steps clean it.step.is_open;
       blame = by_sound_statement (λ _. ⊤) _ before after c.vehicle.result (λ rows here fits. holds_vehicle c.args.vehicle.now before rows here.rows) it.blame;
       step = record { same_reference = it.step.same_reference; steps = it.step.steps };
