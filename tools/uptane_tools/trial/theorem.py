@@ -30,7 +30,7 @@ from uptane_tools.trial.trials import TOP
 PAGE = TOP / "docs" / "trust" / "THEOREM.md"
 HEADLINE = ("crates/up_desk/src/desk.rt", "run")
 # the same over fresh tables, whose statements have nothing of the inside
-FRESH = "crates/up_shipped/src/fresh.rt", ["run_fresh", "script_fresh"]
+FRESH = "crates/up_shipped/src/fresh.rt", ["run_fresh", "script_fresh", "stream_fresh"]
 # to these definitions no contract leads, but proofs, or nothing yet
 OF_PROOFS = {"up_curve": "e_of f_of g_of h_of", "up_records": "FindsSuch IsThere"}
 # the law of the scheme that a desk is over, by the bound of its type
