@@ -274,6 +274,13 @@ def honest(world: World, trust: dict[str, Any], reply: str) -> dict[str, Any]:
     return roots | {role: texts["image/%s.json" % role] for role in FILES} | {"reply": reply}
 
 
+def reply_text(reply: dict[str, Any], files: dict[str, str]) -> str:
+    """A reply with these files."""
+    return '{"root":%d,"snapshot":%s,"targets":%s,"timestamp":%s,%s}' % (
+        reply["root"], files["snapshot"], files["targets"], files["timestamp"],
+        '"vehicle":"%s","version":%d' % (reply["vehicle"], reply["version"]))
+
+
 # ---- the adversary
 
 
@@ -327,9 +334,7 @@ class Adversary:
             targets.append(one | {"ecu": ecu} | ({"hardware": [own["hardware"]]} if image else {}))
         version = reply["version"] + self.rng.choice((0, 1, 50))
         files = self.files("director", reply["files"], {"targets": targets}, version)
-        self.served["reply"] = '{"root":%d,"snapshot":%s,"targets":%s,"timestamp":%s,%s}' % (
-            reply["root"], files["snapshot"], files["targets"], files["timestamp"],
-            '"vehicle":"%s","version":%d' % (reply["vehicle"], version))
+        self.served["reply"] = reply_text(reply | {"version": version}, files)
 
     def forge_image(self) -> None:
         """The image of the adversary's is among those of the Image repository."""
