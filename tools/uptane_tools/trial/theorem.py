@@ -32,7 +32,7 @@ HEADLINE = ("crates/up_desk/src/desk.rt", "run")
 # the same over fresh tables, whose statements have nothing of the inside
 FRESH = "crates/up_shipped/src/fresh.rt", ["run_fresh", "script_fresh", "stream_fresh"]
 # to these definitions no contract leads, but proofs, or nothing yet
-OF_PROOFS = {"up_curve": "e_of f_of g_of h_of", "up_records": "FindsSuch IsThere"}
+OF_PROOFS = {"up_curve": "e_of f_of g_of h_of"}
 # the law of the scheme that a desk is over, by the bound of its type
 BOUND = TOP / "crates" / "up_sign" / "src" / "scheme.rt"
 QUOTE = re.compile(r"^<!-- (quote|example) (\S+) (\w+) -->\n\n((?:    .*\n|\n(?=    ))*)",
