@@ -31,6 +31,7 @@ PAGE = TOP / "docs" / "trust" / "THEOREM.md"
 HEADLINE = ("crates/up_desk/src/desk.rt", "run")
 # the same over fresh tables, whose statements have nothing of the inside
 FRESH = "crates/up_shipped/src/fresh.rt", ["run_fresh", "script_fresh", "stream_fresh"]
+LAWS = "crates/up_uptane/src/laws.rt"
 # to these definitions no contract leads, but proofs, or nothing yet
 OF_PROOFS = {"up_curve": "e_of f_of g_of h_of"}
 # the law of the scheme that a desk is over, by the bound of its type
@@ -241,10 +242,12 @@ def to_read(text: str) -> Iterator[Any]:
         yield folder / name
 
 
-def counted(head: Any = HEADLINE) -> dict[Any, tuple[Any, int, Any, Any]]:
-    """For each crate, in the order of the table: how many definitions, files, lines and words."""
+def counted(file: str, names: list[str]) -> dict[Any, tuple[Any, int, Any, Any]]:
+    """For each crate, in the order of the table: how many definitions, files, lines and words the
+    contracts of these functions lead to, together.
+    """
     rows: Any = defaultdict(lambda: [0, set(), 0, 0])
-    for source, _, text in closure(head):
+    for source, _, text in {it: 0 for name in names for it in closure((file, name))}:
         row: Any = rows[source.relative_to(TOP / "crates").parts[0]]
         row[0] += 1
         row[1].add(source)
@@ -259,7 +262,7 @@ def total_of(rows: Any) -> str:
 
 
 def table() -> str:
-    rows = counted()
+    rows = counted(HEADLINE[0], [HEADLINE[1]])
     lines = ["| Part | Crate | Definitions | Files | Lines | Words |", "|---|---|---|---|---|---|"]
     lines += [
         "| %s | `%s` | %s |" % (PARTS.get(crate, ""), crate, " | ".join("{:,}".format(it)
@@ -267,7 +270,9 @@ def table() -> str:
         for crate, row in rows.items()]
     lines.append("| all | | %s |" % total_of(rows))
     file, names = FRESH
-    lines += ["| of `%s` | | %s |" % (name, total_of(counted((file, name)))) for name in names]
+    lines += ["| of `%s` | | %s |" % (name, total_of(counted(file, [name]))) for name in names]
+    laws = re.findall(r"(?m)^pub fn (\w+)", (TOP / LAWS).read_text(encoding="utf-8"))
+    lines.append("| of `up_uptane`'s laws | | %s |" % total_of(counted(LAWS, laws)))
     return "\n".join(lines) + "\n"
 
 
