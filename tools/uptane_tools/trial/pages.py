@@ -15,7 +15,9 @@ from pathlib import Path
 from typing import Any
 
 from uptane_tools import arguments
+from uptane_tools.__main__ import tools
 from uptane_tools.trial import trials
+from uptane_tools.trial.promises import sections as sections_of
 from uptane_tools.trial.trials import TOP
 
 # the words of each cause for which no database is opened
@@ -73,9 +75,19 @@ def promised() -> Iterator[tuple[str, str, str]]:
         yield from (("PROOFS.md", "Contract", name)
                     for name in re.findall(r"`([\w:]+)`",
                                            CONTRACT.search(bullet)[1]))
-    for begins, label in (("Contract", "Contract"), ("Shown by", "Tests, Rows")):
-        for part in re.findall(r"- %s:(.*?)(?=\n- |\n\n)" % begins, standard, re.DOTALL):
-            yield from (("STANDARD.md", label, name) for name in re.findall(r"`([\w: ]+)`", part))
+    for _, _, kept, *shown in rows_of(standard, "Requirement"):
+        yield from (("STANDARD.md", "Contract", name) for name in re.findall(r"`([\w:]+)`", kept))
+        yield from (("STANDARD.md", "Tests, Rows, Tools", name) for it in shown
+                    for name in re.findall(r"`([\w: ]+)`", it))
+    for cells in rows_of((TOP / "SECURITY.md").read_text(encoding="utf-8"), "Stolen"):
+        yield from (
+            ("SECURITY.md", "Contract, Tools", name) for name in re.findall(r"`(\w+)`", cells[-1]))
+
+
+def rows_of(page: str, first: str) -> Iterator[list[str]]:
+    """The cells of the rows of a page's tables whose first column is headed so."""
+    for table in re.findall(r"^\| %s \|.*\n\|[-|]+\n((?:\|.*\n)+)" % first, page, re.MULTILINE):
+        yield from (re.split(r" *\| *", row[2:-2]) for row in table.splitlines())
 
 
 def read_all(pattern: str) -> str:
@@ -83,16 +95,13 @@ def read_all(pattern: str) -> str:
 
 
 def sections() -> set[str]:
-    """The words of the sections of rows, with and without the scheme under which they stand."""
-    words = re.findall(r"^# (.+)$",
-                       read_all("crates/*/stdin") + "\n" + read_all("rows/each_answer"),
-                       re.MULTILINE)
-    return {name for it in words for name in (it, it.split(" under ")[0])}
+    """The words of the sections of rows, those too that are computed."""
+    return {name for path in TOP.glob("crates/*/stdin") for name in sections_of(path.parent)}
 
 
 def names_there() -> dict[str, set[str]]:
     """The functions, clauses, types and definitions of the crates, their tests, the rows, and
-    the refused edits.
+    the tools.
     """
     code, specs = read_all("crates/*/src/**/*.rt"), read_all("crates/*/specs/*.antt")
     contracts = re.findall(r"\b(?:fn|ensures|struct|enum|trait|mod) (\w+)", code)
@@ -100,7 +109,7 @@ def names_there() -> dict[str, set[str]]:
         "Contract": set(contracts) | set(re.findall(r"\bpub (?:record |data )?(\w+)", specs)),
         "Tests": set(re.findall(r"#\[test\]\s*fn (\w+)", code))
         | {path.name for path in TOP.glob("crates/*")} | sections(), "Rows": {
-            path.parent.name for path in TOP.glob("rows/*/script")}}
+            path.parent.name for path in TOP.glob("rows/*/script")}, "Tools": set(tools())}
 
 
 def promises() -> trials.Cases:
