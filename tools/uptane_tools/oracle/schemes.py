@@ -12,7 +12,15 @@ from typing import Any
 from uptane_tools.oracle import ed25519
 
 
-class HmacSha256:
+class Of32Bytes:
+    """What schemes have in common whose public parts are any 32 bytes."""
+
+    @staticmethod
+    def fits(public: bytes) -> bool:
+        return len(public) == 32
+
+
+class HmacSha256(Of32Bytes):
     """HMAC-SHA-256 (RFC 2104): the secret is its own public part."""
 
     method = "hmac-sha256"
@@ -20,10 +28,6 @@ class HmacSha256:
     @staticmethod
     def public_of(secret: bytes) -> bytes:
         return secret
-
-    @staticmethod
-    def fits(public: bytes) -> bool:
-        return len(public) == 32
 
     @staticmethod
     def shown(public: bytes) -> str:
@@ -53,7 +57,7 @@ class Ed25519:
         return public.hex()
 
 
-class Sha256Tag:
+class Sha256Tag(Of32Bytes):
     """The second scheme of the crates' tests: the public part is a hash of the secret, a
     signature one of it and the message.
     """
@@ -63,10 +67,6 @@ class Sha256Tag:
     @staticmethod
     def public_of(secret: bytes) -> bytes:
         return hashlib.sha256(b"public " + secret).digest()
-
-    @staticmethod
-    def fits(public: bytes) -> bool:
-        return len(public) == 32
 
     @staticmethod
     def shown(public: bytes) -> str:

@@ -21,6 +21,7 @@ import threading
 import time
 from collections.abc import Iterator
 from contextlib import closing
+from functools import partial
 from pathlib import Path
 from typing import Any, BinaryIO
 
@@ -233,13 +234,8 @@ def refused(program: str | Path, own: Path) -> trials.Cases:
 
 
 def cases(program: Path, copies: int = 6, number: int = 2000) -> trials.Cases:
-    with trials.folder() as own:
-        yield from under_load(program, own, copies, number)
-        yield from waiting(program, own)
-        yield from taking(program, own)
-        yield from cloned(program, own)
-        yield from removed(program, own)
-        yield from refused(program, own)
+    load = partial(under_load, copies=copies, number=number)
+    yield from trials.each(program, load, waiting, taking, cloned, removed, refused)
 
 
 def main(words: arguments.Words = None) -> int:

@@ -421,9 +421,7 @@ def raises(program: str | Path, number: int) -> trials.Cases:
 
 
 def cases(program: Path, number: int = 100) -> trials.Cases:
-    for part in (modes, seconds, rests, operated, other_scheme, flipped):
-        with trials.folder() as own:
-            yield from part(program, own)
+    yield from trials.each(program, modes, seconds, rests, operated, other_scheme, flipped)
     yield from raises(program, number // 5)
     yield from kills(program, number)
 

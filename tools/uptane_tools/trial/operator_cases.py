@@ -934,21 +934,9 @@ def idioms() -> list[str]:
 
 
 def cases(program: Path) -> trials.Cases:
-    with trials.folder() as own:
-        yield from makers(program, own)
     yield from checker()
-    with trials.folder() as own:
-        yield from checked_files(program, own)
-    with trials.folder() as own:
-        yield from taken_changed(program, own)
-    with trials.folder() as own:
-        yield from wrong_keys(program, own)
-    with trials.folder() as own:
-        yield from pages(program, own)
-    with trials.folder() as own:
-        yield from operating(program, own)
-    with trials.folder() as own:
-        yield from rollouts(program, own)
+    yield from trials.each(program, makers, checked_files, taken_changed, wrong_keys, pages,
+                           operating, rollouts)
 
 
 def main(words: arguments.Words = None) -> int:

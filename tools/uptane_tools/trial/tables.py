@@ -107,8 +107,8 @@ def foreign(program: str | Path, own: Path) -> trials.Cases:
     made = {
         "another product's": [
             "CREATE TABLE meta (id INTEGER PRIMARY KEY, app TEXT, schema INTEGER)",
-            "INSERT INTO meta VALUES (1, 'other', 1)"],
-        "one without our row": statements.schema(), "tables of the same names": [
+            "INSERT INTO meta VALUES (1, 'other', 1)"], "one without our row": statements.schema(),
+        "tables of the same names": [
             "CREATE TABLE %s (a INTEGER) STRICT" % table for table in trials.TABLES]}
     for schema in (0, 4, -1, 2**62):
         made["schema %d's" % schema] = statements.schema() + [OURS % schema]
@@ -660,13 +660,7 @@ def by_second_hashes(program: Path, own: Path) -> trials.Cases:
 
 
 def cases(program: Path) -> trials.Cases:
-    with trials.folder() as own:
-        yield from asked(program, own)
-        yield from by_second_hashes(program, own)
-        yield from copies(program, own)
-        yield from foreign(program, own)
-        yield from older(program, own)
-        yield from read(program, own)
+    yield from trials.each(program, asked, by_second_hashes, copies, foreign, older, read)
 
 
 def main(words: arguments.Words = None) -> int:

@@ -70,6 +70,13 @@ def folder(within: Any = None) -> Iterator[Path]:
         yield Path(name)
 
 
+def each(program: Path, *parts: Callable[[Path, Path], Cases]) -> Cases:
+    """The cases of parts, each in a new folder of its own."""
+    for part in parts:
+        with folder() as own:
+            yield from part(program, own)
+
+
 def log_of(path: AnyPath) -> Path:
     return Path(str(path) + "-wal")
 

@@ -1127,9 +1127,7 @@ def cases(program: Path) -> trials.Cases:
             applied, applied_to_several, backed_up, logged, damaged, lost, watched, first_round]
     else:
         print("there is no curl, so no scripts are applied")
-    for part in [*parts, packaged]:
-        with trials.folder() as own:
-            yield from part(program, own)
+    yield from trials.each(program, *parts, packaged)
 
 
 def main(words: arguments.Words = None) -> int:
