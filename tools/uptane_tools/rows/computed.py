@@ -18,7 +18,7 @@ from uptane_tools.rows import (brought_cases, cases, collect_rows, ed25519_cases
 from uptane_tools.trial import trials
 
 # the sections of streams that an input has are so short
-SHORT = 4000
+SHORT = 2500
 # the input and what is told of it
 Texts = Callable[[], tuple[str, str]]
 # of each kind all of it, and the part that the crate's input has
