@@ -92,6 +92,7 @@ def other_method_of(scheme: Any) -> str:
     return next(it.method for it in OF_PRODUCT if it is not scheme)
 
 
+@functools.lru_cache(4096)
 def key_identifier(public: Any) -> str:
     """HMAC-SHA-256 of a fixed word under the public part, whatever the scheme."""
     return hmac.new(public, b"uptane-key-id", hashlib.sha256).hexdigest()

@@ -28,6 +28,8 @@ NONE_YET = dict.fromkeys(FILES, 0)
 Sealed = tuple[list[dict[str, str]], str]
 Trust = dict[str, Any]
 Asked = tuple[str, str | None, int]
+# what is read of a text, which comes again and again
+kept = functools.lru_cache(maxsize=1024)
 # the refusals of a target, which come once both repositories are verified
 CHECKED_LAST = ("ReplacedEcu", "UnknownEcu", "UnknownImage", "WrongHardware", "LowerRelease")
 
@@ -104,6 +106,7 @@ def vehicle_of(told: dict[str, Any], repository: str) -> str | None:
     return text(told, "vehicle", IDENT) if repository == "director" else None
 
 
+@kept
 def root_in(bytes_: str) -> tuple[dict[str, Any], Sealed]:
     sealed, told = envelope(bytes_)
     keys: Any
@@ -145,6 +148,7 @@ def target_in(it: dict[str, Any], repository: str) -> dict[str, Any]:
     return {"ecu": ecu, "image": (text(it, "file", FILE), hashes, tuple(hardware), *numbers)}
 
 
+@kept
 def targets_in(bytes_: str) -> tuple[dict[str, Any], Sealed]:
     sealed, told = envelope(bytes_)
     file = head(told, "targets")
@@ -167,10 +171,12 @@ def listing(bytes_: str, kind: str, name: str) -> tuple[dict[str, Any], Sealed, 
     return file, sealed, entry
 
 
+@kept
 def snapshot_in(bytes_: str) -> tuple[dict[str, Any], Sealed]:
     return listing(bytes_, "snapshot", "targets.json")[:2]
 
 
+@kept
 def timestamp_in(bytes_: str) -> tuple[dict[str, Any], Sealed]:
     file, sealed, entry = listing(bytes_, "timestamp", "snapshot.json")
     need(isinstance(entry.get("hashes"), dict))
@@ -398,6 +404,7 @@ def judged(verifier: Verifier, now: int, primary: dict[str, Any], texts: dict[st
 # ---- what vectors have
 
 
+@kept
 def reply_in(text_: str) -> dict[str, Any]:
     """A reply's own members, and the text of each file as it stands there."""
     value, decoder, at = value_of(text_), json.JSONDecoder(), text_.index("{") + 1

@@ -1,7 +1,6 @@
 """The premises of a Primary's laws (`up_primary/specs`), each by its name: whether a round of a run
 meets it. So that a law isn't proved of nothing, `proved_rounds` counts how often each is met.
 """
-import functools
 import json
 from typing import Any
 
@@ -16,7 +15,6 @@ def payload(text: str) -> str:
     return canonical(json.loads(text)["signed"])
 
 
-@functools.lru_cache(maxsize=4096)
 def root_of(text: str) -> dict[str, Any]:
     """The Root that a text is."""
     return verification.root_in(text)[0]
