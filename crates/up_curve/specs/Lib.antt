@@ -8,3 +8,4 @@ pub mod LittleEndian
 pub mod Points
 pub mod Primes
 pub mod Signatures
+pub mod Sums
