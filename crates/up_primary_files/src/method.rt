@@ -1,4 +1,6 @@
 //! The schemes by which a Primary verifies.
+ghost use Rattle.std.specs.Prelude.{◌≡◌};
+ghost use Rattle.up_primary_files.specs.Written.{method_name};
 
 /// A scheme by which a Primary verifies.
 #[derive(Clone, Copy, Debug)]
@@ -11,7 +13,9 @@ pub enum Method {
 
 impl Method {
     /// Its name in Roots and signatures.
-    pub(crate) fn name(self) -> &'static str {
+    pub(crate) fn name(self) -> &'static str
+        ensures { result.now ≡ method_name self }
+    {
         match self {
             Method::Hmac => "hmac-sha256",
             Method::Ed25519 => "ed25519",

@@ -1,6 +1,7 @@
 //! The files of a Primary's state and of what was served: the verdict, and the file of the state behind it.
-ghost use Rattle.std.specs.Prelude.{◌≡◌, IfOk, string_bytes};
+ghost use Rattle.std.specs.Prelude.{◌≡◌, IfOk, Ok, string_bytes};
 ghost use Rattle.up_primary_files.specs.Rounds.{IsVerified, IsUnread, IsFrom, IsOutcome};
+ghost use Rattle.up_primary_files.specs.Written.{IsWhole};
 
 use crate::judged::{Judged, judge};
 use crate::served::read_served;
@@ -8,6 +9,7 @@ use crate::state::{State, read_state};
 use crate::state_text::state_text;
 use std::alloc::{AllocError, Global};
 use up_canon::refusal::Refusal;
+use up_roles::laws::meaning_laws;
 use up_verify::served::Served;
 
 /// How it comes out: whether all was accepted, the text that tells the verdict, and the text of the state's file behind it.
@@ -20,6 +22,7 @@ pub struct Outcome {
 
 /// The verdict at a moment, in seconds, by the texts of both files. Else what is wrong with the file of the state, or that there
 /// is no memory. What is wrong with the other file, as a reply that can't be read, is a verdict: the state stays.
+#[tactic(auto, using(crate::proofs::Whole::whole_read))]
 pub fn judge_files(alloc: Global, now: u64, state: &str, served: &str) -> Result<Outcome, Refusal>
     ensures { IfOk result (IsOutcome now state.now) }
 {
@@ -41,6 +44,7 @@ fn outcome_of(
     state: &str,
     served: &str,
 ) -> Result<Outcome, Refusal>
+    requires { IsWhole before.now }
     ensures { IfOk result (IsFrom now before.now state.now) }
 {
     match read_served(alloc, served) {
@@ -71,9 +75,12 @@ fn unread(alloc: Global, state: &str, refusal: &Refusal) -> Result<Outcome, Allo
     })
 }
 
+#[tactic(auto, using(crate::proofs::Whole::verified_again))]
 fn verified(alloc: Global, now: u64, before: &State, served: &Served) -> Result<Outcome, AllocError>
+    requires { IsWhole before.now }
     ensures { IfOk result (IsVerified now before.now served.now) }
 {
+    meaning_laws();
     let held = before.held.as_slice();
     match judge(alloc, before.method, held, now, &before.primary, served) {
         Ok(
@@ -96,7 +103,7 @@ fn with_state(
     told: String,
     written: Result<String, AllocError>,
 ) -> Result<Outcome, AllocError>
-    ensures { IfOk result (λ o. (o.is_accepted ≡ is_accepted) × (string_bytes o.told ≡ string_bytes told)) }
+    ensures { IfOk result (λ o. (o.is_accepted ≡ is_accepted) × (string_bytes o.told ≡ string_bytes told) × (written ≡ Ok o.state)) }
 {
     match written {
         Ok(state) => Ok(Outcome {

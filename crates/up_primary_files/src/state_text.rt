@@ -1,12 +1,17 @@
 //! A Primary's state, written as the JSON file that is read again.
-use crate::method::Method;
+ghost use Rattle.std.specs.Prelude.{◌≡◌, IfOk, IsUtf8, Ok, map, string_bytes};
+ghost use Rattle.serde_json.specs.Data.{string};
+ghost use Rattle.serde_json.specs.View.{view};
+ghost use Rattle.up_canon.specs.Build.{list_with, hex_value};
+ghost use Rattle.up_primary_files.specs.States.{state_in};
+ghost use Rattle.up_primary_files.specs.Written.{trust_value as trust_value_of, ecu_value as ecu_value_of, state_value as state_value_of, root_text as root_text_of, state_then, IsWhole};
+
 use crate::state::State;
-use serde_json::Value;
+use serde_json::{Value, json};
 use std::alloc::{AllocError, Global};
 use std::str;
 use up_canon::bytes::Bytes;
 use up_canon::ident::Ident;
-use up_canon::writing::{push_hex, push_ident, push_number};
 use up_verify::known_key::KnownKey;
 use up_verify::served::Served;
 use up_verify::trust::{OwnEcu, Primary, Versions};
@@ -17,7 +22,9 @@ pub(crate) fn state_text(
     state: &State,
     next: &Primary,
     served: &Served,
-) -> Result<String, AllocError> {
+) -> Result<String, AllocError>
+    ensures { IfOk result (λ text. IsWhole (state_then state.now next.now served.now) → state_in (string_bytes text) ≡ Ok (state_then state.now next.now served.now)) }
+{
     let director = root_text(
         state.roots.director.as_str(),
         state.primary.director.root.version,
@@ -30,107 +37,85 @@ pub(crate) fn state_text(
         served.image_roots.as_slice(),
         next.image.root.version,
     );
-    let mut out = String::new(alloc);
-    out.push_str("{\"director\":")?;
-    push_trust(alloc, &mut out, director, next.director.versions)?;
-    push_own(&mut out, next)?;
-    push_kept(alloc, &mut out, state.method, state.held.as_slice())?;
-    out.push_str(",\"image\":")?;
-    push_trust(alloc, &mut out, image, next.image.versions)?;
-    out.push_str("}\n")?;
-    Ok(out)
+    let value = state_value(alloc, state, next, director, image)?;
+    let written = value.to_string(alloc);
+    // Dropped by name: at the end of a scope it would be proved part by part.
+    drop(value);
+    written
 }
 
-/// What is known of the vehicle.
-fn push_own(out: &mut String, primary: &Primary) -> Result<(), AllocError> {
-    out.push_str(",\"ecus\":[")?;
-    push_ecus(out, primary.ecus.as_slice())?;
-    out.push_str("],\"replaced\":[")?;
-    push_names(out, primary.replaced.as_slice())?;
-    out.push_str("],\"vehicle\":")?;
-    push_ident(out, &primary.vehicle)
-}
-
-/// By what is verified.
-fn push_kept(
+/// The file's value, where the texts of both Roots are these.
+fn state_value(
     alloc: Global,
-    out: &mut String,
-    method: Method,
-    held: &[KnownKey],
-) -> Result<(), AllocError> {
-    out.push_str(",\"held\":[")?;
-    push_held(alloc, out, held)?;
-    out.push_str("],\"method\":\"")?;
-    out.push_str(method.name())?;
-    out.push_str("\"")
+    state: &State,
+    next: &Primary,
+    director: &str,
+    image: &str,
+) -> Result<Value, AllocError>
+    ensures { IfOk result (λ v. view v ≡ state_value_of (record { method = state.now.method; held = state.now.held; primary = next.now; roots = record { director = director.now; image = image.now } })) }
+{
+    let director = trust_value(alloc, director, next.director.versions)?;
+    let image = trust_value(alloc, image, next.image.versions)?;
+    let ecus = ecus_value(alloc, next.ecus.as_slice())?;
+    let replaced = names_value(alloc, next.replaced.as_slice())?;
+    let held = held_value(alloc, state.held.as_slice())?;
+    let method = state.method.name();
+    let vehicle = next.vehicle.text();
+    json!(in alloc; {"director": director, "ecus": ecus, "held": held, "image": image, "method": method, "replaced": replaced, "vehicle": vehicle})
 }
 
-fn push_trust(
-    alloc: Global,
-    out: &mut String,
-    root: &str,
-    versions: Versions,
-) -> Result<(), AllocError> {
-    out.push_str("{\"root\":")?;
-    let quoted = Value::String(root.to_string(alloc)?).to_string(alloc)?;
-    out.push_str(quoted.as_str())?;
-    out.push_str(",\"snapshot\":")?;
-    push_number(out, versions.snapshot)?;
-    out.push_str(",\"targets\":")?;
-    push_number(out, versions.targets)?;
-    out.push_str(",\"timestamp\":")?;
-    push_number(out, versions.timestamp)?;
-    out.push_str("}")
+fn trust_value(alloc: Global, root: &str, versions: Versions) -> Result<Value, AllocError>
+    ensures { IfOk result (λ v. view v ≡ trust_value_of root.now versions) }
+{
+    json!(in alloc; {"root": root, "snapshot": versions.snapshot, "targets": versions.targets, "timestamp": versions.timestamp})
 }
 
-fn push_ecus(out: &mut String, ecus: &[OwnEcu]) -> Result<(), AllocError> {
-    let mut comma = "";
+fn ecus_value(alloc: Global, ecus: &[OwnEcu]) -> Result<Value, AllocError>
+    ensures { IfOk result (λ v. view v ≡ list_with (map ecu_value_of ecus.now)) }
+{
+    let mut values = Vec::with_capacity(alloc, ecus.len())?;
     for own in ecus {
-        out.push_str(comma)?;
-        push_ecu(out, own)?;
-        comma = ",";
+        values.push(ecu_value(alloc, own)?)?;
     }
-    Ok(())
+    Ok(Value::Array(values))
 }
 
-fn push_ecu(out: &mut String, own: &OwnEcu) -> Result<(), AllocError> {
-    out.push_str("{\"ecu\":")?;
-    push_ident(out, &own.ecu)?;
-    out.push_str(",\"hardware\":")?;
-    push_ident(out, &own.hardware)?;
-    out.push_str(",\"release\":")?;
-    push_number(out, own.release.get())?;
-    out.push_str("}")
+fn ecu_value(alloc: Global, own: &OwnEcu) -> Result<Value, AllocError>
+    ensures { IfOk result (λ v. view v ≡ ecu_value_of own.now) }
+{
+    json!(in alloc; {"ecu": own.ecu.text(), "hardware": own.hardware.text(), "release": own.release.get()})
 }
 
-fn push_held(alloc: Global, out: &mut String, held: &[KnownKey]) -> Result<(), AllocError> {
-    let mut comma = "";
-    for key in held {
-        out.push_str(comma)?;
-        push_hex(alloc, out, key.public())?;
-        comma = ",";
-    }
-    Ok(())
-}
-
-fn push_names(out: &mut String, names: &[Ident]) -> Result<(), AllocError> {
-    let mut comma = "";
+fn names_value(alloc: Global, names: &[Ident]) -> Result<Value, AllocError>
+    ensures { IfOk result (λ v. view v ≡ list_with (map string names.now)) }
+{
+    let mut values = Vec::with_capacity(alloc, names.len())?;
     for name in names {
-        out.push_str(comma)?;
-        push_ident(out, name)?;
-        comma = ",";
+        values.push(Value::try_from_str(alloc, name.text())?)?;
     }
-    Ok(())
+    Ok(Value::Array(values))
 }
 
-/// The text of the Root that is trusted behind these: the one before, where the version is the same, else the one of that version
-/// among those that came behind it.
+fn held_value(alloc: Global, held: &[KnownKey]) -> Result<Value, AllocError>
+    ensures { IfOk result (λ v. view v ≡ list_with (map hex_value held.now)) }
+{
+    let mut values = Vec::with_capacity(alloc, held.len())?;
+    for key in held {
+        values.push(Value::String(hex::encode(alloc, key.public())?))?;
+    }
+    Ok(Value::Array(values))
+}
+
+/// The text of the Root that is trusted behind these: the one before, where the version is no greater, else the one of that
+/// version among those that came behind it.
 pub(crate) fn root_text<'a>(
     before: &'a str,
     first: u64,
     roots: &'a [Bytes],
     version: u64,
-) -> &'a str {
+) -> &'a str
+    ensures { IsUtf8 (root_text_of before.now first roots.now version) → result.now ≡ root_text_of before.now first roots.now version }
+{
     if version <= first {
         return before;
     }
