@@ -1,2 +1,3 @@
 pub mod ReadAgain
 pub mod Whole
+pub mod Standing

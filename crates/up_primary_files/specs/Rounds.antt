@@ -4,6 +4,7 @@ use Rattle.up_canon.specs.Refusals.{refusal_text}
 use Rattle.up_canon.specs.declared.refusal.Refusal.{Refusal}
 use Rattle.up_verify.specs.declared.served.Served.{Served}
 use Rattle.up_verify.specs.Verify.{verify, after}
+use Rattle.up_primary_files.specs.Served.{IsServed}
 use Rattle.up_primary_files.specs.States.{state_in}
 use Rattle.up_primary_files.specs.Written.{state_then}
 use Rattle.up_primary_files.specs.Verdicts.{verdict_text, is_accepted, verifier_by}
@@ -22,9 +23,9 @@ pub record IsUnread (text : List ℕ) (refusal : Refusal) (o : Outcome) : Type 0
   pub told : string_bytes o.told ≡ codes "refused reply " ++ refusal_text refusal ++ codes "\n"
   pub state : string_bytes o.state ≡ text
 
--- one of the two, from the state that its file's text means
-abbrev pub IsFrom : ℕ → State → List ℕ → Outcome → Type 0
-IsFrom now before text o = ((served : Served) × IsVerified now before served o) ⊎ ((refusal : Refusal) × IsUnread text refusal o)
+-- one of the two, from the state that its file's text means, and what the other file's text says was served
+abbrev pub IsFrom : ℕ → State → List ℕ → List ℕ → Outcome → Type 0
+IsFrom now before text file o = ((served : Served) × IsServed file served × IsVerified now before served o) ⊎ ((refusal : Refusal) × IsUnread text refusal o)
 
-abbrev pub IsOutcome : ℕ → List ℕ → Outcome → Type 0
-IsOutcome now text o = (before : State) × (state_in text ≡ Ok before) × IsFrom now before text o
+abbrev pub IsOutcome : ℕ → List ℕ → List ℕ → Outcome → Type 0
+IsOutcome now text file o = (before : State) × (state_in text ≡ Ok before) × IsFrom now before text file o

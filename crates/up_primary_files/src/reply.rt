@@ -1,4 +1,10 @@
 //! The Director's reply: its members, and the text of each file in it as it stands.
+ghost use Rattle.std.specs.Prelude.{◌≡◌, IfOk, IfSome};
+ghost use Rattle.serde_json.specs.View.{view};
+ghost use Rattle.up_canon.specs.Members.{object_of_map};
+ghost use Rattle.up_canon.specs.Refusals.{Gives};
+ghost use Rattle.up_primary_files.specs.Served.{StandsIn, AllStandIn, names_of, IsReplyOf, IsReply};
+
 use serde_json::{Map, Value};
 use std::alloc::{AllocError, Global};
 use std::str;
@@ -17,7 +23,9 @@ const MOST: usize = 4_194_304;
 
 /// The reply that a text is: `TooLarge` above 4,194,304 bytes, `NotJson`, `BadShape` with the name of the first member at
 /// fault, `Memory`. Of a member that stands twice the last counts.
-pub(crate) fn read_reply(alloc: Global, text: &str) -> Result<Reply, Refusal> {
+pub(crate) fn read_reply(alloc: Global, text: &str) -> Result<Reply, Refusal>
+    ensures { IfOk result (IsReply text.now) }
+{
     let value = value_within(alloc, text.as_bytes(), MOST)?;
     let read = reply_in(alloc, text, &value);
     // Dropped by name: at the end of a scope it would be proved part by part.
@@ -25,7 +33,9 @@ pub(crate) fn read_reply(alloc: Global, text: &str) -> Result<Reply, Refusal> {
     read
 }
 
-fn reply_in(alloc: Global, text: &str, value: &Value) -> Result<Reply, Refusal> {
+fn reply_in(alloc: Global, text: &str, value: &Value) -> Result<Reply, Refusal>
+    ensures { IfOk result (IsReplyOf text.now (view value.now)) }
+{
     let map = object_of(value, "reply")?;
     let files = files_in(alloc, text)?;
     match names_at(alloc, map) {
@@ -50,13 +60,16 @@ fn reply_in(alloc: Global, text: &str, value: &Value) -> Result<Reply, Refusal> 
 
 /// A reply's root version, vehicle, and the vehicle's version.
 #[derive(Debug, Drop)]
-struct Names {
-    root: u64,
-    vehicle: Ident,
-    version: u64,
+pub struct Names {
+    pub root: u64,
+    pub vehicle: Ident,
+    pub version: u64,
 }
 
-fn names_at(alloc: Global, map: &Map<String, Value>) -> Result<Names, Refusal> {
+#[tactic(auto, unfolding(crate::specs::Served::names_of, up_canon::specs::Steps::and_then))]
+fn names_at(alloc: Global, map: &Map<String, Value>) -> Result<Names, Refusal>
+    ensures { Gives result (names_of (object_of_map map.now.entries)) }
+{
     Ok(Names {
         root: count_at(map, "root")?.get(),
         version: count_at(map, "version")?.get(),
@@ -65,14 +78,18 @@ fn names_at(alloc: Global, map: &Map<String, Value>) -> Result<Names, Refusal> {
 }
 
 /// The texts of the three files, each as it stands in the reply.
-fn files_in(alloc: Global, text: &str) -> Result<RoleTexts, Refusal> {
+fn files_in(alloc: Global, text: &str) -> Result<RoleTexts, Refusal>
+    ensures { IfOk result (AllStandIn text.now) }
+{
     let marks = marks(alloc, text.as_bytes())?;
     let read = texts_at(alloc, text, marks.as_slice());
     drop(marks);
     read
 }
 
-fn texts_at(alloc: Global, text: &str, marks: &[usize]) -> Result<RoleTexts, Refusal> {
+fn texts_at(alloc: Global, text: &str, marks: &[usize]) -> Result<RoleTexts, Refusal>
+    ensures { IfOk result (AllStandIn text.now) }
+{
     Ok(RoleTexts {
         targets: member_text(alloc, text, marks, "targets")?,
         snapshot: member_text(alloc, text, marks, "snapshot")?,
@@ -146,14 +163,18 @@ fn member_text(
     text: &str,
     marks: &[usize],
     name: &'static str,
-) -> Result<Text, Refusal> {
+) -> Result<Text, Refusal>
+    ensures { IfOk result (λ found. StandsIn text.now found) }
+{
     match last_member(text.as_bytes(), marks, name) {
         Some(found) => Ok(Text::new(found.to_string(alloc)?)),
         None => Err(Refusal::from(name)),
     }
 }
 
-fn last_member<'a>(bytes: &'a [u8], marks: &[usize], name: &str) -> Option<&'a str> {
+fn last_member<'a>(bytes: &'a [u8], marks: &[usize], name: &str) -> Option<&'a str>
+    ensures { IfSome result (λ found. StandsIn bytes.now found.now) }
+{
     let mut found = None;
     let mut is_name = true;
     for three in marks.windows(3) {
@@ -184,7 +205,9 @@ fn is_quoted(text: &[u8], name: &[u8]) -> bool {
 }
 
 /// What stands behind the byte at the first place, up to the second, without white space around it.
-fn piece(bytes: &[u8], from: usize, to: usize) -> Option<&str> {
+fn piece(bytes: &[u8], from: usize, to: usize) -> Option<&str>
+    ensures { IfSome result (λ found. StandsIn bytes.now found.now) }
+{
     let span = bytes.get(from..to)?;
     let (_, behind) = span.split_first()?;
     match str::from_utf8(behind) {

@@ -24,7 +24,7 @@ pub struct Outcome {
 /// is no memory. What is wrong with the other file, as a reply that can't be read, is a verdict: the state stays.
 #[tactic(auto, using(crate::proofs::Whole::whole_read))]
 pub fn judge_files(alloc: Global, now: u64, state: &str, served: &str) -> Result<Outcome, Refusal>
-    ensures { IfOk result (IsOutcome now state.now) }
+    ensures { IfOk result (IsOutcome now state.now served.now) }
 {
     match read_state(alloc, state) {
         Ok(before) => {
@@ -45,7 +45,7 @@ fn outcome_of(
     served: &str,
 ) -> Result<Outcome, Refusal>
     requires { IsWhole before.now }
-    ensures { IfOk result (IsFrom now before.now state.now) }
+    ensures { IfOk result (IsFrom now before.now state.now served.now) }
 {
     match read_served(alloc, served) {
         Ok(served) => {

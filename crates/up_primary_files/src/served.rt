@@ -1,4 +1,9 @@
 //! What was served to a Primary, as a JSON file.
+ghost use Rattle.std.specs.Prelude.{◌≡◌, IfOk, Ok, codes};
+ghost use Rattle.serde_json.specs.View.{view};
+ghost use Rattle.up_canon.specs.Members.{object_of_map};
+ghost use Rattle.up_primary_files.specs.Served.{texts_in, AreTexts, IsServedBy, IsServed};
+
 use crate::form::{text_or_empty, texts_of_member};
 use crate::reply::read_reply;
 use serde_json::{Map, Value};
@@ -16,7 +21,9 @@ use up_verify::served::Served;
 /// order; `reply`, the Director's; `timestamp`, `snapshot` and `targets`, the Image repository's, each as it came. Where one of
 /// these three is missing, it is taken as an empty text. `NotJson`, `BadShape` with the name of the first member at fault, of the
 /// file and then of the reply, `Memory`.
-pub(crate) fn read_served(alloc: Global, text: &str) -> Result<Served, Refusal> {
+pub(crate) fn read_served(alloc: Global, text: &str) -> Result<Served, Refusal>
+    ensures { IfOk result (IsServed text.now) }
+{
     let value = value_of_text(alloc, text)?;
     let read = served_of(alloc, &value);
     // Dropped by name: at the end of a scope it would be proved part by part.
@@ -24,7 +31,9 @@ pub(crate) fn read_served(alloc: Global, text: &str) -> Result<Served, Refusal> 
     read
 }
 
-fn served_of(alloc: Global, value: &Value) -> Result<Served, Refusal> {
+fn served_of(alloc: Global, value: &Value) -> Result<Served, Refusal>
+    ensures { IfOk result (IsServedBy (view value.now)) }
+{
     let map = object_of(value, "served")?;
     let reply = read_reply(alloc, text_at(map, "reply")?)?;
     match files_at(alloc, map) {
@@ -55,7 +64,11 @@ struct Files {
     image: RoleTexts,
 }
 
-fn files_at(alloc: Global, map: &Map<String, Value>) -> Result<Files, Refusal> {
+fn files_at(alloc: Global, map: &Map<String, Value>) -> Result<Files, Refusal>
+    ensures director { IfOk result (λ f. texts_in (codes "director_roots") (object_of_map map.now.entries) ≡ Ok f.director_roots) }
+    ensures image { IfOk result (λ f. texts_in (codes "image_roots") (object_of_map map.now.entries) ≡ Ok f.image_roots) }
+    ensures files { IfOk result (λ f. AreTexts (object_of_map map.now.entries) f.image) }
+{
     Ok(Files {
         director_roots: texts_of_member(alloc, map, "director_roots")?,
         image_roots: texts_of_member(alloc, map, "image_roots")?,
@@ -63,7 +76,9 @@ fn files_at(alloc: Global, map: &Map<String, Value>) -> Result<Files, Refusal> {
     })
 }
 
-fn image_at(alloc: Global, map: &Map<String, Value>) -> Result<RoleTexts, Refusal> {
+fn image_at(alloc: Global, map: &Map<String, Value>) -> Result<RoleTexts, Refusal>
+    ensures { IfOk result (AreTexts (object_of_map map.now.entries)) }
+{
     Ok(RoleTexts {
         targets: text_or_empty(alloc, map, "targets")?,
         snapshot: text_or_empty(alloc, map, "snapshot")?,
