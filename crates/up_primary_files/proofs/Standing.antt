@@ -7,9 +7,9 @@ within : (text piece part : List ℕ) → StandsIn text piece → StandsIn piece
 within text piece part a b = record {
   before = a.before ++ b.before;
   behind = b.behind ++ a.behind;
-  is = a.is ∙ ap (λ (xs : List ℕ). a.before ++ xs ++ a.behind) b.is
+  is = a.is ∙ ap (λ (xs : List ℕ). a.before ++ (xs ++ a.behind)) b.is
       ∙ ap (λ (xs : List ℕ). a.before ++ xs) (append_assoc b.before (part ++ b.behind) a.behind ∙ ap (λ (xs : List ℕ). b.before ++ xs) (append_assoc part b.behind a.behind))
-      ∙ sym (append_assoc a.before b.before (part ++ b.behind ++ a.behind));
+      ∙ sym (append_assoc a.before b.before (part ++ (b.behind ++ a.behind)));
 }
 
 cut : (text : List ℕ) (from size : ℕ) → StandsIn text (take size (drop from text))

@@ -1,6 +1,7 @@
 -- A state that was read is whole, and what is trusted behind whatever is served makes another.
 use Rattle.std.proofs.Common.{◌≡◌, ℕ, ◌+◌, ◌-◌, ◌<◌, ◌≤◌, zero, suc, List, [], ◌∷◌, Bool, true, false, Option, Some, None, Result, Ok, Err, ◌⊎◌, inl, inr, length, refl, sym, ap, ◌∙◌, subst, arith}
 use Rattle.std.specs.Prelude.{◌&&◌, ◌==◌, codes, if◌then◌else◌, nat_le, nat_lt, slice_get, unwrap_or, IfOk, MatchResult, String, string_bytes}
+use Rattle.std.specs.Global.{Global}
 use Rattle.std.specs.List.{list_all}
 use Rattle.std.proofs.lemmas.Bool.{eqb-true}
 use Rattle.std.proofs.lemmas.Bool.Decides.{nat_tests}
@@ -55,12 +56,16 @@ use Rattle.up_verify.specs.Files.{of_file, check_timestamp, check_snapshot, chec
 use Rattle.up_verify.specs.Roots.{same_keys, same_listing_keys, kept_if, with_root, or_unread, next_root, go_on, follow, unless_expired, latest}
 use Rattle.up_verify.specs.Verifiers.{Verifier}
 use Rattle.up_verify.specs.Verify.{check_reply, director_now, image_now, trusting, check_installs, verify, after}
+use Rattle.up_primary_files.specs.declared.judged.Judged.{Judged}
+use Rattle.up_primary_files.specs.declared.round.Outcome.{Outcome}
 use Rattle.up_primary_files.specs.declared.state.Both.{Both}
 use Rattle.up_primary_files.specs.declared.state.Kept.{Kept}
 use Rattle.up_primary_files.specs.declared.state.Own.{Own}
 use Rattle.up_primary_files.specs.declared.state.RootTexts.{RootTexts}
 use Rattle.up_primary_files.specs.declared.state.State.{State}
 use Rattle.up_primary_files.specs.States.{versions_of, root_of, trust_of, both_of, ecu_of, ecus_of, replaced_of, own_of, primary_of, method_of, held_of, texts_of, kept_of, state_behind, state_of, state_in}
+use Rattle.up_primary_files.specs.Rounds.{IsVerified}
+use Rattle.up_primary_files.specs.Verdicts.{IsJudged, verifier_by}
 use Rattle.up_primary_files.specs.Written.{root_text, state_then, IsTold, ecu_fits, held_fits, IsWhole}
 
 -- ---- a state that was read
@@ -362,3 +367,18 @@ verified_again {A = A} {E = E} laws v now s served next written text whole same 
     let behind = after v s.primary served (verify v now s.primary served) in
     let told : IfOk {T = String A} {E = E} (Ok text) (λ text. IsWhole (state_then s next served) → state_in (string_bytes text) ≡ Ok (state_then s next served)) = subst (λ (r : Result (String A) E). IfOk r (λ text. IsWhole (state_then s next served) → state_in (string_bytes text) ≡ Ok (state_then s next served))) is again in
     subst (λ (p : Primary). IsWhole (state_then s p served) → state_in (string_bytes text) ≡ Ok (state_then s p served)) same told (whole_then laws v now s served whole)
+
+-- What is told of what was judged, with that text as the state's file, is as the definition says.
+pub round_told : {E F : Type 0} → MeaningLaws → (now : ℕ) (s : State) (served : Served) (held : List (List ℕ)) (judged : Judged) (taken : Bool) (text : String Global) (next : Primary) (written : Result (String Global) E) (o : Result Outcome F)
+    → IsWhole s → held ≡ s.held → IsJudged (verifier_by s.method held) now s.primary served judged → judged.is_accepted ≡ taken → judged.told ≡ text → judged.next ≡ next
+    → IfOk written (λ text. IsWhole (state_then s next served) → state_in (string_bytes text) ≡ Ok (state_then s next served))
+    → IfOk o (λ o. (o.is_accepted ≡ taken) × (string_bytes o.told ≡ string_bytes text) × (written ≡ Ok o.state))
+    → IfOk o (IsVerified now s served)
+round_told laws now s served held judged taken text next written (Err e) whole same is a t n again told = told
+round_told laws now s served held judged taken text next written (Ok o) whole same is a t n again told =
+    let j : IsJudged (verifier_by s.method s.held) now s.primary served judged = subst (λ (held : List (List ℕ)). IsJudged (verifier_by s.method held) now s.primary served judged) same is in
+    record {
+      verdict = told.0 ∙ sym a ∙ j.verdict;
+      told = told.1 ∙ ap string_bytes (sym t) ∙ j.told;
+      state = verified_again laws (verifier_by s.method s.held) now s served next written o.state whole (sym n ∙ j.next) again told.2;
+    }

@@ -19,7 +19,7 @@ use Rattle.up_primary_files.specs.declared.reply.Names.{Names}
 pub record StandsIn (text piece : List ℕ) : Type 0 where
   pub before : List ℕ
   pub behind : List ℕ
-  pub is : text ≡ before ++ piece ++ behind
+  pub is : text ≡ before ++ (piece ++ behind)
 
 pub record AllStandIn (text : List ℕ) (files : RoleTexts) : Type 0 where
   pub targets : StandsIn text files.targets

@@ -75,7 +75,6 @@ fn unread(alloc: Global, state: &str, refusal: &Refusal) -> Result<Outcome, Allo
     })
 }
 
-#[tactic(auto, using(crate::proofs::Whole::verified_again))]
 fn verified(alloc: Global, now: u64, before: &State, served: &Served) -> Result<Outcome, AllocError>
     requires { IsWhole before.now }
     ensures { IfOk result (IsVerified now before.now served.now) }
