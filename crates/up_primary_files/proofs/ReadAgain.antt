@@ -24,7 +24,6 @@ use Rattle.up_canon.proofs.JsonTexts.{value_read}
 use Rattle.up_canon.proofs.Lists.{items_listed}
 use Rattle.up_canon.proofs.Members.{text_there, count_there, list_there, object_there, self_there, fits_there, ident_there, within, within_there}
 use Rattle.up_canon.proofs.Steps.{bind-ok, first_ok}
-use Rattle.up_sign.specs.declared.envelope.Envelope.{Envelope}
 use Rattle.up_roles.specs.Payload.{largest_file, file_in}
 use Rattle.up_roles.specs.Root.{root_in}
 use Rattle.up_verify.specs.declared.served.Served.{Served}

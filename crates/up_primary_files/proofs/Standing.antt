@@ -1,5 +1,5 @@
 -- What is cut from a text stands in it.
-use Rattle.std.proofs.Common.{◌≡◌, ℕ, ◌-◌, List, ◌∷◌, ◌++◌, [], length, take, drop, take-append-drop, append_assoc, append-nil, subst, refl, sym, ap, ◌∙◌}
+use Rattle.std.proofs.Common.{◌≡◌, ℕ, ◌-◌, List, ◌∷◌, ◌++◌, [], length, take, drop, take-append-drop, append_assoc, append-nil, subst, sym, ap, ◌∙◌}
 use Rattle.std.specs.Prelude.{slice_range}
 use Rattle.up_primary_files.specs.Served.{StandsIn}
 

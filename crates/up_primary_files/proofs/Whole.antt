@@ -1,22 +1,20 @@
 -- A state that was read is whole, and what is trusted behind whatever is served makes another.
-use Rattle.std.proofs.Common.{◌≡◌, ℕ, ◌+◌, ◌-◌, ◌<◌, ◌≤◌, zero, suc, List, [], ◌∷◌, Bool, true, false, Option, Some, None, Result, Ok, Err, ◌⊎◌, inl, inr, length, refl, sym, ap, ◌∙◌, subst, arith}
-use Rattle.std.specs.Prelude.{◌&&◌, ◌==◌, codes, if◌then◌else◌, nat_le, nat_lt, slice_get, unwrap_or, IfOk, MatchResult, String, string_bytes}
+use Rattle.std.proofs.Common.{◌≡◌, ℕ, ◌+◌, ◌-◌, ◌≤◌, suc, List, [], ◌∷◌, Bool, true, false, Option, Some, None, Result, Ok, Err, ◌⊎◌, inl, inr, length, refl, sym, ap, ◌∙◌, subst, arith}
+use Rattle.std.specs.Prelude.{codes, if◌then◌else◌, nat_le, nat_lt, slice_get, IfOk, MatchResult, String, string_bytes}
 use Rattle.std.specs.Global.{Global}
 use Rattle.std.specs.List.{list_all}
 use Rattle.std.proofs.lemmas.Bool.{eqb-true}
 use Rattle.std.proofs.lemmas.Bool.Decides.{nat_tests}
-use Rattle.hex.specs.Hex.{decode_of, IsBytes}
+use Rattle.hex.specs.Hex.{decode_of}
 use Rattle.hex.proofs.HexLemmas.{decode_of-ok}
 use Rattle.serde_json.specs.Data.{Data}
-use Rattle.serde_json.specs.Read.{read}
 use Rattle.up_canon.specs.Canon.{max_count}
 use Rattle.up_canon.specs.HexText.{hex_of}
-use Rattle.up_canon.specs.Members.{text_in, text_of}
+use Rattle.up_canon.specs.Members.{text_in}
 use Rattle.up_canon.specs.Names.{Name, is_from_to, is_ident}
 use Rattle.up_canon.specs.Readers.{ident_of}
-use Rattle.up_canon.specs.Steps.{◌>>=◌, each, or_error}
+use Rattle.up_canon.specs.Steps.{◌>>=◌, each}
 use Rattle.up_canon.specs.declared.refusal.Refusal.{Refusal}
-use Rattle.up_canon.specs.declared.refusal.Refusal.TheVariants.{NotJson}
 use Rattle.up_canon.proofs.ByteTests.{bytes_tested}
 use Rattle.up_canon.proofs.Members.{count_read, ident_read, fits_read, within, within_there}
 use Rattle.up_canon.proofs.Printable.{both}
@@ -43,7 +41,6 @@ use Rattle.up_verify.specs.declared.refused.Fault.TheVariants.{Expired}
 use Rattle.up_verify.specs.declared.refused.Refused.{Refused}
 use Rattle.up_verify.specs.declared.refused.Role.{Role}
 use Rattle.up_verify.specs.declared.refused.Role.TheVariants.{Root as RootRole}
-use Rattle.up_verify.specs.declared.roots.Followed.{Followed}
 use Rattle.up_verify.specs.declared.served.Accepted.{Accepted}
 use Rattle.up_verify.specs.declared.served.Checked.{Checked}
 use Rattle.up_verify.specs.declared.served.Reply.{Reply}
@@ -55,7 +52,7 @@ use Rattle.up_verify.specs.declared.trust.Versions.{Versions}
 use Rattle.up_verify.specs.Files.{of_file, check_timestamp, check_snapshot, check_targets, check_files}
 use Rattle.up_verify.specs.Roots.{same_keys, same_listing_keys, kept_if, with_root, or_unread, next_root, go_on, follow, unless_expired, latest}
 use Rattle.up_verify.specs.Verifiers.{Verifier}
-use Rattle.up_verify.specs.Verify.{check_reply, director_now, image_now, trusting, check_installs, verify, after}
+use Rattle.up_verify.specs.Verify.{check_reply, director_now, trusting, check_installs, verify, after}
 use Rattle.up_primary_files.specs.declared.judged.Judged.{Judged}
 use Rattle.up_primary_files.specs.declared.round.Outcome.{Outcome}
 use Rattle.up_primary_files.specs.declared.state.Both.{Both}
@@ -63,7 +60,7 @@ use Rattle.up_primary_files.specs.declared.state.Kept.{Kept}
 use Rattle.up_primary_files.specs.declared.state.Own.{Own}
 use Rattle.up_primary_files.specs.declared.state.RootTexts.{RootTexts}
 use Rattle.up_primary_files.specs.declared.state.State.{State}
-use Rattle.up_primary_files.specs.States.{versions_of, root_of, trust_of, both_of, ecu_of, ecus_of, replaced_of, own_of, primary_of, method_of, held_of, texts_of, kept_of, state_behind, state_of, state_in}
+use Rattle.up_primary_files.specs.States.{versions_of, root_of, trust_of, both_of, ecu_of, ecus_of, replaced_of, own_of, primary_of, held_of, texts_of, kept_of, state_behind, state_of, state_in}
 use Rattle.up_primary_files.specs.Rounds.{IsVerified}
 use Rattle.up_primary_files.specs.Verdicts.{IsJudged, verifier_by}
 use Rattle.up_primary_files.specs.Written.{root_text, state_then, IsTold, ecu_fits, held_fits, IsWhole}
@@ -369,16 +366,16 @@ verified_again {A = A} {E = E} laws v now s served next written text whole same 
     subst (λ (p : Primary). IsWhole (state_then s p served) → state_in (string_bytes text) ≡ Ok (state_then s p served)) same told (whole_then laws v now s served whole)
 
 -- What is told of what was judged, with that text as the state's file, is as the definition says.
-pub round_told : {E F : Type 0} → MeaningLaws → (now : ℕ) (s : State) (served : Served) (held : List (List ℕ)) (judged : Judged) (taken : Bool) (text : String Global) (next : Primary) (written : Result (String Global) E) (o : Result Outcome F)
-    → IsWhole s → held ≡ s.held → IsJudged (verifier_by s.method held) now s.primary served judged → judged.is_accepted ≡ taken → judged.told ≡ text → judged.next ≡ next
-    → IfOk written (λ text. IsWhole (state_then s next served) → state_in (string_bytes text) ≡ Ok (state_then s next served))
-    → IfOk o (λ o. (o.is_accepted ≡ taken) × (string_bytes o.told ≡ string_bytes text) × (written ≡ Ok o.state))
+pub round_told : {E F : Type 0} → MeaningLaws → (now : ℕ) (s : State) (served : Served) (held : List (List ℕ)) (judged : Judged) (written : Result (String Global) E) (o : Result Outcome F) → IsWhole s → held ≡ s.held
+    → IsJudged (verifier_by s.method held) now s.primary served judged
+    → IfOk written (λ text. IsWhole (state_then s judged.next served) → state_in (string_bytes text) ≡ Ok (state_then s judged.next served))
+    → IfOk o (λ o. (o.is_accepted ≡ judged.is_accepted) × (string_bytes o.told ≡ string_bytes judged.told) × (written ≡ Ok o.state))
     → IfOk o (IsVerified now s served)
-round_told laws now s served held judged taken text next written (Err e) whole same is a t n again told = told
-round_told laws now s served held judged taken text next written (Ok o) whole same is a t n again told =
+round_told laws now s served held judged written (Err e) whole same is again told = told
+round_told laws now s served held judged written (Ok o) whole same is again told =
     let j : IsJudged (verifier_by s.method s.held) now s.primary served judged = subst (λ (held : List (List ℕ)). IsJudged (verifier_by s.method held) now s.primary served judged) same is in
     record {
-      verdict = told.0 ∙ sym a ∙ j.verdict;
-      told = told.1 ∙ ap string_bytes (sym t) ∙ j.told;
-      state = verified_again laws (verifier_by s.method s.held) now s served next written o.state whole (sym n ∙ j.next) again told.2;
+      verdict = told.0 ∙ j.verdict;
+      told = told.1 ∙ j.told;
+      state = verified_again laws (verifier_by s.method s.held) now s served judged.next written o.state whole j.next again told.2;
     }

@@ -1,5 +1,5 @@
 -- The file of a Primary's state as it is written, and which state it says.
-use Rattle.std.specs.Prelude.{◌≡◌, ℕ, ◌-◌, ◌&&◌, ◌≤◌, List, [], ◌∷◌, Bool, true, nat_le, nat_lt, if◌then◌else◌, IsTrue, Ok, codes, length, map, slice_get, unwrap_or}
+use Rattle.std.specs.Prelude.{◌≡◌, ℕ, ◌-◌, ◌&&◌, ◌≤◌, List, [], ◌∷◌, Bool, nat_le, nat_lt, if◌then◌else◌, IsTrue, Ok, codes, length, map, slice_get, unwrap_or}
 use Rattle.std.specs.List.{list_all}
 use Rattle.serde_json.specs.Data.{Data, string}
 use Rattle.up_canon.specs.Build.{object_with, list_with, count_value, hex_value}
