@@ -35,7 +35,7 @@ use Rattle.up_primary_files.specs.declared.method.Method.{Method}
 use Rattle.up_primary_files.specs.declared.method.Method.TheVariants.{Hmac, Ed25519}
 use Rattle.up_primary_files.specs.declared.state.State.{State}
 use Rattle.up_primary_files.specs.States.{versions_of, root_of, trust_of, both_of, ecu_of, ecus_of, replaced_of, own_of, primary_of, method_of, held_of, texts_of, kept_of, state_behind, state_of, state_in}
-use Rattle.up_primary_files.specs.Written.{method_name, trust_value, ecu_value, state_value, root_text, state_then, IsTold, ecu_fits, held_fits, IsWhole, StatesAreReadAgain}
+use Rattle.up_primary_files.specs.Written.{method_name, trust_value, ecu_value, state_value, root_text, state_then, IsTold, ecu_fits, held_fits, IsWhole}
 
 -- ---- what is trusted
 
@@ -102,7 +102,8 @@ unfolding method_of
 method_again Hmac d has = bind-ok _ _ (codes "hmac-sha256") (text_there (codes "method") d (codes "hmac-sha256") has)
 method_again Ed25519 d has = bind-ok _ _ (codes "ed25519") (text_there (codes "method") d (codes "ed25519") has)
 
-pub states_again : StatesAreReadAgain
+-- a whole state is read again as itself
+pub states_again : (s : State) → IsWhole s → state_of (state_value s) ≡ Ok s
 unfolding state_of state_behind primary_of own_of ecus_of replaced_of both_of kept_of texts_of held_of
 states_again s whole =
     let d = state_value s in

@@ -15,7 +15,6 @@ use Rattle.up_verify.specs.declared.trust.Versions.{Versions}
 use Rattle.up_primary_files.specs.declared.method.Method.{Method}
 use Rattle.up_primary_files.specs.declared.method.Method.TheVariants.{Hmac, Ed25519}
 use Rattle.up_primary_files.specs.declared.state.State.{State}
-use Rattle.up_primary_files.specs.States.{state_of}
 
 -- ---- as JSON
 
@@ -79,7 +78,3 @@ pub record IsWhole (s : State) : Type 0 where
   pub held : IsTrue (list_all held_fits s.held)
   pub director : IsTold s.roots.director s.primary.director
   pub image : IsTold s.roots.image s.primary.image
-
--- such a state is read again as itself
-abbrev pub StatesAreReadAgain : Type 0
-StatesAreReadAgain = (s : State) → IsWhole s → state_of (state_value s) ≡ Ok s
