@@ -4,6 +4,5 @@
 pub mod adopting;
 pub mod causes;
 pub mod closing;
-mod latest_root;
 pub mod opening;
 pub mod schemes;
