@@ -56,13 +56,13 @@ fn stopped_in_turn(
     Ok(places)
 }
 
-/// Says where a stop was: in the first row without an answer, or before or behind all of them.
+/// Says where a stop was: in the row of a number, or before or behind all of them.
 fn push_place(alloc: Global, places: &mut String, before: Before) -> Result<(), AllocError> {
     if !places.is_empty() {
         places.push_str(", ")?;
     }
     if before.asked > before.answered {
-        let place = format!(in alloc; "in row {}", before.answered.saturating_add(1))?;
+        let place = format!(in alloc; "in row {}", before.asked)?;
         return places.push_str(place.as_str());
     }
     places.push_str(if before.answered == 0 {
