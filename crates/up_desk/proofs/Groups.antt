@@ -1,5 +1,5 @@
 -- Commands that share a session, and what its end makes of them.
-use Rattle.std.proofs.Common.{◌≡◌, inr, ℕ, ◌+◌, ◌<◌, ◌≤◌, List, [], ◌∷◌, ◌++◌, Bool, true, false, Option, Some, None, Result, Ok, Err, length, get_or, take, map, append-nil, append_assoc, refl, sym, ap, ap₂, ◌∙◌, subst, arith}
+use Rattle.std.proofs.Common.{◌≡◌, inl, inr, ℕ, ◌+◌, ◌<◌, ◌≤◌, List, [], ◌∷◌, ◌++◌, Bool, true, false, Option, Some, None, Result, Ok, Err, length, get_or, take, map, append-nil, append_assoc, refl, sym, ap, ap₂, ◌∙◌, subst, arith}
 use Rattle.std.proofs.lemmas.List.{take_more, take_all}
 use Rattle.std.specs.Prelude.{◌||◌, ⊤, IfSome, IsTrue, MatchBool, if◌then◌else◌, is_ok}
 use Rattle.std.specs.Borrow.{MutBor}
@@ -25,15 +25,16 @@ use Rattle.up_machine.specs.Sound.{IsSound}
 use Rattle.up_machine.specs.State.{State}
 use Rattle.up_rows.specs.StateRows.{rows_of_state}
 use Rattle.up_tables.specs.Stands.{GoesOn, IfClean, IsInside}
-use Rattle.up_tables.specs.Statements.{IsStep}
+use Rattle.up_tables.specs.Statements.{IsStep, WhereInside}
 use Rattle.up_tables.specs.Tables.{up_schema}
 use Rattle.up_tables.specs.declared.values.StoreFault.{StoreFault}
 use Rattle.up_store.specs.Connections.{KeepsState}
 use Rattle.up_store.specs.Listing.{ListsRows}
+use Rattle.up_store.specs.Within.{EndsWrite}
 use Rattle.up_records.specs.declared.catalog.Catalog.{Catalog}
-use Rattle.up_records.specs.Catalogs.{Fits}
+use Rattle.up_records.specs.Catalogs.{CanDecide, Fits}
 use Rattle.up_records.specs.Connected.{is_fault}
-use Rattle.up_records.specs.Sessions.{IsDecided, SeesOn}
+use Rattle.up_records.specs.Sessions.{IsDecided, SeesOn, SeesState}
 use Rattle.up_records.specs.Standing.{HoldsState, ShowsState, Standing, over}
 use Rattle.up_records.specs.Standing as standing
 use Rattle.up_records.proofs.Sessions.{clean_on, seen_on, sees_both, steps_on}
@@ -42,7 +43,7 @@ use Rattle.up_desk.specs.declared.carried.Carried.TheVariants.{Put, Unchanged}
 use Rattle.up_desk.specs.Carrying.{CarriesOn, EndsCarried, HasPut, LeavesIn}
 use Rattle.up_desk.specs.Groups.{AreIdle, CarriesAll, EndsAll, IsIdle, IsUndone, LeavesAll, as_one, none_lost, told_by}
 use Rattle.up_desk.specs.Runs.{AreCalled, AreOutright, IsAnsweredCommit, ServesEach, StaysOrComesTo, carried_out, outcome_behind, sent}
-use Rattle.up_desk.specs.Serving.{CarriesOut, IsCommit, answer_written, is_failed, outcome_due, outright}
+use Rattle.up_desk.specs.Serving.{CarriesOut, IsCommit, Serves, answer_written, is_failed, outcome_due, outright}
 use Rattle.up_desk.proofs.Carrying.{finished, first, sees, sees_itself}
 use Rattle.up_desk.proofs.Runs.{ListLaws, SoFar, after_unchanged, all_parts, behind_answered, called_so_far, item, outright_next, ran_next, ran_served}
 use Rattle.up_desk.proofs.Serving.{clean_once, done_as, due_is}

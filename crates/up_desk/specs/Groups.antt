@@ -1,5 +1,5 @@
 -- Commands that share a session, and its commit.
-use Rattle.std.specs.Prelude.{◌≡◌, ◌++◌, ℕ, Bool, true, false, if◌then◌else◌, List, map, Option, Some, None, IfSome, OnSome, Result, Ok, Err, IsTrue, MatchBool, is_ok}
+use Rattle.std.specs.Prelude.{◌≡◌, ◌++◌, ℕ, Bool, true, false, if◌then◌else◌, List, map, Option, Some, None, IfSome, OnSome, Result, Ok, Err, IsTrue, MatchBool, ⊤, is_ok}
 use Rattle.std.specs.Borrow.{MutBor}
 use Rattle.std.specs.List.{AllByRecursion}
 use Rattle.sqlite.specs.Held.{Held, state}

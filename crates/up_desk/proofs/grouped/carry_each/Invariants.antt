@@ -1,4 +1,4 @@
-use Rattle.std.proofs.Common.{◌+◌, ◌-◌, ◌≤◌, Some, length, take, vec_len}
+use Rattle.std.proofs.Common.{◌≡◌, ◌+◌, ◌-◌, ◌≤◌, Some, length, take, vec_len}
 use Rattle.std.specs.Prelude.{vec_capacity}
 use Rattle.up_desk.specs.Groups.{CarriesAll}
 use Rattle.up_desk.proofs.grouped.carry_each.Given as goal

@@ -1,7 +1,8 @@
-use Rattle.std.proofs.Common.{◌≡◌, Option, length, take, sym, ap, subst, ◌∙◌}
+use Rattle.std.proofs.Common.{◌≡◌, List, None, Option, length, take, refl, sym, ap, subst, ◌∙◌}
 use Rattle.std.proofs.lemmas.List.{take_at}
 use Rattle.up_records.specs.Standing.{over}
 use Rattle.up_records.specs.declared.catalog.Catalog.{Catalog}
+use Rattle.up_machine.specs.declared.answer.Answer.{Answer}
 use Rattle.up_desk.specs.Groups.{IsUndone}
 use Rattle.up_desk.proofs.Groups.{ended_all}
 use Rattle.up_desk.proofs.Runs.{ListLaws}

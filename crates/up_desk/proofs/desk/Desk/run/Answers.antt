@@ -1,4 +1,4 @@
-use Rattle.std.proofs.Common.{List, ap, subst}
+use Rattle.std.proofs.Common.{◌≡◌, List, ap, subst, ◌∙◌}
 use Rattle.up_machine.specs.declared.answer.Answer.{Answer}
 use Rattle.up_records.specs.Standing.{state}
 use Rattle.up_desk.specs.Groups.{AreCalledOrUndone}
