@@ -9,7 +9,6 @@ pub mod desk;
 mod dispatch;
 pub mod faults;
 mod files;
-mod grouped;
 mod images;
 mod inventory;
 pub mod laws;

@@ -1,3 +1,4 @@
+pub mod Called
 pub mod Fitting
 pub mod Items
 pub mod Shipped

@@ -1,6 +1,6 @@
 //! A section over files of which one stops at each of its calls in turn.
 use crate::stops::cases::{Before, Ended, all_of, so_many};
-use crate::stops::machine::{Machine, NEVER, Stopping, Way, stopping_after};
+use crate::stops::machine::{Machine, NEVER, Stopping, stopping_after};
 use crate::stops::runs::run;
 use sqlite_disk::Crash;
 use std::alloc::{AllocError, Global};
@@ -15,33 +15,20 @@ enum Came {
     Other(String),
 }
 
-/// What is told of a section whose commands are carried out one by one, and then of one run.
+/// What is told of a section over a log that stops and over a database file that does, a line each.
 pub(crate) fn told(alloc: Global, section: &str) -> Result<String, AllocError> {
     let words = section.split_once('\n').unwrap_or((section, "")).0;
-    let apart = told_of(alloc, section, words, Way::Apart)?;
-    let run = format!(in alloc; "{words}, in one run")?;
-    let together = told_of(alloc, section, run.as_str(), Way::Together)?;
-    format!(in alloc; "{}\n{}", apart.as_str(), together.as_str())
-}
-
-/// What is told over a log that stops and over a database file that does, a line each.
-fn told_of(alloc: Global, section: &str, words: &str, way: Way) -> Result<String, AllocError> {
-    let log = stopped_in_turn(alloc, section, Stopping::Log, way)?;
-    let db = stopped_in_turn(alloc, section, Stopping::Database, way)?;
+    let log = stopped_in_turn(alloc, section, Stopping::Log)?;
+    let db = stopped_in_turn(alloc, section, Stopping::Database)?;
     format!(in alloc; "{words}, a log that stops: {log}\n{words}, a database file that stops: {db}")
 }
 
 /// Where there were stops, or what isn't as the section says.
-fn stopped_in_turn(
-    alloc: Global,
-    section: &str,
-    stopping: Stopping,
-    way: Way,
-) -> Result<String, AllocError> {
+fn stopped_in_turn(alloc: Global, section: &str, stopping: Stopping) -> Result<String, AllocError> {
     let mut places = String::new(alloc);
     let mut last = so_many(NEVER as usize, 0);
     for calls in 0..NEVER {
-        match stopped_after(alloc, section, stopping, way, calls)? {
+        match stopped_after(alloc, section, stopping, calls)? {
             Came::Stop(before) => {
                 if before != last {
                     push_place(alloc, &mut places, before)?;
@@ -77,10 +64,9 @@ fn stopped_after(
     alloc: Global,
     section: &str,
     stopping: Stopping,
-    way: Way,
     calls: u64,
 ) -> Result<Came, AllocError> {
-    let mut machine = stopping_after(alloc, stopping, way, calls);
+    let mut machine = stopping_after(alloc, stopping, calls);
     what_came(alloc, &mut machine, section)
 }
 

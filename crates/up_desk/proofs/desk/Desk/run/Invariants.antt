@@ -2,7 +2,7 @@ use Rattle.std.proofs.Common.{◌≡◌, ◌+◌, ◌-◌, ◌≤◌, length, ta
 use Rattle.std.specs.Prelude.{vec_capacity}
 use Rattle.up_records.specs.Standing.{state}
 use Rattle.up_desk.proofs.Runs.{SoFar}
-use Rattle.up_desk.proofs.desk.Desk.run_apart.Given as goal
+use Rattle.up_desk.proofs.desk.Desk.run.Given as goal
 
 -- the commands so far have run, with the answers so far, and there is room for the others
 abbrev pub invariant-loop-item : goal.invariant-loop-item
