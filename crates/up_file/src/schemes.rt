@@ -4,7 +4,8 @@ ghost use Rattle.sqlite.specs.Held.{state};
 ghost use Rattle.up_roles.specs.Root.{root_in};
 ghost use Rattle.up_roles.specs.declared.repository.Repository.TheVariants.{Director};
 ghost use Rattle.up_rows.specs.Lookups.{text_held};
-ghost use Rattle.up_file.specs.Schemes.{Answers, AnswersKeys, IsRead, are_keys_of, is_by, is_root_by, is_role_by};
+ghost use Rattle.up_store.specs.Connections.{Answers};
+ghost use Rattle.up_file.specs.Schemes.{AnswersKeys, IsRead, are_keys_of, is_by, is_root_by, is_role_by};
 ghost use Rattle.up_tables.specs.declared.values.StoreFault.TheVariants as StoreFault;
 
 use sqlite::{Alter, Connection};
@@ -28,8 +29,10 @@ pub fn has_keys_of<D: Alter>(
     ensures told { AnswersKeys method.now (state D.Store conn.old) (state D.Store conn.new) result }
     ensures read { IsRead (state D.Store conn.old) (state D.Store conn.new) }
 {
-    let found = latest_root(alloc, conn)?;
-    told(are_of(alloc, method, &found))
+    match latest_root(alloc, conn) {
+        Ok(found) => told(are_of(alloc, method, &found)),
+        Err(fault) => Err(fault),
+    }
 }
 
 /// The text of the latest Root of the Director, none where nothing is founded. The database stays as it is, and so does one of

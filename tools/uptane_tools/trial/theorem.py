@@ -30,8 +30,10 @@ from uptane_tools.trial.trials import TOP
 PAGE = TOP / "docs" / "trust" / "THEOREM.md"
 HEADLINE = ("crates/up_desk/src/desk.rt", "run")
 # the same over fresh tables, whose statements have nothing of the inside
-FRESH = "crates/up_shipped/src/fresh.rt", ["run_fresh", "script_fresh", "stream_fresh"]
+FRESH = "crates/up_shipped/src/fresh.rt", ["run_fresh", "script_fresh"]
 LAWS = "crates/up_uptane/src/laws.rt"
+# to these definitions no contract leads, but proofs, or nothing yet
+OF_PROOFS = {"up_records": "FindsSuch IsThere"}
 # the law of the scheme that a desk is over, by the bound of its type
 BOUND = TOP / "crates" / "up_sign" / "src" / "scheme.rt"
 QUOTE = re.compile(r"^<!-- (quote|example) (\S+) (\w+) -->\n\n((?:    .*\n|\n(?=    ))*)",
