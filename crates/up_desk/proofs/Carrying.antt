@@ -38,18 +38,22 @@ use Rattle.up_store.proofs.Ended.{Puts, as_before, within}
 use Rattle.up_records.specs.declared.catalog.Catalog.{Catalog}
 use Rattle.up_records.specs.Catalogs.{CanDecide, Fits}
 use Rattle.up_records.specs.Connected.{DiskFailed, is_fault, is_store, refusal_told}
-use Rattle.up_records.specs.Sessions.{DecidesOn, SeesState}
+use Rattle.up_records.specs.Sessions.{DecidesOn, SeesOn, SeesState}
 use Rattle.up_records.specs.Standing.{HoldsState, ShowsState, over}
 use Rattle.up_records.specs.Standing as standing
 use Rattle.up_records.proofs.NeverStore.{NeverStore}
 use Rattle.up_records.proofs.Reading.{failed_told}
 use Rattle.up_records.proofs.SentBy.{due}
-use Rattle.up_records.proofs.Sessions.{clean_on, seen_on, steps_on}
+use Rattle.up_records.proofs.Sessions.{clean_on, none_on, seen_on, steps_on}
 use Rattle.up_records.proofs.Writing.{WillWrite}
 use Rattle.up_desk.specs.declared.carried.Carried.{Carried}
 use Rattle.up_desk.specs.declared.carried.Carried.TheVariants.{Put, Unchanged}
 use Rattle.up_desk.specs.Carrying.{CarriesOn, EndsCarried, HasPut, IsDropped, LeavesIn, carried_put}
 use Rattle.up_desk.specs.Serving.{CarriesOut, IsBlamed, IsCommit, RefusesOutcome, Serves, answer_written, is_failed}
+
+told_fault : (f : StoreFault) → is_fault (refusal_told f) ≡ true
+told_fault fault.Memory = refl
+told_fault fault.Store = refl
 
 store_told : (f : StoreFault) → refusal_told f ≡ Store → f ≡ fault.Store
 store_told fault.Memory is = cc
@@ -76,9 +80,10 @@ module _ {S R : Type 0} (g : Ghosts S) (k : Rules) {known : State → Type 0} {g
       given = given;
       none = none s;
       computed_is = is s (it.decided clean s sound (knows s fits) sees);
-      tables = seen_on k s (it.sees clean tt) sees;
+      sees = it.sees clean tt;
       memory = fit.fits clean s sees fits;
     };
+    goes = λ clean ok was. (it.sees clean tt).mode ∙ was;
     blame = λ clean s sound sees fits next_sound. tt;
     can = fit.can;
     step = it.step;
@@ -87,14 +92,15 @@ module _ {S R : Type 0} (g : Ghosts S) (k : Rules) {known : State → Type 0} {g
   -- it is refused, or lost
   pub refused_with : {r : Refusal} → DecidesOn g k known gives rule old new (Err r) → CarriesOn g k rule old new kept left (Err r)
   refused_with {r} it = record {
-    leaves = λ clean s sound sees fits. record { due = told_due s (is_fault r) (λ no. seen_on k s (it.sees clean no) sees) (it.decided clean s sound (knows s fits) sees); memory = fit.fits clean s sees fits };
+    leaves = λ clean s sound sees fits. record { due = told_due s (is_fault r) (it.sees clean) (it.decided clean s sound (knows s fits) sees); memory = fit.fits clean s sees fits };
+    goes = λ clean no was. (it.sees clean no).mode ∙ was;
     blame = λ clean s sound sees fits next_sound store is_open unlimited. inl (failed s (is_fault r) refl store (it.decided clean s sound (knows s fits) sees) is_open unlimited);
     can = fit.can;
     step = it.step;
   }
     where
-      told_due : (s : State) (b : Bool) → (b ≡ false → SeesState k s (state g new.now)) → MatchBool b (r ≡ Store → DiskFailed (state g old.now) (state g new.now)) (rule s ≡ Err r)
-          → MatchBool b ⊤ ((rule s ≡ Err r) × SeesState k s (state g new.now))
+      told_due : (s : State) (b : Bool) → (b ≡ false → SeesOn (state g old.now) (state g new.now)) → MatchBool b (r ≡ Store → DiskFailed (state g old.now) (state g new.now)) (rule s ≡ Err r)
+          → MatchBool b ⊤ ((rule s ≡ Err r) × SeesOn (state g old.now) (state g new.now))
       told_due s true sees h = tt
       told_due s false sees h = (h, sees refl)
 
@@ -106,6 +112,7 @@ module _ {S R : Type 0} (g : Ghosts S) (k : Rules) {known : State → Type 0} {g
   pub lost_with : {x : R} → DecidesOn g k known gives rule old new (Ok x) → CarriesOn g k rule old new kept left (Err Memory)
   lost_with it = record {
     leaves = λ clean s sound sees fits. record { due = tt; memory = fit.fits clean s sees fits };
+    goes = λ clean no. absurd (let it : true ≡ false = no in cc);
     blame = λ clean s sound sees fits next_sound store. absurd (let no : Memory ≡ Store = store in cc);
     can = fit.can;
     step = it.step;
@@ -127,25 +134,41 @@ module _ {S R : Type 0} (g : Ghosts S) (k : Rules) {gives : State → Result R R
 pub of_rule : {S : Type 0} (g : Ghosts S) (k : Rules) {rule other : State → Result Outcome Refusal} {old new : MutBor (Held S)} {kept left : Option Catalog} {r : Result Carried Refusal} → ((s : State) → rule s ≡ other s)
     → CarriesOn g k rule old new kept left r → CarriesOn g k other old new kept left r
 of_rule g k {rule} {other} {old} {new} {kept} {left} {r} same it = record {
-  leaves = λ clean s sound sees fits. subst (LeavesIn k s (state g new.now) left r) (same s) (it.leaves clean s sound sees fits);
+  leaves = λ clean s sound sees fits. subst (LeavesIn k s (state g old.now) (state g new.now) left r) (same s) (it.leaves clean s sound sees fits);
+  goes = it.goes;
   blame = λ clean s sound sees fits. subst (λ o. IsSound k (outcome_of s o).next → IfErr r (λ q. q ≡ Store → IsBlamed k s (state g old.now) (state g new.now) (outcome_of s o))) (same s) (it.blame clean s sound sees fits);
   can = it.can;
   step = it.step;
+}
+
+pub sees_itself : (s : Connected) → SeesOn s s
+sees_itself s = record { mode = refl; same = λ is_open. (is_open, refl); still = λ was_open. was_open }
+
+-- what is refused with nothing asked of the session
+pub refused_unread_in : {S : Type 0} (g : Ghosts S) (k : Rules) (kept : Option Catalog) {rule : State → Result Outcome Refusal} {old : MutBor (Held S)} {r : Refusal} → IfClean IsInside (state g old.now) → ((s : State) → rule s ≡ Err r) → is_fault r ≡ false
+    → CarriesOn g k rule old old kept kept (Err r)
+refused_unread_in g k kept {rule} {old} {r} inside is fault = record {
+  leaves = λ clean s sound sees fits. record { due = due (is_fault r) _ (is s, sees_itself (state g old.now)); memory = fits };
+  goes = λ clean no was. was;
+  blame = λ clean s sound sees fits next_sound store. absurd (let no : true ≡ false = sym (ap is_fault store) ∙ fault in cc);
+  can = λ can. can;
+  step = (none_on g {rules = λ _. ⊤} inside).step;
 }
 
 -- what a first step refuses that reads nothing, unless memory was refused
 pub refused_early : {S A : Type 0} (g : Ghosts S) (k : Rules) (kept : Option Catalog) (m : Result A Refusal) (f : State → A → Result Outcome Refusal) {old : MutBor (Held S)} {r : Refusal} → IsStep g old old → NeverStore m
     → MatchBool (is_memory r) ⊤ (m ≡ Err r) → CarriesOn g k (λ s. and_then m (f s)) old old kept kept (Err r)
 refused_early g k kept m f {old} {r} step never is = record {
-  leaves = λ clean s sound sees fits. record { due = by_memory s sees (is_memory r) refl is; memory = fits };
+  leaves = λ clean s sound sees fits. record { due = by_memory s (is_memory r) refl is; memory = fits };
+  goes = λ clean no was. was;
   blame = λ clean s sound sees fits next_sound store. absurd (by_store (is_memory r) refl is store);
   can = λ can. can;
   step = step;
 }
   where
-    by_memory : (s : State) → SeesState k s (state g old.now) → (b : Bool) → is_memory r ≡ b → MatchBool b ⊤ (m ≡ Err r) → MatchBool (is_fault r) ⊤ ((and_then m (f s) ≡ Err r) × SeesState k s (state g old.now))
-    by_memory s sees true memory h = subst (λ b. MatchBool b ⊤ ((and_then m (f s) ≡ Err r) × SeesState k s (state g old.now))) (sym (ap (λ (b : Bool). b || is_store r) memory)) tt
-    by_memory s sees false memory h = due (is_fault r) _ (bind-err m (f s) r h, sees)
+    by_memory : (s : State) → (b : Bool) → is_memory r ≡ b → MatchBool b ⊤ (m ≡ Err r) → MatchBool (is_fault r) ⊤ ((and_then m (f s) ≡ Err r) × SeesOn (state g old.now) (state g old.now))
+    by_memory s true memory h = subst (λ b. MatchBool b ⊤ ((and_then m (f s) ≡ Err r) × SeesOn (state g old.now) (state g old.now))) (sym (ap (λ (b : Bool). b || is_store r) memory)) tt
+    by_memory s false memory h = due (is_fault r) _ (bind-err m (f s) r h, sees_itself (state g old.now))
 
     by_store : (b : Bool) → is_memory r ≡ b → MatchBool b ⊤ (m ≡ Err r) → r ≡ Store → ⊥
     by_store true memory h store = let no : true ≡ false = sym memory ∙ ap is_memory store in cc
@@ -223,12 +246,14 @@ module _ {S R : Type 0} (g : Ghosts S) (k : Rules) {known : State → Type 0} {g
           moved = moves s sound gave same;
           same = same;
         };
+    goes = λ clean ok was. two.step.inside clean;
     blame = λ clean s sound sees fitting next_sound. tt;
     can = fit.can;
     step = step two;
   }
   by_put (Err f) two = record {
     leaves = λ clean s sound sees fitting. record { due = failed_told (refusal_told f) f _ refl; memory = fit.fits (before two clean) s sees fitting };
+    goes = λ clean no. absurd (let it : true ≡ false = sym (told_fault f) ∙ no in cc);
     blame = λ clean s sound sees fitting next_sound store. refused_one f two clean s sound sees fitting next_sound (store_told f store);
     can = fit.can;
     step = step two;
@@ -259,7 +284,7 @@ module _ {S : Type 0} (g : Ghosts S) (k : Rules) (viewed old : Held S) (tx mid :
     went : Steps (state g (record old { in_transaction = true })) (state g mid.now)
     went = subst (λ h. Steps (state g h) (state g mid.now)) began it.step.steps
 
-    first : HasCleanDisk (state g mid.now) → HasCleanDisk (state g old)
+    pub first : HasCleanDisk (state g mid.now) → HasCleanDisk (state g old)
     first then = let is : HasCleanDisk (state g old) = omega (arith, went.survives.clean) in is
 
     survived : (P Q : Trees → Type 0) → Survives (state g mid.now) (state g last) Q → (HasCleanDisk (state g last) → (db : Trees) → Q db → P db) → Survives (state g old) (state g last) P
@@ -275,10 +300,10 @@ module _ {S : Type 0} (g : Ghosts S) (k : Rules) (viewed old : Held S) (tx mid :
         by_cause (inr refuses) = inr refuses
 
     module _ (s : State) (sound : IsSound k s) (was : standing.IfClean (ShowsState k s) (over g old kept)) where
-      sees : HasCleanDisk (state g mid.now) → SeesState k s (state g tx.now)
+      pub sees : HasCleanDisk (state g mid.now) → SeesState k s (state g tx.now)
       sees then = subst (λ h. SeesState k s (state g h)) (sym began) (record { mode = refl; here = (was (first then)).tables.here })
 
-      comes : HasCleanDisk (state g mid.now) → LeavesIn k s (state g mid.now) left c (rule s)
+      comes : HasCleanDisk (state g mid.now) → LeavesIn k s (state g tx.now) (state g mid.now) left c (rule s)
       comes then = it.leaves then s sound (sees then) (was (first then)).memory
 
       -- where the transaction is undone the tables show the state
@@ -311,7 +336,7 @@ module _ {S : Type 0} (g : Ghosts S) (k : Rules) (viewed old : Held S) (tx mid :
             blamed it s (outcome_of s (rule s)) ends.survives (it.blame then s sound (sees it s sound was then) (was (first it then)).memory next_sound store);
       }
     where
-      alone : (b : Bool) → MatchBool b ⊤ ((rule s ≡ Err r) × SeesState k s (state g mid.now)) → MatchBool b ⊤ (rule s ≡ Err r)
+      alone : (b : Bool) → MatchBool b ⊤ ((rule s ≡ Err r) × SeesOn (state g tx.now) (state g mid.now)) → MatchBool b ⊤ (rule s ≡ Err r)
       alone true h = tt
       alone false h = h.0
 

@@ -8,5 +8,6 @@ pub mod Serving
 pub mod Outlasting
 pub mod Calls
 pub mod Runs
+pub mod Groups
 pub mod Commits
 pub mod Again

@@ -24,25 +24,18 @@ use Rattle.up_records.specs.Standing.{Standing, HasCleanDisk, IfClean, ShowsStat
 use Rattle.up_desk.specs.Serving.{IsCommit, is_failed, IsAnswered, outright}
 use Rattle.up_records.specs.Standing.{HoldsState}
 use Rattle.up_desk.specs.Calls.{CommitsCall, IsCalled, IsServed, ServesCall, SparesCall}
-use Rattle.up_desk.specs.Runs.{AreCalled, AreOutright, AreNeighbours, timed, sent, unless_failed, IsRun, outcome_behind, ComesTo, SparesCalls, IsAnsweredCommit, StaysOrComesTo, OutlastsCalls, CommitsCalls}
-
--- the calls one after another, of which some may be lost
-abbrev pub Ran : Rules → State → List (ℕ × Command) → List Answer → State → Type 0
-Ran k old [] [] new = new ≡ old
-Ran k old [] (a ∷ answers) new = ⊥
-Ran k old (c ∷ cs) [] new = ⊥
-Ran k old (c ∷ cs) (a ∷ answers) new = (mid : State) × IsAnswered a old mid (serve k old c.0 c.1) × IsTrue (is_command c.1) × Ran k mid cs answers new
+use Rattle.up_desk.specs.Runs.{AreCalled, AreOutright, AreNeighbours, timed, sent, unless_failed, IsRun, outcome_behind, ServesEach, carried_out, ComesTo, SparesCalls, IsAnsweredCommit, StaysOrComesTo, OutlastsCalls, CommitsCalls}
 
 -- ---- one more call
 
-ran_next : (k : Rules) (old : State) (cs : List (ℕ × Command)) (answers : List Answer) (mid : State) (c : ℕ × Command) (a : Answer) (new : State)
-    → Ran k old cs answers mid → IsAnswered a mid new (serve k mid c.0 c.1) → IsTrue (is_command c.1) → Ran k old (cs ++ c ∷ []) (answers ++ a ∷ []) new
+pub ran_next : (k : Rules) (old : State) (cs : List (ℕ × Command)) (answers : List Answer) (mid : State) (c : ℕ × Command) (a : Answer) (new : State)
+    → ServesEach k old cs answers mid → IsAnswered a mid new (serve k mid c.0 c.1) → IsTrue (is_command c.1) → ServesEach k old (cs ++ c ∷ []) (answers ++ a ∷ []) new
 ran_next k old [] [] mid c a new ran is fits = (new, subst (λ s. IsAnswered a s new (serve k s c.0 c.1)) ran is, fits, refl)
 ran_next k old [] (b ∷ answers) mid c a new ran is fits = absurd ran
 ran_next k old (d ∷ cs) [] mid c a new ran is fits = absurd ran
 ran_next k old (d ∷ cs) (b ∷ answers) mid c a new ran is fits = (ran.0, ran.1, ran.2, ran_next k ran.0 cs answers mid c a new ran.3 is fits)
 
-outright_next : (k : Rules) (cs : List (ℕ × Command)) (answers : List Answer) (c : ℕ × Command) (a : Answer) → AreOutright k cs answers
+pub outright_next : (k : Rules) (cs : List (ℕ × Command)) (answers : List Answer) (c : ℕ × Command) (a : Answer) → AreOutright k cs answers
     → IfSome (outright k c.0 c.1) (λ r. a ≡ Refused r) → AreOutright k (cs ++ c ∷ []) (answers ++ a ∷ [])
 outright_next k [] [] c a all due = (due, tt)
 outright_next k [] (b ∷ answers) c a all due = absurd all
@@ -51,7 +44,7 @@ outright_next k (d ∷ cs) (b ∷ answers) c a all due = (all.0, outright_next k
 
 -- ---- the whole list
 
-abbrev item : Bool → ℕ × Command → Sent
+abbrev pub item : Bool → ℕ × Command → Sent
 item lost c = record { item = timed c; lost = lost }
 
 record IsRunBy (k : Rules) (old : State) (c : ℕ × Command) (a : Answer) (lost : Bool) (ms : List Sent) (answers : List Answer) (new : State) : Type 0 where
@@ -70,13 +63,13 @@ by_loss k old mid new c a ms answers false is told state = record {
   state = state ∙ ap (λ (s : State). after k s ms) is.1;
 }
 
-record IsServedAll (k : Rules) (old : State) (cs : List (ℕ × Command)) (answers : List Answer) (new : State) : Type 0 where
-  count : length answers ≡ length cs
-  told : map unless_failed answers ≡ expected k old (sent cs answers)
-  state : new ≡ after k old (sent cs answers)
-  fits : AreCommands (sent cs answers)
+pub record IsServedAll (k : Rules) (old : State) (cs : List (ℕ × Command)) (answers : List Answer) (new : State) : Type 0 where
+  pub count : length answers ≡ length cs
+  pub told : map unless_failed answers ≡ expected k old (sent cs answers)
+  pub state : new ≡ after k old (sent cs answers)
+  pub fits : AreCommands (sent cs answers)
 
-ran_served : (k : Rules) (old : State) (cs : List (ℕ × Command)) (answers : List Answer) (new : State) → Ran k old cs answers new → IsServedAll k old cs answers new
+pub ran_served : (k : Rules) (old : State) (cs : List (ℕ × Command)) (answers : List Answer) (new : State) → ServesEach k old cs answers new → IsServedAll k old cs answers new
 ran_served k old [] [] new ran = record { count = refl; told = refl; state = ran; fits = tt }
 ran_served k old [] (a ∷ answers) new ran = absurd ran
 ran_served k old (c ∷ cs) [] new ran = absurd ran
@@ -105,9 +98,12 @@ last_of {A} (z ∷ zs) = by_rest (last_of zs)
     by_rest (inl none) = inr ([], z, ap (λ (l : List A). z ∷ l) none)
     by_rest (inr (ys, y, is)) = inr (z ∷ ys, y, ap (λ (l : List A). z ∷ l) is)
 
-all_split : {A : Type 0} (P : A → Type 0) (xs ys : List A) (y : A) → AllByRecursion P (xs ++ y ∷ ys) → AllByRecursion P xs × P y
-all_split P [] ys y all = (tt, all.0)
-all_split P (x ∷ xs) ys y all = let rest = all_split P xs ys y all.1 in ((all.0, rest.0), rest.1)
+pub all_parts : {A : Type 0} (P : A → Type 0) (xs ys : List A) → AllByRecursion P (xs ++ ys) → AllByRecursion P xs × AllByRecursion P ys
+all_parts P [] ys all = (tt, all)
+all_parts P (x ∷ xs) ys all = let rest = all_parts P xs ys all.1 in ((all.0, rest.0), rest.1)
+
+longer : {A : Type 0} (xs ys zs : List A) (x : A) → xs ++ ys ++ zs ++ x ∷ [] ≡ xs ++ ys ++ (zs ++ x ∷ [])
+longer xs ys zs x = append_assoc (xs ++ ys) zs (x ∷ [])
 
 sent_next : (k : Rules) (cs : List (ℕ × Command)) (answers : List Answer) (c : ℕ × Command) (a : Answer) → AreOutright k cs answers
     → sent (cs ++ c ∷ []) (answers ++ a ∷ []) ≡ sent cs answers ++ item (is_failed a) c ∷ []
@@ -141,7 +137,7 @@ met_unchanged k s m h = met_by k s s m m.lost refl (by_fault m.lost)
     by_fault true = refl
     by_fault false = h
 
-after_unchanged : (k : Rules) (s : State) (ms : List Sent) → AllByRecursion (λ n. (serve k s n.item.at n.item.command).next ≡ s) ms → after k s ms ≡ s
+pub after_unchanged : (k : Rules) (s : State) (ms : List Sent) → AllByRecursion (λ n. (serve k s n.item.at n.item.command).next ≡ s) ms → after k s ms ≡ s
 after_unchanged k s [] all = refl
 after_unchanged k s (m ∷ ms) all = ap (λ t. after k t ms) (met_unchanged k s m all.0) ∙ after_unchanged k s ms all.1
 
@@ -150,7 +146,7 @@ after_unchanged k s (m ∷ ms) all = ap (λ t. after k t ms) (met_unchanged k s 
 -- the commands have run, over a clean disk: from each state that the tables showed
 abbrev RunsFrom : Rules → Standing → Standing → List (ℕ × Command) → List Answer → Type 0
 RunsFrom k old new cs answers =
-    HasCleanDisk new → (s : State) → IsSound k s → IfClean (ShowsState k s) old → (next : State) × Ran k s cs answers next × IsSound k next × ShowsState k next new
+    HasCleanDisk new → (s : State) → IsSound k s → IfClean (ShowsState k s) old → (next : State) × ServesEach k s cs answers next × IsSound k next × ShowsState k next new
 
 runs_next : (k : Rules) (old mid new : Standing) (cs : List (ℕ × Command)) (c : ℕ × Command) (answers : List Answer) (a : Answer)
     → RunsFrom k old mid cs answers → (HasCleanDisk new → HasCleanDisk mid) → ServesCall k c.0 c.1 a mid new → IsTrue (is_command c.1) → RunsFrom k old new (cs ++ c ∷ []) (answers ++ a ∷ [])
@@ -164,7 +160,7 @@ record Between (k : Rules) (s : State) (mid : Standing) (cs : List (ℕ × Comma
   at : State
   sound : IsSound k at
   shown : IfClean (ShowsState k at) mid
-  ran : HasCleanDisk mid → Ran k s cs answers at
+  ran : HasCleanDisk mid → ServesEach k s cs answers at
 
 between : (k : Rules) (old mid : Standing) (cs : List (ℕ × Command)) (answers : List Answer) → RunsFrom k old mid cs answers → (s : State) → IsSound k s → IfClean (ShowsState k s) old
     → Between k s mid cs answers
@@ -186,12 +182,12 @@ spares_next k old mid new cs c answers a far runs due clean spares = λ s sound 
     (λ trees. (at : State) × ComesTo k s (sent (cs ++ c ∷ []) (answers ++ a ∷ [])) at × HoldsState k at trees)
     (λ now trees h. (
       h.0,
-      (h.1.0, h.1.1 ++ x ∷ [], h.1.2, more ∙ ap (λ (l : List Sent). l ++ x ∷ []) h.1.3 ∙ append_assoc h.1.0 (h.1.2 ∷ h.1.1) (x ∷ []), h.1.4),
+      (h.1.0, h.1.1, h.1.2 ++ x ∷ [], more ∙ ap (λ (l : List Sent). l ++ x ∷ []) h.1.3 ∙ longer h.1.0 h.1.1 h.1.2 x, h.1.4),
       h.2,
     ))
     (λ now trees holds. (
       (serve k b.at c.0 c.1).next,
-      (sent cs answers, [], x, more, ap (λ (t : State). (serve k t c.0 c.1).next) (ran_served k s cs answers b.at (b.ran (clean now))).state),
+      (sent cs answers, x ∷ [], [], more ∙ sym (append-nil (sent cs answers ++ x ∷ [])), ap (λ (t : State). (serve k t c.0 c.1).next) (ran_served k s cs answers b.at (b.ran (clean now))).state),
       holds,
     ))
     (far s sound was) (spares b.at b.sound b.shown)
@@ -199,7 +195,7 @@ spares_next k old mid new cs c answers a far runs due clean spares = λ s sound 
 -- ---- what was answered stays
 
 -- the state after the commands behind one that was answered
-behind_answered : (k : Rules) (s : State) (before rest : List Sent) (m : Sent) → m.lost ≡ false → after k s (before ++ m ∷ rest) ≡ after k (outcome_behind k s before m).next rest
+pub behind_answered : (k : Rules) (s : State) (before rest : List Sent) (m : Sent) → m.lost ≡ false → after k s (before ++ m ∷ rest) ≡ after k (outcome_behind k s before m).next rest
 behind_answered k s before rest m answered =
     after_append k s before (m ∷ rest) ∙ ap (λ (t : State). after k t rest) (met_by k (after k s before) (outcome_behind k s before m).next m false answered refl)
 
@@ -221,7 +217,7 @@ commit_last k s at next c a ms mid new here told answered commit commits sound s
 comes_on : (k : Rules) (s : State) (ys rest : List Sent) (y : Sent) (at : State) → rest ≡ ys ++ y ∷ [] → StaysOrComesTo k s ys at → StaysOrComesTo k s rest at
 comes_on k s ys rest y at is (inl same) = inl same
 comes_on k s ys rest y at is (inr it) =
-    inr (it.0, it.1 ++ y ∷ [], it.2, is ∙ ap (λ (l : List Sent). l ++ y ∷ []) it.3 ∙ append_assoc it.0 (it.2 ∷ it.1) (y ∷ []), it.4)
+    inr (it.0, it.1, it.2 ++ y ∷ [], is ∙ ap (λ (l : List Sent). l ++ y ∷ []) it.3 ∙ longer it.0 it.1 it.2 y, it.4)
 
 -- a crash behind a commit and one more call
 stays_next : (k : Rules) (s at : State) (ys rest : List Sent) (y : Sent) (c : ℕ × Command) (mid new : Standing) → rest ≡ ys ++ y ∷ [] → (serve k at c.0 c.1).next ≡ (outcome_behind k s ys y).next
@@ -231,7 +227,7 @@ stays_next k s at ys rest y c mid new is made before spares now = λ trees left.
   where
     by_call : (trees : Trees) → mid.connection.may_leave trees ⊎ HoldsState k (serve k at c.0 c.1).next trees → (t : State) × StaysOrComesTo k s rest t × HoldsState k t trees
     by_call trees (inl earlier) = let it = before trees earlier in (it.0, comes_on k s ys rest y it.0 is it.1, it.2)
-    by_call trees (inr holds) = ((serve k at c.0 c.1).next, inr (ys, [], y, is, made), holds)
+    by_call trees (inr holds) = ((serve k at c.0 c.1).next, inr (ys, y ∷ [], [], is ∙ sym (append-nil (ys ++ y ∷ [])), made), holds)
 
 -- what stays of each commit behind one more call
 outlasts_next : (k : Rules) (old mid new : Standing) (cs : List (ℕ × Command)) (c : ℕ × Command) (answers : List Answer) (a : Answer)
@@ -265,12 +261,20 @@ outlasts_next k old mid new cs c answers a far runs due clean serves spares comm
         (far s sound was before ys m (record { list = ends.0; answered = made.answered; commit = made.commit }) (clean now))
         (spares b.at b.sound b.shown) now
 
+-- whether or not their answers were lost
+carried_unchanged : (k : Rules) (s : State) (ms : List Sent) → AllByRecursion (λ n. (serve k s n.item.at n.item.command).next ≡ s) ms
+    → AllByRecursion (λ n. (serve k s n.item.at n.item.command).next ≡ s) (map carried_out ms)
+carried_unchanged k s [] all = tt
+carried_unchanged k s (m ∷ ms) all = (all.0, carried_unchanged k s ms all.1)
+
 -- commands that change nothing come to nothing else
 unmoved : (k : Rules) (s : State) (ms : List Sent) (at : State) → AllByRecursion (λ n. (serve k s n.item.at n.item.command).next ≡ s) ms → StaysOrComesTo k s ms at → at ≡ s
 unmoved k s ms at all (inl same) = same
 unmoved k s ms at all (inr it) =
-    let quiet = all_split (λ (n : Sent). (serve k s n.item.at n.item.command).next ≡ s) it.0 it.1 it.2 (subst (λ (l : List Sent). AllByRecursion (λ (n : Sent). (serve k s n.item.at n.item.command).next ≡ s) l) it.3 all) in
-    it.4 ∙ ap (λ (t : State). (serve k t it.2.item.at it.2.item.command).next) (after_unchanged k s it.0 quiet.0) ∙ quiet.1
+    let P = λ (n : Sent). (serve k s n.item.at n.item.command).next ≡ s in
+    let quiet = all_parts P it.0 it.1 (all_parts P (it.0 ++ it.1) it.2 (subst (λ (l : List Sent). AllByRecursion P l) it.3 all)).0 in
+    it.4 ∙ ap (λ (t : State). after k t (map carried_out it.1)) (after_unchanged k s it.0 quiet.0)
+    ∙ after_unchanged k s (map carried_out it.1) (carried_unchanged k s it.1 quiet.1)
 
 -- where behind a commit no command changes the state, it is that after the whole list
 pub last_stays : (k : Rules) (old new : Standing) (cs : List (ℕ × Command)) (answers : List Answer) → OutlastsCalls k cs answers old new → CommitsCalls k cs answers old new
@@ -354,7 +358,7 @@ swapped laws k old cs answers new whole before rest m n there =
           (sym (whole.told ∙ ap (λ (ms : List Sent). expected k old ms) there.list)) swap.1,
     )
 
-ran_all : (laws : ListLaws) (k : Rules) (old : State) (cs : List (ℕ × Command)) (answers : List Answer) (new : State) → IsSound k old → Ran k old cs answers new
+pub ran_all : (laws : ListLaws) (k : Rules) (old : State) (cs : List (ℕ × Command)) (answers : List Answer) (new : State) → IsSound k old → ServesEach k old cs answers new
     → IsRun k old cs answers new
 ran_all laws k old cs answers new sound ran =
     let whole = ran_served k old cs answers new ran in
@@ -373,16 +377,19 @@ ran_all laws k old cs answers new sound ran =
     }
 
 -- over the store, the answers and the state that the tables show then
+pub called_so_far : (laws : ListLaws) (k : Rules) (old new : Standing) (cs : List (ℕ × Command)) (held answers : List Answer) → SoFar k old new cs held answers → AreCalled k cs held answers old new
+called_so_far laws k old new cs held answers whole = record {
+  told = whole.given;
+  appended = whole.items;
+  outright = whole.due;
+  ran = λ now s sound was.
+      let it = whole.runs now s sound was in
+      (it.0, ran_all laws k s cs whole.given it.0 sound it.1, it.2, it.3);
+  crash = whole.spares;
+  lasts = whole.outlasts;
+}
+
 pub run_whole : (laws : ListLaws) (k : Rules) (old new : Standing) (cs : List (ℕ × Command)) (i : ℕ) (held answers : List Answer) → length cs ≤ i → SoFar k old new (take i cs) held answers
     → AreCalled k cs held answers old new
 run_whole laws k old new cs i held answers all far =
-    let whole : SoFar k old new cs held answers = subst (λ (xs : List (ℕ × Command)). SoFar k old new xs held answers) (take_all i cs all) far in record {
-      told = whole.given;
-      appended = whole.items;
-      outright = whole.due;
-      ran = λ now s sound was.
-          let it = whole.runs now s sound was in
-          (it.0, ran_all laws k s cs whole.given it.0 sound it.1, it.2, it.3);
-      crash = whole.spares;
-      lasts = whole.outlasts;
-    }
+    called_so_far laws k old new cs held answers (subst (λ (xs : List (ℕ × Command)). SoFar k old new xs held answers) (take_all i cs all) far)

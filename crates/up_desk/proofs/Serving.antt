@@ -206,7 +206,7 @@ by_loss k s at c r false h =
     let is : serve k s at c ≡ record { answer = Refused r; next = s } = due_is k s at c ∙ ap (outcome_of s) h in
     (sym (ap (λ (o : Outcome). o.answer) is), sym (ap (λ (o : Outcome). o.next) is))
 
-done_as : (k : Rules) (s next : State) (at : ℕ) (c : Command) (a : Answer) → serve k s at c ≡ record { answer = a; next = next }
+pub done_as : (k : Rules) (s next : State) (at : ℕ) (c : Command) (a : Answer) → serve k s at c ≡ record { answer = a; next = next }
     → (b : Bool) → b ≡ false → MatchBool b (next ≡ s) ((a ≡ (serve k s at c).answer) × (next ≡ (serve k s at c).next))
 done_as k s next at c a is true h = cc
 done_as k s next at c a is false h = (sym (ap (λ (o : Outcome). o.answer) is), sym (ap (λ (o : Outcome). o.next) is))

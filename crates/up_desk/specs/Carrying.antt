@@ -13,7 +13,7 @@ use Rattle.up_machine.specs.Machine.{outcome_of}
 use Rattle.up_machine.specs.Sound.{IsSound}
 use Rattle.up_machine.specs.State.{State}
 use Rattle.up_rows.specs.StateRows.{rows_of_state}
-use Rattle.up_tables.specs.Stands.{GoesOn, IfClean}
+use Rattle.up_tables.specs.Stands.{GoesOn, IfClean, IsInside}
 use Rattle.up_tables.specs.Statements.{IsStep, WhereInside}
 use Rattle.up_tables.specs.Tables.{up_schema}
 use Rattle.up_tables.specs.declared.values.StoreFault.{StoreFault}
@@ -22,7 +22,7 @@ use Rattle.up_store.specs.Within.{EndsWrite}
 use Rattle.up_records.specs.declared.catalog.Catalog.{Catalog}
 use Rattle.up_records.specs.Catalogs.{CanDecide, Fits}
 use Rattle.up_records.specs.Connected.{is_fault, refusal_told}
-use Rattle.up_records.specs.Sessions.{SeesState}
+use Rattle.up_records.specs.Sessions.{IsDecided, SeesOn, SeesState}
 use Rattle.up_desk.specs.declared.carried.Carried.{Carried}
 use Rattle.up_desk.specs.declared.carried.Carried.TheVariants.{Put, Unchanged}
 use Rattle.up_desk.specs.Serving.{IsBlamed, IsCommit, answer_written, is_failed}
@@ -30,11 +30,11 @@ use Rattle.up_desk.specs.Serving.{IsBlamed, IsCommit, answer_written, is_failed}
 -- ---- within a session
 
 -- the answer is due and changes nothing, and what is kept in memory is of the state
-pub record IsUnchanged (k : Rules) (s : State) (new : Connected) (kept : Option Catalog) (answer : Answer) (computed : Result Outcome Refusal) : Type 0 where
+pub record IsUnchanged (s : State) (old new : Connected) (kept : Option Catalog) (answer : Answer) (computed : Result Outcome Refusal) : Type 0 where
   pub given : is_failed answer ≡ false
   pub none : IsCommit s answer s → ⊥
   pub computed_is : computed ≡ Ok (record { answer = answer; next = s })
-  pub tables : SeesState k s new
+  pub sees : SeesOn old new
   pub memory : Fits s kept
 
 -- the answer is due, the rows of the next state are put, and what is kept in memory is of both, since the commit may fail
@@ -47,20 +47,22 @@ pub record HasPut (k : Rules) (s : State) (new : Connected) (kept : Option Catal
   pub same : Fits s kept
 
 -- the refusal is due and changes nothing, or a fault is told
-pub record IsRefused (k : Rules) (s : State) (new : Connected) (kept : Option Catalog) (r : Refusal) (computed : Result Outcome Refusal) : Type 0 where
-  pub due : MatchBool (is_fault r) ⊤ ((computed ≡ Err r) × SeesState k s new)
+pub record IsRefused (s : State) (old new : Connected) (kept : Option Catalog) (r : Refusal) (computed : Result Outcome Refusal) : Type 0 where
+  pub due : MatchBool (is_fault r) ⊤ ((computed ≡ Err r) × SeesOn old new)
   pub memory : Fits s kept
 
-abbrev pub LeavesIn : Rules → State → Connected → Option Catalog → Result Carried Refusal → Result Outcome Refusal → Type 0
-LeavesIn k s new kept (Ok (Unchanged answer)) computed = IsUnchanged k s new kept answer computed
-LeavesIn k s new kept (Ok (Put answer)) computed = HasPut k s new kept answer computed
-LeavesIn k s new kept (Err r) computed = IsRefused k s new kept r computed
+abbrev pub LeavesIn : Rules → State → Connected → Connected → Option Catalog → Result Carried Refusal → Result Outcome Refusal → Type 0
+LeavesIn k s old new kept (Ok (Unchanged answer)) computed = IsUnchanged s old new kept answer computed
+LeavesIn k s old new kept (Ok (Put answer)) computed = HasPut k s new kept answer computed
+LeavesIn k s old new kept (Err r) computed = IsRefused s old new kept r computed
 
 -- a command by this rule, from each sound state that the session sees and of which the catalog is
 pub record CarriesOn {S : Type 0} (g : Ghosts S) (k : Rules) (rule : State → Result Outcome Refusal) (old new : MutBor (Held S)) (kept left : Option Catalog)
     (result : Result Carried Refusal) : Type 0 where
   pub leaves : HasCleanDisk (state g new.now) → (s : State) → IsSound k s → SeesState k s (state g old.now) → Fits s kept
-      → LeavesIn k s (state g new.now) left result (rule s)
+      → LeavesIn k s (state g old.now) (state g new.now) left result (rule s)
+  -- unless a fault is told the transaction goes on
+  pub goes : HasCleanDisk (state g new.now) → IsDecided result → IsInside (state g old.now) → IsInside (state g new.now)
   -- where the next state is sound, `Store` is told only where the disk or the database is to blame
   pub blame : HasCleanDisk (state g new.now) → (s : State) → IsSound k s → SeesState k s (state g old.now) → Fits s kept
       → IsSound k (outcome_of s (rule s)).next

@@ -5,4 +5,5 @@ pub mod Deciding
 pub mod Desks
 pub mod Calls
 pub mod Runs
+pub mod Groups
 pub mod Laws

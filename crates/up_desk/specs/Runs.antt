@@ -1,5 +1,5 @@
 -- Lists of commands, answered one after another.
-use Rattle.std.specs.Prelude.{◌≡◌, ◌≢◌, ◌⊎◌, ℕ, false, List, [], ◌∷◌, ◌++◌, Option, Some, None, if◌then◌else◌, map, length, ⊤, IfSome}
+use Rattle.std.specs.Prelude.{◌≡◌, ◌≢◌, ◌⊎◌, ℕ, false, List, [], ◌∷◌, ◌++◌, Option, Some, None, if◌then◌else◌, map, length, ⊤, IfSome, IsTrue}
 use Rattle.std.specs.FinMap as table
 use Rattle.std.specs.List.{AllByRecursion}
 use Rattle.up_canon.specs.Names.{Name}
@@ -7,6 +7,7 @@ use Rattle.up_sign.specs.Schemes.{Rules}
 use Rattle.up_machine.specs.declared.command.Command.{Command}
 use Rattle.up_machine.specs.declared.answer.Answer.{Answer}
 use Rattle.up_machine.specs.declared.answer.Answer.TheVariants.{Refused}
+use Rattle.up_machine.specs.Commands.{is_command}
 use Rattle.up_machine.specs.State.{State}
 use Rattle.up_machine.specs.Machine.{Timed, run}
 use Rattle.up_machine.specs.Deciding.{Outcome}
@@ -14,7 +15,7 @@ use Rattle.up_machine.specs.Repeats.{Sent, serve, after, thinned, expected, not_
 use Rattle.up_machine.specs.ApartLaws.{AreExchanged}
 use Rattle.up_machine.specs.Sound.{IsSound}
 use Rattle.up_records.specs.Standing.{Standing, HasCleanDisk, IfClean, ShowsState, Survives, LeavesOnly}
-use Rattle.up_desk.specs.Serving.{IsCommit, is_failed, outright, RepliesStay}
+use Rattle.up_desk.specs.Serving.{IsAnswered, IsCommit, is_failed, outright, RepliesStay}
 use Rattle.up_records.specs.Standing.{HoldsState}
 
 -- a command with its moment
@@ -26,6 +27,13 @@ abbrev pub sent : List (ℕ × Command) → List Answer → List Sent
 sent [] answers = []
 sent (c ∷ cs) [] = []
 sent (c ∷ cs) (a ∷ answers) = record { item = timed c; lost = is_failed a } ∷ sent cs answers
+
+-- the commands one after another, each answered as the plain machine does, or lost
+abbrev pub ServesEach : Rules → State → List (ℕ × Command) → List Answer → State → Type 0
+ServesEach k old [] [] new = new ≡ old
+ServesEach k old [] (a ∷ answers) new = ⊥
+ServesEach k old (c ∷ cs) [] new = ⊥
+ServesEach k old (c ∷ cs) (a ∷ answers) new = (mid : State) × IsAnswered a old mid (serve k old c.0 c.1) × IsTrue (is_command c.1) × ServesEach k mid cs answers new
 
 -- the answer, unless the command failed
 abbrev pub unless_failed : Answer → Option Answer
@@ -75,9 +83,14 @@ RunsCalls k cs answers old new =
 abbrev pub outcome_behind : Rules → State → List Sent → Sent → Outcome
 outcome_behind k s before m = serve k (after k s before) m.item.at m.item.command
 
--- the state after some of the first commands: one of them was carried out, if only its answer was lost, and those before it as they were answered
+-- a command that was carried out, if only its answer was lost
+abbrev pub carried_out : Sent → Sent
+carried_out m = record { item = m.item; lost = false }
+
+-- the state after some of the first commands: those that were answered, and behind them some that were carried out in one transaction, if only
+-- their answers were lost
 abbrev pub ComesTo : Rules → State → List Sent → State → Type 0
-ComesTo k s ms at = (before rest : List Sent) × (m : Sent) × (ms ≡ before ++ m ∷ rest) × (at ≡ (outcome_behind k s before m).next)
+ComesTo k s ms at = (before lost rest : List Sent) × (ms ≡ before ++ lost ++ rest) × (at ≡ after k (after k s before) (map carried_out lost))
 
 -- only a fault of the disk shuts the connection, and a crash leaves what it could leave before the list, or the state after some of the first
 -- commands

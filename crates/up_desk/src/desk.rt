@@ -1,5 +1,5 @@
 //! The two repositories under one scheme.
-ghost use Rattle.std.specs.Prelude.{◌≡◌, ◌+◌, ◌<◌, length, vec_capacity, vec_len, OnOk, OnErr, IsTrue};
+ghost use Rattle.std.specs.Prelude.{◌≡◌, ◌+◌, ◌<◌, ◌≤◌, length, vec_capacity, vec_len, OnOk, OnErr, IsTrue, MatchBool, ⊤};
 ghost use Rattle.std.specs.List.{AllByRecursion};
 ghost use Rattle.up_machine.specs.Commands.{opens_running};
 ghost use Rattle.up_machine.specs.Reads.{ecus_of as ecus_in, version_of as version_in, installed as installed_in};
@@ -7,10 +7,12 @@ ghost use Rattle.up_machine.specs.Reads.{assigned_to};
 ghost use Rattle.up_machine.specs.Rows.{vehicle_rows};
 ghost use Rattle.up_desk.specs.Calls.{IsCalled};
 ghost use Rattle.up_desk.specs.Desks.{Views};
+ghost use Rattle.up_desk.specs.Groups.{AreCalledOrUndone};
 ghost use Rattle.up_desk.specs.Runs.{AreCalled};
 ghost use Rattle.up_records.specs.Standing.{bare, state};
 
 use crate::dispatch::{answer_of, dispatch, keeps_limits};
+use crate::grouped::run_group;
 use sqlite::Alter;
 use std::alloc::{AllocError, Global};
 use std::marker::Model;
@@ -103,8 +105,9 @@ impl<K: Scheme, D: Alter> Desk<K, D> {
     /// without these, and each command that didn't fail has the expected answer; each kept reply stays. Only a fault of the
     /// disk shuts the connection. A crash leaves what it could leave before, or the state after some of the first commands. What
     /// was answered stays: behind each commit that was answered (`Done`, or a reply to a newly accepted manifest) a crash leaves
-    /// the state behind it, or the one after some of the commands that follow. An error means that nothing was done, and comes
-    /// only where there was no room for the answers: of no commands never.
+    /// the state behind it, or the one after some of the commands that follow. Two commands or more share a commit: where one of
+    /// them fails, or the commit, all of it is undone, and each is carried out by itself. An error means that nothing was done, and
+    /// comes only where there was no room for the answers: of no commands never.
     pub fn run(
         &mut self,
         alloc: Global,
@@ -118,16 +121,54 @@ impl<K: Scheme, D: Alter> Desk<K, D> {
             × (vec_capacity answers.old < vec_len answers.old + length commands.now)) }
         ensures scheme { self.new.scheme ≡ self.old.scheme }
     {
+        answers.reserve(commands.len())?;
+        // A command by itself isn't tried twice.
+        let alone = commands.len() < 2;
+        if alone {
+            self.run_apart(alloc, commands, answers);
+            return Ok(());
+        }
+        let together = self.run_together(alloc, commands, answers);
+        if together {
+            return Ok(());
+        }
+        self.run_apart(alloc, commands, answers);
+        Ok(())
+    }
+
+    /// Answers commands in one session with one commit, or all of it is undone.
+    fn run_together(
+        &mut self,
+        alloc: Global,
+        commands: &[(u64, Command)],
+        answers: &mut Vec<Answer>,
+    ) -> bool
+        requires running { AllByRecursion (λ c. IsTrue (opens_running c.1)) commands.now }
+        requires room { vec_len answers.old + length commands.now ≤ vec_capacity answers.old }
+        ensures ends { AreCalledOrUndone (K.rules self.old.scheme) commands.now answers.old.items answers.new.items
+            (state D.Store self.old.store) (state D.Store self.new.store) result }
+        ensures room { MatchBool result ⊤ (vec_len answers.new + length commands.now ≤ vec_capacity answers.new) }
+        ensures scheme { self.new.scheme ≡ self.old.scheme }
+    {
+        run_group(&mut self.records, alloc, &self.scheme, commands, answers)
+    }
+
+    /// Answers commands each in its own session.
+    fn run_apart(&mut self, alloc: Global, commands: &[(u64, Command)], answers: &mut Vec<Answer>)
+        requires running { AllByRecursion (λ c. IsTrue (opens_running c.1)) commands.now }
+        requires room { vec_len answers.old + length commands.now ≤ vec_capacity answers.old }
+        ensures ran { AreCalled (K.rules self.old.scheme) commands.now answers.old.items answers.new.items
+            (state D.Store self.old.store) (state D.Store self.new.store) }
+        ensures scheme { self.new.scheme ≡ self.old.scheme }
+    {
         repeats_change_nothing();
         kept_replies_stay();
         vehicles_stand_apart();
-        answers.reserve(commands.len())?;
         for item in commands {
             keeps_limits(&item.1);
             let answer = self.call(alloc, item.0, &item.1);
             answers.push(answer).unwrap();
         }
-        Ok(())
     }
 
     /// The rows of a vehicle and its ECUs in inventory order, none of an unknown vehicle: all that is read of it at once, but for

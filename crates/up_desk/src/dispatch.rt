@@ -61,7 +61,7 @@ pub fn dispatch<K: Scheme, D: Alter>(
 }
 
 /// The refusal of a command in time that is told before anything is read.
-fn outright<K: Scheme>(scheme: &K, command: &Command) -> Option<Refusal>
+pub fn outright<K: Scheme>(scheme: &K, command: &Command) -> Option<Refusal>
     ensures { result ≡ outright_in_time (K.rules scheme.now) command.now }
 {
     match command {
@@ -107,7 +107,7 @@ fn run<K: Scheme, D: Alter>(
 }
 
 /// What it comes to within its session.
-fn carry<K: Scheme, D: Alter>(
+pub fn carry<K: Scheme, D: Alter>(
     tx: &mut Transaction<'_, D>,
     catalog: &mut Option<Catalog>,
     keys: &mut KeyCache,

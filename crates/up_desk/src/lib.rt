@@ -9,6 +9,7 @@ pub mod desk;
 mod dispatch;
 pub mod faults;
 mod files;
+mod grouped;
 mod images;
 mod inventory;
 pub mod laws;

@@ -2,4 +2,6 @@ pub mod Adopted
 pub mod AsBefore
 pub mod Asked
 pub mod Closed
+pub mod KeysTold
+pub mod OldFiles
 pub mod TakenFor

@@ -5,13 +5,16 @@ use Rattle.sqlite.specs.State.{State, HasCleanDisk, Survives}
 use Rattle.sqlite.specs.Effect.{Database}
 use Rattle.sqlite.specs.Schema.{Schema}
 use Rattle.sqlite.specs.Tree.{Trees}
-use Rattle.up_tables.specs.Tables.{no_schema, up_schema}
+use Rattle.up_tables.specs.Tables.{no_schema}
 use Rattle.up_tables.specs.declared.open.OpenFault.{OpenFault}
 use Rattle.up_tables.specs.declared.open.OpenFault.TheVariants.{NotOurs, Store}
+use Rattle.up_tables.specs.declared.open.SchemaVersion.{SchemaVersion}
+use Rattle.up_tables.specs.declared.open.SchemaVersion.TheVariants.{One, Two, Three}
+use Rattle.up_tables.specs.Versions.{schema_of}
 use Rattle.up_tables.specs.Making.{FailsToMake}
 use Rattle.up_tables.specs.Stands.{IfClean, IsAsCommitted, HasNoTables}
 use Rattle.up_rows.specs.StateRows.{StateRows}
-use Rattle.up_store.specs.Connections.{KeepsRows, MadeIn}
+use Rattle.up_store.specs.Connections.{KeepsAs, MadeIn}
 use Rattle.up_store.specs.Opening.{Creates, FailsToCreate}
 use Rattle.up_file.specs.Adopting.{AdoptedIn, FailsToTake, RefusesDatabase, TakesDatabase}
 use Rattle.up_file.specs.Schemes.{IsRead, IsRefused, IsTakenFor, TellKeys}
@@ -28,12 +31,18 @@ made_taken old new h = record {
   crash = λ clean db may. elim (h.crash clean db may) [ inl was ↦ inl was | inr made ↦ inr (inr made) ];
 }
 
+-- a schema of some version has tables
+has_tables : (version : SchemaVersion) → length (schema_of version).tables ≡ length no_schema.tables → ⊥
+has_tables One same = cc
+has_tables Two same = cc
+has_tables Three same = cc
+
 -- tables that list rows aren't none
-never_none : (old mid : State) (rows : StateRows) → IsAsCommitted old mid → HasNoTables mid → KeepsRows rows old → ⊥
-never_none old mid rows kept none listed =
+never_none : (old mid : State) (version : SchemaVersion) (rows : StateRows) → IsAsCommitted old mid → HasNoTables mid → KeepsAs version rows old → ⊥
+never_none old mid version rows kept none listed =
     let was = kept.was_open none.is_open in
-    let same : up_schema ≡ no_schema = sym (listed.here was).schema_is ∙ ap (λ (d : Database). d.schema) (listed.committed was) ∙ sym (ap (λ (d : Database). d.schema) (kept.undone none.is_open).1) ∙ none.schema_is in
-    absurd (let no : length up_schema.tables ≡ length no_schema.tables = ap (λ (s : Schema). length s.tables) same in cc)
+    let same : schema_of version ≡ no_schema = sym (listed.here was).schema_is ∙ ap (λ (d : Database). d.schema) (listed.committed was) ∙ sym (ap (λ (d : Database). d.schema) (kept.undone none.is_open).1) ∙ none.schema_is in
+    has_tables version (ap (λ (s : Schema). length s.tables) same)
 
 -- ---- behind a read, what was told of adopting or making
 
@@ -57,10 +66,10 @@ module _ {A C : Type 0} (of_conn : C → State) (shown : A → State) (method : 
     read = read;
     taken = λ clean. inr (record { empty = made.empty clean; made = made.made clean; durable = made.durable clean });
     crash = made_taken (of_conn mid) (shown x) made.crash;
-    keys = λ clean rows listed.
+    keys = λ clean version rows listed.
         let between : HasCleanDisk (of_conn mid) = omega (arith, clean, made.crash.clean) in
         let before : HasCleanDisk old = omega (arith, between, read.survives.clean) in
-        absurd (never_none old (of_conn mid) rows (read.kept between) (made.empty clean) (listed before));
+        absurd (never_none old (of_conn mid) version rows (read.kept between) (made.empty clean) (listed before));
   }
   made_ok (Err e) made = tt
 

@@ -1,5 +1,5 @@
 -- A file belongs to one scheme of signatures: the keys of its roles are of one method.
-use Rattle.std.specs.Prelude.{◌≡◌, ◌⊎◌, ◌&&◌, false, ℕ, List, Bool, true, bytes_eq, Option, None, Some, Result, Ok, Err, codes}
+use Rattle.std.specs.Prelude.{◌≡◌, ◌⊎◌, ◌&&◌, false, ℕ, List, Bool, true, bytes_eq, Option, None, Some, Result, Ok, Err, IfOk, codes}
 use Rattle.std.specs.List.{list_all}
 use Rattle.sqlite.specs.State.{State, HasCleanDisk, Survives}
 use Rattle.up_canon.specs.declared.refusal.Refusal.{Refusal}
@@ -10,9 +10,10 @@ use Rattle.up_roles.specs.declared.repository.Repository.TheVariants.{Director}
 use Rattle.up_rows.specs.Lookups.{text_held}
 use Rattle.up_sign.specs.declared.envelope.Envelope.{Envelope}
 use Rattle.up_rows.specs.StateRows.{StateRows, no_rows}
-use Rattle.up_store.specs.Connections.{Answers, HoldsRows, KeepsRows}
+use Rattle.up_store.specs.Connections.{HoldsRows, KeepsAs, KeepsRows}
 use Rattle.up_tables.specs.declared.open.OpenFault.{OpenFault}
 use Rattle.up_tables.specs.declared.open.OpenFault.TheVariants.{Store}
+use Rattle.up_tables.specs.declared.open.SchemaVersion.{SchemaVersion}
 use Rattle.up_tables.specs.Making.{FailsToMake}
 use Rattle.up_tables.specs.Stands.{IfClean, IsAsCommitted, HasNoTables, LeavesOnly}
 use Rattle.up_file.specs.Adopting.{AdoptedIn, FailsToTake, IsAdopted}
@@ -36,11 +37,17 @@ abbrev pub are_keys_of : List ℕ → Option (List ℕ) → Bool
 are_keys_of method None = true
 are_keys_of method (Some text) = is_by method (root_in text)
 
--- whatever rows the tables list, the keys of the Director's latest Root are, or are not, of the method
+-- whatever rows the tables of a version of the schema list, the keys of the Director's latest Root are, or are not, of the method
 abbrev pub TellKeys : List ℕ → Bool → State → Type 0
-TellKeys method are s = (rows : StateRows) → IfClean (KeepsRows rows) s → are_keys_of method (text_held rows Director (codes "root.json")) ≡ are
+TellKeys method are s =
+    (version : SchemaVersion) (rows : StateRows) → IfClean (KeepsAs version rows) s → are_keys_of method (text_held rows Director (codes "root.json")) ≡ are
 
--- what is answered is told by the Director's latest Root
+-- what is answered is told by the rows that the tables of a version list
+abbrev pub Answers : {A E : Type 0} → (StateRows → A) → State → State → Result A E → Type 0
+Answers told old new result =
+    HasCleanDisk new → IfOk result (λ found. (version : SchemaVersion) (rows : StateRows) → IfClean (KeepsAs version rows) old → found ≡ told rows)
+
+-- by the Director's latest Root
 abbrev pub AnswersKeys : {E : Type 0} → List ℕ → State → State → Result Bool E → Type 0
 AnswersKeys method = Answers (λ rows. are_keys_of method (text_held rows Director (codes "root.json")))
 

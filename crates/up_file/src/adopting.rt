@@ -58,8 +58,7 @@ fn or_made<
     ensures told { TakesOrMakes (A.post adopter conn) (M.post maker) result }
 {
     match adopter(conn) {
-        Ok(store) => Ok(store),
         Err((conn, OpenFault::NotOurs)) => maker(conn),
-        Err((conn, fault)) => Err((conn, fault)),
+        told => told,
     }
 }

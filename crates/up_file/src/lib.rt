@@ -4,5 +4,6 @@
 pub mod adopting;
 pub mod causes;
 pub mod closing;
+mod latest_root;
 pub mod opening;
 pub mod schemes;

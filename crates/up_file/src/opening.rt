@@ -43,10 +43,8 @@ pub fn open_files<S: Start>(
     let mut opener = |start: S|
         ensures { IfOk result AreFresh }
     { sqlite_std_file::open(rt, path, start) };
-    match open_named(path, start, &mut maker, &mut opener) {
-        Ok(files) => Ok((files, state.hash_one(&0u8))),
-        Err(cause) => Err(cause),
-    }
+    let files = open_named(path, start, &mut maker, &mut opener)?;
+    Ok((files, state.hash_one(&0u8)))
 }
 
 /// A connection over files that `open_files` gave, with the number that came with them: the log's salts are drawn from it. Where the database file
@@ -87,10 +85,8 @@ fn open_named<
     if names_no_file(path) {
         return Err(Unopened::Path);
     }
-    match made(maker()) {
-        Ok(()) => opened(opener(start)),
-        Err(cause) => Err(cause),
-    }
+    made(maker())?;
+    opened(opener(start))
 }
 
 /// Whether the path is that of a database in memory, or a URI.

@@ -1,21 +1,16 @@
 //! Whose keys a database has: a file belongs to one scheme of signatures.
-ghost use Rattle.std.specs.Prelude.{◌≡◌, Bool, false, IfOk, IfErr, Ok, Err, codes};
+ghost use Rattle.std.specs.Prelude.{◌≡◌, Bool, false, IfOk, IfErr, Ok, Err};
 ghost use Rattle.sqlite.specs.Held.{state};
 ghost use Rattle.up_roles.specs.Root.{root_in};
-ghost use Rattle.up_roles.specs.declared.repository.Repository.TheVariants.{Director};
-ghost use Rattle.up_rows.specs.Lookups.{text_held};
-ghost use Rattle.up_store.specs.Connections.{Answers};
 ghost use Rattle.up_file.specs.Schemes.{AnswersKeys, IsRead, are_keys_of, is_by, is_root_by, is_role_by};
 ghost use Rattle.up_tables.specs.declared.values.StoreFault.TheVariants as StoreFault;
 
+use crate::latest_root::latest_root;
 use sqlite::{Alter, Connection};
 use std::alloc::{AllocError, Global};
-use up_canon::file_name::FileName;
 use up_canon::refusal::Refusal;
 use up_canon::text::Text;
-use up_roles::repository::Repository;
 use up_roles::root::{RoleKeys, RootFile, read_root};
-use up_store::roots::find_file;
 use up_store::store::StoreFault;
 
 /// Whether all keys in the Director's latest Root are of the method: where nothing is founded, or what stands there is no Root,
@@ -29,36 +24,8 @@ pub fn has_keys_of<D: Alter>(
     ensures told { AnswersKeys method.now (state D.Store conn.old) (state D.Store conn.new) result }
     ensures read { IsRead (state D.Store conn.old) (state D.Store conn.new) }
 {
-    match latest_root(alloc, conn) {
-        Ok(found) => told(are_of(alloc, method, &found)),
-        Err(fault) => Err(fault),
-    }
-}
-
-/// The text of the latest Root of the Director, none where nothing is founded. The database stays as it is, and so does one of
-/// an older schema. `Store` where it has no table of files, or no such.
-fn latest_root<D: Alter>(
-    alloc: Global,
-    conn: &mut Connection<D>,
-) -> Result<Option<Text>, StoreFault>
-    requires { (state D.Store conn.old).in_transaction ≡ false }
-    ensures told { Answers (λ rows. text_held rows Director (codes "root.json"))
-        (state D.Store conn.old) (state D.Store conn.new) result }
-    ensures read { IsRead (state D.Store conn.old) (state D.Store conn.new) }
-{
-    let mut tx = conn.transaction();
-    let name = latest_name(alloc)?;
-    find_file(&mut tx, alloc, Repository::Director, &name)
-}
-
-/// The filename of the latest Root.
-fn latest_name(alloc: Global) -> Result<FileName, StoreFault>
-    ensures { IfOk result (λ name. name ≡ codes "root.json") }
-{
-    match FileName::new("root.json".to_string(alloc)?) {
-        Some(name) => Ok(name),
-        None => Err(StoreFault::Store),
-    }
+    let found = latest_root(alloc, conn)?;
+    told(are_of(alloc, method, &found))
 }
 
 /// Whether all keys in that text of a Root are of the method, where there is one.

@@ -1,9 +1,10 @@
 -- How far a run has come, step by step.
 use Rattle.std.proofs.Common.{OnOk, IfErr, ◌-◌, ◌≡◌, ◌⊎◌, inl, inr, ℕ, suc, ◌+◌, ◌*◌, ◌<◌, ◌≤◌, Bool, true, false, List, [], ◌∷◌, ◌++◌, length, take, drop, filter, Result, Ok, Err, refl, sym, ap, ◌∙◌, subst, arith, append_assoc, append-nil, length-append}
-use Rattle.std.specs.Prelude.{Option, Some, None, IfSome}
+use Rattle.std.specs.Prelude.{Option, Some, None, IfSome, IsErrAnd}
 use Rattle.std.specs.Io.KnownBytes.{Appends, Consumes, IsAtEnd}
 use Rattle.std.proofs.KnownBytes.{Appends-nil, Appends-trans}
 use Rattle.std.proofs.lemmas.List.Elements.{filter-append}
+use Rattle.std.proofs.lemmas.Result.{err_from_is_err_and}
 use Rattle.std.proofs.Math.Seq.{take-take, drop-drop, take-add}
 use Rattle.up_http.specs.Requests.{First, Firsts, most_requests, most_request}
 use Rattle.up_http.specs.Feeding.{Waits}
@@ -11,7 +12,7 @@ use Rattle.up_lines.specs.Runs.{At, BreaksOff, HasRead, LastRead, Run, listed, w
 use Rattle.up_lines.specs.declared.fault.ScriptCause.TheVariants as why
 use Rattle.up_http.specs.Serving.{Gives, plain, is_call, calls, cause_of, IsBegun, AreFirst, WantsMore, Tells, Stopped, FinishedRequests, RanRequests, RunsRequests, AnswersFirst, most_bytes, piece_bytes}
 use Rattle.up_http.specs.Talks.{silent}
-use Rattle.up_http.specs.Steps.{IsQuiet, Sofar, Takes, Stops, Unanswered, Completes, told, fault_at}
+use Rattle.up_http.specs.Steps.{AnswersNext, IsQuiet, Sofar, Takes, TakesStep, Stops, Unanswered, Completes, told, fault_at}
 use Rattle.up_http.specs.declared.asked.Next.{Next}
 use Rattle.up_http.specs.declared.fault.Fault.{Fault}
 use Rattle.up_http.specs.declared.fault.ServeFault.{ServeFault}
@@ -250,6 +251,26 @@ module _ {S : Type 0} (gives : Gives S) where
       stopped came old (came ++ []) true (Some next) (fault_at cause new) first before after so (old.talk.fed.rest, before_it, begun)
       (tells_unanswered cause next before after (came ++ []) true so.done old.talk.fed.rest before_it some broke) called answered (broke_off cause next before after broke)
 
+  -- so it is told, however the request that is cut short was answered
+  pub ends_answered : (old mid new : Progress) (next : Next) (before after : At S) (failed can_write : Type 0) (r : Result (Unit {0}) Fault) → old.talk.fed.ended ≡ false
+      → 0 < length old.talk.fed.rest → First old.talk.fed.given old.talk.fed.rest next [] → next.last ≡ true
+      → mid.called ≡ old.called → mid.answered ≡ old.answered → AnswersNext gives next mid before new after failed can_write r
+      → TakesStep (λ _. Completes gives) (λ cause. Stops gives cause true []) old before new after failed can_write r
+  ends_answered old mid new next before after failed can_write (Ok _) goes_on some asks last called answered is = let (text, gave, wrote) = is.ok in record {
+    ok = completes_next old new.answered next text before after goes_on some asks last gave wrote (omega (arith, is.answered, answered));
+    err = tt;
+    grows = omega (arith, is.answered, answered);
+    goes_on = is.goes_on;
+    blames = tt;
+  }
+  ends_answered old mid new next before after failed can_write (Err cause) goes_on some asks last called answered is = record {
+    ok = tt;
+    err = stops_end cause old new next before after goes_on some asks is.err (omega (arith, is.called, called)) (omega (arith, is.answered, answered));
+    grows = omega (arith, is.answered, answered);
+    goes_on = tt;
+    blames = is.blames;
+  }
+
   -- ---- a run over a reader
 
   -- the reader failed
@@ -299,10 +320,18 @@ module _ {S : Type 0} (gives : Gives S) where
   room_left first came at now so goes_on = omega (arith, so.bytes, so.below goes_on, waits_short at.talk.fed.rest (so.waits goes_on))
 
   -- a run that stopped among the bytes
-  pub ran_stop : (cause : Fault) (first now : At S) (had has : Option (List ℕ)) (came : List ℕ) (at : Progress) → Consumes had has came → length came ≤ most_bytes
+  ran_stop : (cause : Fault) (first now : At S) (had has : Option (List ℕ)) (came : List ℕ) (at : Progress) → Consumes had has came → length came ≤ most_bytes
       → Stopped gives came false (fault_at cause at) first now → LastRead piece_bytes (WantsMore at.answered) came false → RanRequests gives had has first now (told (Err cause) at)
   ran_stop cause first now had has came at read bounded stopped last =
       record { came = came; ended = false; read = read; bounded = bounded; at_end = λ h. absurd (cc); leaves = (stopped, last) }
+
+  -- so it is where `?` passes its cause on
+  pub ran_passed : (r : Result (Unit {0}) Fault) (cause : Fault) (first now : At S) (had has : Option (List ℕ)) (came : List ℕ) (at : Progress) → IsErrAnd r (λ x. x ≡ cause)
+      → Consumes had has came → length came ≤ most_bytes → Stopped gives came false (fault_at cause at) first now → LastRead piece_bytes (WantsMore at.answered) came false
+      → RanRequests gives had has first now (told r at)
+  ran_passed r cause first now had has came at failed read bounded stopped last =
+      let (x, is, same) = err_from_is_err_and r failed in
+      subst (λ s. RanRequests gives had has first now (told s at)) (sym (is ∙ ap Err same)) (ran_stop cause first now had has came at read bounded stopped last)
 
   -- a run that a request ended
   pub ran_over : (first now : At S) (had has : Option (List ℕ)) (came others : List ℕ) (at : Progress) → Consumes had has (came ++ others) → length (came ++ others) ≤ most_bytes

@@ -1,5 +1,5 @@
 -- What a feeder keeps.
-use Rattle.std.specs.Prelude.{◌≡◌, ℕ, ◌+◌, ◌<◌, ◌≤◌, Bool, true, false, ◌||◌, ◌==◌, Option, Some, None, Ok, List, [], ◌++◌, length, take}
+use Rattle.std.specs.Prelude.{◌≡◌, ℕ, ◌+◌, ◌<◌, ◌≤◌, Bool, true, false, ◌||◌, ◌==◌, Option, Some, None, Ok, Result, IfOk, OnErr, List, [], ◌++◌, length, take}
 use Rattle.std.specs.List.{list_all}
 use Rattle.httparse.specs.Grammar.{RequestHead, HasNoRequest}
 use Rattle.up_heads.specs.Heads.{Heads, NeverHasHead, most_head}
@@ -8,8 +8,9 @@ use Rattle.up_heads.specs.Closing.{closes}
 use Rattle.up_heads.specs.Routed.{request_route}
 use Rattle.up_http.specs.Requests.{asked, is_head, most_requests, size_of}
 use Rattle.up_heads.specs.Fronts.{IsFactsOf}
-use Rattle.up_http.specs.Feeding.{Fed}
+use Rattle.up_http.specs.Feeding.{Fed, Feeds}
 use Rattle.up_http.specs.declared.asked.Next.{Next}
+use Rattle.up_http.specs.declared.asked.Step.{Step}
 use Rattle.up_heads.specs.declared.heads.Facts.{Facts}
 use Rattle.up_heads.specs.declared.heads.Front.{Front}
 use Rattle.up_heads.specs.declared.heads.Front.TheVariants.{Whole, Cut, Bad}
@@ -57,6 +58,11 @@ pub record IsIntentOf (head : RequestHead) (stated : Option ℕ) (intent : Inten
   pub head_is : intent.head ≡ is_head head
   pub closes_is : intent.closes ≡ closes head
 
+-- the bytes are a head that states this length of its body
+pub record States (bytes : List ℕ) (facts : Facts) (stated : Option ℕ) : Type 0 where
+  pub whole : IsWhole bytes facts
+  pub framed : facts.framing ≡ Ok stated
+
 -- a whole head is kept, and a body of the length that it states, as far as it has come
 pub record IsWaiting (bytes : List ℕ) (waiting : Waiting) : Type 0 where
   pub head : RequestHead
@@ -65,6 +71,11 @@ pub record IsWaiting (bytes : List ℕ) (waiting : Waiting) : Type 0 where
   pub framing_is : framing head ≡ Ok stated
   pub size_is : waiting.body.size ≡ size_of stated
   pub intent_is : IsIntentOf head stated waiting.intent
+
+-- no more of the body is kept than the head states
+pub record Holds (bytes : List ℕ) (waiting : Waiting) : Type 0 where
+  pub waits : IsWaiting bytes waiting
+  pub bounded : length waiting.body.bytes ≤ waiting.body.size
 
 -- the bytes of a body
 abbrev pub body_of : Option Waiting → List ℕ
@@ -85,6 +96,18 @@ pub record Keeps (parts : Parts) : Type 0 where
   pub few : parts.given ≤ most_requests
   pub more : parts.ended ≡ false → parts.given < most_requests
   pub stage : parts.ended ≡ false → Stage parts.head.items parts.begun parts.waiting
+
+-- no whole head is kept, and the stream may give another request
+pub record IsBetween (parts : Parts) : Type 0 where
+  pub none : parts.waiting ≡ None
+  pub going : parts.ended ≡ false
+  pub few : parts.given < most_requests
+
+-- what a piece leaves of the parts: what a feeder does with it, and nothing where memory is refused
+pub record FeedsParts {E : Type 0} (old : Parts) (piece : List ℕ) (result : Result Step E) (new : Parts) : Type 0 where
+  pub kept : Keeps new
+  pub ok : IfOk result (λ step. Feeds (fed_of old) piece step.taken step.next (fed_of new))
+  pub err : OnErr result (fed_of new ≡ fed_of old)
 
 -- a request whose head is whole is kept while its body isn't whole, and is given once that is
 abbrev pub Settles : List ℕ → Waiting → ℕ → Option Next → Fed → Type 0

@@ -18,6 +18,11 @@ use Rattle.up_http.specs.declared.served.Served.{Served}
 abbrev pub IsQuiet : Talk → Type 0
 IsQuiet talk = (talk.asking ≡ false) × (talk.unsent ≡ [])
 
+-- the stream goes on, and no request waits
+pub record IsReady (at : Progress) : Type 0 where
+  pub goes_on : at.over ≡ false
+  pub quiet : IsQuiet at.talk
+
 -- of the bytes that were taken the whole requests were answered
 pub record Sofar {S : Type 0} (gives : Gives S) (first : At S) (came : List ℕ) (at : Progress) (now : At S) : Type 0 where
   pub done : List Next

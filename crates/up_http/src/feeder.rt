@@ -1,7 +1,7 @@
 //! A stream in pieces, and its requests.
 ghost use Rattle.std.specs.Prelude.{◌≡◌, ◌≤◌, ◌<◌, ◌+◌, ◌++◌, [], IsOk, IfOk, OnErr, Some, None, false, true, length, ℕ, Option};
 ghost use Rattle.up_http.specs.Feeding.{Fed, Feeds, Gives, Ends};
-ghost use Rattle.up_http.specs.Parts.{Begins, IsIntentOf, IsWaiting, IsWhole, Keeps, Settles, fed_of};
+ghost use Rattle.up_http.specs.Parts.{Begins, FeedsParts, Holds, IsBetween, IsIntentOf, IsWaiting, Keeps, Settles, States, fed_of};
 ghost use Rattle.up_http.specs.Requests.{asked, ends_with, most_requests, with_body};
 ghost use Rattle.httparse.specs.Grammar.{RequestHead};
 
@@ -139,9 +139,7 @@ fn end_parts(parts: &mut Parts) -> Option<Next>
 /// What the stream gives with the next piece.
 fn feed_parts(parts: &mut Parts, piece: &[u8]) -> Result<Step, AllocError>
     requires { Keeps parts.old }
-    ensures kept { Keeps parts.new }
-    ensures ok { IfOk result (λ step. Feeds (fed_of parts.old) piece.now step.taken step.next (fed_of parts.new)) }
-    ensures err { OnErr result (fed_of parts.new ≡ fed_of parts.old) }
+    ensures fed { FeedsParts parts.old piece.now result parts.new }
     ensures over { parts.old.ended ≡ true → IsOk result }
 {
     if parts.ended {
@@ -158,11 +156,8 @@ fn feed_parts(parts: &mut Parts, piece: &[u8]) -> Result<Step, AllocError>
 
 /// Takes a piece to the body of a whole head.
 fn feed_body(parts: &mut Parts, waiting: Waiting, piece: &[u8]) -> Result<Step, AllocError>
-    requires none { parts.old.waiting ≡ None }
-    requires open { parts.old.ended ≡ false }
-    requires few { parts.old.given < most_requests }
-    requires waits { IsWaiting parts.old.head.items waiting }
-    requires bounded { length waiting.body.bytes ≤ waiting.body.size }
+    requires between { IsBetween parts.old }
+    requires holds { Holds parts.old.head.items waiting }
     ensures ok { IfOk result (λ step. Keeps parts.new
         × Gives (record { rest = parts.old.head.items ++ waiting.body.bytes; given = parts.old.given; ended = false })
         piece.now step.taken step.next (fed_of parts.new)) }
@@ -183,11 +178,8 @@ fn feed_body(parts: &mut Parts, waiting: Waiting, piece: &[u8]) -> Result<Step, 
 
 /// The request, if its body is whole; else it is kept.
 fn settle(parts: &mut Parts, waiting: Waiting) -> Option<Next>
-    requires none { parts.old.waiting ≡ None }
-    requires open { parts.old.ended ≡ false }
-    requires few { parts.old.given < most_requests }
-    requires waits { IsWaiting parts.old.head.items waiting }
-    requires bounded { length waiting.body.bytes ≤ waiting.body.size }
+    requires between { IsBetween parts.old }
+    requires holds { Holds parts.old.head.items waiting }
     ensures kept { Keeps parts.new }
     ensures settled { Settles parts.old.head.items waiting parts.old.given result (fed_of parts.new) }
 {
@@ -235,13 +227,9 @@ fn joined(asks: Routed, body: Body) -> What
 
 /// Takes a piece to a head, and to the body behind it.
 fn feed_head(parts: &mut Parts, piece: &[u8]) -> Result<Step, AllocError>
-    requires none { parts.old.waiting ≡ None }
-    requires open { parts.old.ended ≡ false }
-    requires few { parts.old.given < most_requests }
+    requires between { IsBetween parts.old }
     requires begins { Begins parts.old.head.items parts.old.begun }
-    ensures kept { Keeps parts.new }
-    ensures ok { IfOk result (λ step. Feeds (fed_of parts.old) piece.now step.taken step.next (fed_of parts.new)) }
-    ensures err { OnErr result (fed_of parts.new ≡ fed_of parts.old) }
+    ensures fed { FeedsParts parts.old piece.now result parts.new }
 {
     let before = parts.head.len();
     let taken = take_head(&mut parts.head, parts.begun, piece)?;
@@ -283,11 +271,8 @@ fn feed_whole(
     stated: Option<usize>,
     piece: &[u8],
 ) -> Result<Step, AllocError>
-    requires none { parts.old.waiting ≡ None }
-    requires open { parts.old.ended ≡ false }
-    requires few { parts.old.given < most_requests }
-    requires whole { IsWhole parts.old.head.items facts.now }
-    requires framed { facts.now.framing ≡ Ok stated }
+    requires between { IsBetween parts.old }
+    requires states { States parts.old.head.items facts.now stated }
     ensures ok { IfOk result (λ step. Keeps parts.new
         × Gives (record { rest = parts.old.head.items; given = parts.old.given; ended = false })
         piece.now step.taken step.next (fed_of parts.new)) }
@@ -317,8 +302,7 @@ fn begin(
     facts: &Facts,
     stated: Option<usize>,
 ) -> Result<Waiting, AllocError>
-    requires whole { IsWhole head.now facts.now }
-    requires framed { facts.now.framing ≡ Ok stated }
+    requires states { States head.now facts.now stated }
     ensures waits { IfOk result (λ waiting. IsWaiting head.now waiting) }
     ensures empty { IfOk result (λ waiting. waiting.body.bytes ≡ []) }
 {

@@ -4,7 +4,7 @@ ghost use Rattle.std.specs.Io.KnownBytes.{Appends};
 ghost use Rattle.up_http.specs.Requests.{asks_running, most_requests};
 ghost use Rattle.up_lines.specs.Runs.{BlamesWriter, EndsRun};
 ghost use Rattle.up_http.specs.Serving.{RanRequests, RunsRequests, calls, cause_of};
-ghost use Rattle.up_http.specs.Steps.{AnswersNext, Completes, IsFresh, IsQuiet, Moves, Stops, Takes, TakesStep, Unanswered, told};
+ghost use Rattle.up_http.specs.Steps.{AnswersNext, Completes, IsFresh, IsQuiet, IsReady, Moves, Stops, Takes, TakesStep, Unanswered, told};
 ghost use Rattle.up_http.specs.Talks.{wants_of};
 ghost use Rattle.up_http.specs.declared.conversation.Wants.TheVariants.{Answer};
 
@@ -110,8 +110,7 @@ fn serve_piece<S, A: Respond<S>, W: Sink>(
     progress: &mut Progress,
     piece: &[u8],
 ) -> Result<usize, Fault>
-    requires goes_on { progress.old.over ≡ false }
-    requires quiet { IsQuiet progress.old.talk }
+    requires ready { IsReady progress.old }
     requires some { 0 < length piece.now }
     requires can_write { W.can_write writer.old }
     ensures { TakesStep
@@ -130,10 +129,8 @@ fn serve_piece<S, A: Respond<S>, W: Sink>(
         None => Ok(taken),
         Some(next) => {
             progress.over = next.last;
-            match answer_counted(alloc, responder, state, writer, progress, next) {
-                Ok(()) => Ok(taken),
-                Err(cause) => Err(cause),
-            }
+            answer_counted(alloc, responder, state, writer, progress, next)?;
+            Ok(taken)
         }
     }
 }
@@ -146,8 +143,7 @@ fn finish<S, A: Respond<S>, W: Sink>(
     writer: &mut W,
     progress: &mut Progress,
 ) -> Result<(), Fault>
-    requires goes_on { progress.old.over ≡ false }
-    requires quiet { IsQuiet progress.old.talk }
+    requires ready { IsReady progress.old }
     requires can_write { W.can_write writer.old }
     ensures { TakesStep (λ _. Completes (A.gives responder.now)) (λ cause. Stops (A.gives responder.now) cause true [])
         progress.old (record { state = state.old; held = W.contents writer.old })
@@ -161,10 +157,7 @@ fn finish<S, A: Respond<S>, W: Sink>(
         }
         Some(next) => {
             progress.over = true;
-            match answer_counted(alloc, responder, state, writer, progress, next) {
-                Ok(()) => Ok(()),
-                Err(cause) => Err(cause),
-            }
+            answer_counted(alloc, responder, state, writer, progress, next)
         }
     }
 }
@@ -194,17 +187,9 @@ fn serve_reads<S, A: Respond<S>, R: Source, W: Sink>(
     let mut filled = 0;
     while !progress.over {
         if at < filled {
-            match serve_piece(
-                alloc,
-                responder,
-                state,
-                writer,
-                progress,
-                &buffer[at..filled],
-            ) {
-                Ok(taken) => at += taken,
-                Err(cause) => return Err(cause),
-            }
+            let piece = &buffer[at..filled];
+            let taken = serve_piece(alloc, responder, state, writer, progress, piece)?;
+            at += taken;
         } else {
             match read_piece(reader, &mut buffer, most) {
                 Ok(0) => return finish(alloc, responder, state, writer, progress),

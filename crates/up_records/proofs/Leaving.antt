@@ -13,9 +13,10 @@ use Rattle.up_machine.specs.State.{State}
 use Rattle.up_tables.specs.Statements.{WhereInside}
 use Rattle.up_records.specs.declared.catalog.Catalog.{Catalog}
 use Rattle.up_records.specs.Catalogs.{CanDecide, Come, Fits, StaysLoaded, primaries_in}
-use Rattle.up_records.specs.Senders.{IsSentBy, IsThere, LeavesIn, RefusesUnread, refused_in}
+use Rattle.up_records.specs.Senders.{IsSentBy, LeavesIn, RefusesUnread, refused_in}
 use Rattle.up_records.specs.Sessions.{SeesState}
 use Rattle.up_records.proofs.Cataloged.{can_more, come_none}
+use Rattle.up_records.proofs.SentBy.{IsThere}
 
 -- where both are left
 left_of : {S A : Type 0} (o : Option Refusal) (old new : S) (kept after : Catalog) (result : Result A Refusal) → IfSome o (RefusesUnread {S = S × Catalog} (old, kept) (new, after) result)

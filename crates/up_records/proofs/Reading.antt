@@ -4,7 +4,6 @@ use Rattle.std.specs.Prelude.{⊤, MatchBool, IfOk}
 use Rattle.sqlite_disk.specs.Disk.{MoreFaults}
 use Rattle.sqlite.specs.Tree.{Trees}
 use Rattle.sqlite.specs.State.{State as Connected, HasCleanDisk, Survives}
-use Rattle.sqlite.proofs.StateLemmas.{survives_then}
 use Rattle.up_canon.specs.declared.refusal.Refusal.{Refusal}
 use Rattle.up_canon.specs.declared.refusal.Refusal.TheVariants.{Store}
 use Rattle.up_sign.specs.Schemes.{Rules}
@@ -29,19 +28,6 @@ clean_before reads now = clean_under reads.survives now
 
 pub survives_same : (P : Trees → Type 0) (s : Connected) → Survives s s P
 survives_same P s = record { clean = omega arith; shield = λ h. h; counts = omega arith; limit = refl; closes = λ clean is_open. inl is_open; crash = λ clean db may. inl may }
-
-pub reads_none : (s : Connected) → Reads s s
-reads_none s = record { kept = λ rows was. was; same = λ rows was now is_open. (is_open, refl); survives = survives_same (λ _. ⊥) s }
-
-pub reads_then : {a b c : Connected} → Reads a b → Reads b c → Reads a c
-reads_then {a} {b} {c} ab bc = record {
-  kept = λ rows was. bc.kept rows (ab.kept rows was);
-  same = λ rows was now is_open.
-      let second : IsTrue b.is_open × (c.now ≡ b.now) = bc.same rows (ab.kept rows was) now is_open in
-      let first : IsTrue a.is_open × (b.now ≡ a.now) = ab.same rows was (clean_before bc now) second.0 in
-      (first.0, second.1 ∙ first.1);
-  survives = survives_then a b c (λ _. ⊥) (λ _. ⊥) (λ _. ⊥) (λ _ db none. none) (λ _ db none. none) ab.survives bc.survives;
-}
 
 pub keeps_after : (k : Rules) (s : State) {old new : Connected} → IfClean (KeepsState k s) old → Reads old new → IfClean (KeepsState k s) new
 keeps_after k s was reads = reads.kept (rows_of_state k s) was

@@ -16,7 +16,7 @@ use Rattle.up_machine.specs.Primaries.{check_sent, primary_of}
 use Rattle.up_machine.specs.Rows.{founding_row}
 use Rattle.up_machine.proofs.Primaries.{gives_sent}
 use Rattle.up_records.specs.declared.catalog.Catalog.{Catalog}
-use Rattle.up_records.specs.Senders.{IsLoadedBehind, IsSentBy, IsThere, RefusesUnread, refused_by, refused_in}
+use Rattle.up_records.specs.Senders.{IsLoadedBehind, IsSentBy, RefusesUnread, refused_by, refused_in}
 use Rattle.up_records.specs.Connected.{is_fault}
 use Rattle.up_records.specs.Catalogs.{ArePrimaries, Come}
 
@@ -42,10 +42,6 @@ not_sent_refused k kept incoming primary r P there bad h =
     subst (λ o. IfSome (option_and_then (λ primary. error_of (check_sent k primary incoming)) o) P) (sym there) (subst (λ q. IfSome (error_of q) P) (sym bad) h)
 
 -- a refusal that is told stays one, with nothing read
-pub refused_unread : {S : Type 0} (A B : Type 0) (o : Option Refusal) (store : S) (q : Refusal) → IfSome o (λ r. ◌≡◌ {A = Result A Refusal} (Err q) (Err r)) → IfSome o (RefusesUnread {A = B} store store (Err q))
-refused_unread A B None store q h = tt
-refused_unread A B (Some r) store q h = let same : q ≡ r = cc in record { refused = ap (λ x. Err x) same; unread = refl }
-
 pub refused_on : {S : Type 0} (A B : Type 0) (o : Option Refusal) (old new : S) (q : Refusal) → IfSome o (RefusesUnread {A = A} old new (Err q)) → IfSome o (RefusesUnread {A = B} old new (Err q))
 refused_on A B None old new q h = tt
 refused_on A B (Some r) old new q h = let is : ◌≡◌ {A = Result A Refusal} (Err q) (Err r) = h.refused in let same : q ≡ r = cc in record { refused = ap (λ x. Err x) same; unread = h.unread }
@@ -87,6 +83,10 @@ come_sent k s incoming founding received old new there receives are come vehicle
     by_case : (table.get old vehicle ≡ Some primary) ⊎ (vehicle ≡ incoming.manifest.vehicle) → (table.get old vehicle ≡ Some primary) ⊎ IsSentBy k incoming vehicle primary
     by_case (inl was) = inl was
     by_case (inr same) = inr (same, sent_checked k s incoming founding primary received there (subst (λ (n : Name). primary_of s n ≡ Some primary) same (are vehicle primary found)) receives)
+
+-- a catalog is there, unless the repositories aren't founded
+abbrev pub IsThere : {A : Type 0} → Result A Refusal → Option Catalog → Type 0
+IsThere result catalog = (result ≡ Err NotFounded) ⊎ (is_some catalog ≡ true)
 
 -- what was loaded
 pub loaded_behind : {A : Type 0} (result : Result A Refusal) (catalog : Option Catalog) → IsThere result catalog → IsLoadedBehind result catalog

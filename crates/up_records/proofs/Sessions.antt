@@ -44,10 +44,11 @@ stays s = record {
   kept = λ clean. record { was_open = λ is_open. is_open; committed = λ is_open. refl };
 }
 
-sees_both : {a b c : Connected} → SeesOn a b → SeesOn b c → SeesOn a c
+pub sees_both : {a b c : Connected} → SeesOn a b → SeesOn b c → SeesOn a c
 sees_both one two = record {
   mode = two.mode ∙ one.mode;
   same = λ is_open. let second = two.same is_open in let first = one.same second.0 in (first.0, second.1 ∙ first.1);
+  still = λ was_open. two.still (one.still was_open);
 }
 
 -- what goes on sees the state that was seen
@@ -88,7 +89,7 @@ module _ {S : Type 0} (g : Ghosts S) {rules : Rules → Type 0} where
   pub none_on : {old : MutBor (Held S)} → IfClean IsInside (state g old.now) → Chain g rules old (λ _ _. ⊤) old
   none_on {old} inside = record {
     told = λ clean k of s sees. tt;
-    sees = λ clean. record { mode = refl; same = λ is_open. (is_open, refl) };
+    sees = λ clean. record { mode = refl; same = λ is_open. (is_open, refl); still = λ was_open. was_open };
     step = record { same_reference = refl; steps = stays (state g old.now) };
     inside = inside;
   }
@@ -99,7 +100,7 @@ module _ {S : Type 0} (g : Ghosts S) {rules : Rules → Type 0} where
   rows_on (Ok x) go read inside = let it = read inside in record {
     told = λ clean k of s sees. go k s x (it.found clean (rows_of_state k s) sees);
     blame = λ k of s sound sees clean. tt;
-    sees = λ clean. let on = it.reads clean in record { mode = on.mode; same = λ is_open. (on.was_open, on.now_is) };
+    sees = λ clean. let on = it.reads clean in record { mode = on.mode; same = λ is_open. (on.was_open, on.now_is); still = λ was_open. on.is_open };
     step = it.step;
   }
   rows_on (Err f) go read inside = let it = read inside in record {

@@ -43,8 +43,5 @@ ReadsState k of_state = ReadsSuch k (λ s found. found ≡ of_state s)
 
 -- ---- reads of records
 
-abbrev pub FindsSuch : {D A : Type 0} → Ghosts D → (State → A → Type 0) → Stored D → Stored D → Result A StoreFault → Type 0
-FindsSuch g holds old new result = (k : Rules) → ReadsSuch k holds (state g old) (state g new) result
-
 abbrev pub Finds : {D A : Type 0} → Ghosts D → (Rules → State → A) → Stored D → Stored D → Result A StoreFault → Type 0
 Finds g of_state old new result = (k : Rules) → ReadsState k (of_state k) (state g old) (state g new) result

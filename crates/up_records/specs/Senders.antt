@@ -52,10 +52,6 @@ abbrev pub GivesSenderRows : Rules → State → Incoming → Founding → Resul
 GivesSenderRows k s incoming founding (Ok vehicle) computed = IsSenderOf k s incoming (record { founding = founding; vehicle = vehicle })
 GivesSenderRows k s incoming founding (Err r) computed = MatchBool (is_memory r) ⊤ (computed ≡ Err r)
 
--- a catalog is there, unless the repositories aren't founded
-abbrev pub IsThere : {A : Type 0} → Result A Refusal → Option Catalog → Type 0
-IsThere result catalog = (result ≡ Err NotFounded) ⊎ (is_some catalog ≡ true)
-
 -- what is kept in memory is of the state, and the vehicle's Primary sent the manifest
 pub record IsSent (k : Rules) (s : State) (incoming : Incoming) (catalog : Catalog) (sender : SenderData) : Type 0 where
   pub kept : IsOf s catalog

@@ -1,5 +1,5 @@
 -- What is read within a session, which is a transaction that is under way, and what is decided by it.
-use Rattle.std.specs.Prelude.{◌≡◌, false, ⊤, Result, Ok, Err, IfOk, OnOk}
+use Rattle.std.specs.Prelude.{◌≡◌, false, ⊤, Result, Ok, Err, IfOk, IsTrue, OnOk}
 use Rattle.std.specs.Borrow.{MutBor}
 use Rattle.sqlite.specs.Held.{Held, state}
 use Rattle.sqlite.specs.State.{State as Connected, HasCleanDisk}
@@ -21,10 +21,11 @@ use Rattle.up_records.specs.Connected.{BlamesDisk, GivesOrFails, SeesSame, is_fa
 abbrev pub SeesState : Rules → State → Connected → Type 0
 SeesState k s = IsWithin up_schema (ListsRows (rows_of_state k s))
 
--- the transaction goes on, and sees what it saw
+-- the transaction goes on, and sees what it saw, on a connection that is open if it was
 pub record SeesOn (old new : Connected) : Type 0 where
   pub mode : new.in_transaction ≡ old.in_transaction
   pub same : SeesSame old new
+  pub still : IsTrue old.is_open → IsTrue new.is_open
 
 -- a read, under such rules: of what it finds this holds in each state that is seen, and `Store` is told only where the disk failed, over a sound
 -- state; nothing is written

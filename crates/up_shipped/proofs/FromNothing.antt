@@ -1,4 +1,4 @@
--- A list of commands over fresh tables is a run from nothing, and so is a script.
+-- A list of commands over fresh tables is a run from nothing, and so are a script and a stream.
 use Rattle.std.proofs.Common.{◌≡◌, ℕ, List, [], ◌++◌, Bool, true, Option, None, Result, Ok, Err, sym, ap, ◌∙◌, subst}
 use Rattle.std.specs.Prelude.{MatchResult, OnOk, is_ok}
 use Rattle.sqlite_trees.specs.declared.store.Store.{Ghosts}
@@ -18,9 +18,14 @@ use Rattle.up_lines.specs.Lines as lines
 use Rattle.up_lines.specs.Runs.{At, Ran}
 use Rattle.up_lines.specs.declared.fault.ScriptCause.{ScriptCause}
 use Rattle.up_lines.specs.declared.fault.ScriptFault.{ScriptFault}
+use Rattle.up_http.specs.Serving.{cause_of}
+use Rattle.up_http.specs.Serving as serving
+use Rattle.up_http.specs.declared.fault.ServeFault.{ServeFault}
+use Rattle.up_http.specs.declared.served.Served.{Served}
 use Rattle.up_service.specs.Scripts.{RunsScript}
-use Rattle.up_shipped.specs.FromNothing.{IsRunFromNothing, AnswersScript, BeginsScript, IsScriptFromNothing}
-use Rattle.up_shipped.specs.Shipped.{IsWholeScript, IsBegunScript, ScriptsAreRuns}
+use Rattle.up_service.specs.Streams.{RunsStream}
+use Rattle.up_shipped.specs.FromNothing.{IsRunFromNothing, AnswersScript, BeginsScript, IsScriptFromNothing, AnswersStream, BeginsStream, IsStreamFromNothing}
+use Rattle.up_shipped.specs.Shipped.{IsWholeScript, IsBegunScript, ScriptsAreRuns, IsWholeStream, IsBegunStream, StreamsAreRuns}
 
 pub went_through : {A E : Type 0} (P : Type 0) (r : Result A E) → OnOk r P → is_ok r ≡ true → P
 went_through P (Ok x) h ok = h
@@ -83,4 +88,50 @@ pub script_from_nothing : {K D : Type 0} (rules : K → Rules) (g : Ghosts D) �
 script_from_nothing rules g law k had has first now result empty made same runs clean sound none creates fresh =
     subst (λ (k : Rules). IsScriptFromNothing k had has first.held now.held result) same (ran rules g had has first now result
     (law had has first now result runs clean empty_state (subst (λ (k : Rules). IsSound k empty_state) (sym same) sound)
+    (shows_nothing (rules first.state.scheme) (subst (λ (k : Rules). rows_of_state k empty_state ≡ no_rows) (sym same) none) empty made (state g first.state.store) creates fresh)))
+
+-- ---- streams
+
+whole_stream : {K D : Type 0} (rules : K → Rules) (g : Ghosts D) (at : ℕ) (input : List ℕ) (first now : At (DeskView K D)) → IsWholeStream rules g at empty_state input first now
+    → AnswersStream (rules first.state.scheme) at input first.held now.held
+whole_stream rules g at input first now is = record { requests = is.requests; all = is.all; texts = is.texts; behind = is.shipped.behind; run = is.shipped.run; wrote = is.wrote }
+
+begun_stream : {K D : Type 0} (rules : K → Rules) (g : Ghosts D) (at : ℕ) (came : List ℕ) (ended : Bool) (cause : ScriptCause) (first now : At (DeskView K D))
+    → IsBegunStream rules g at empty_state came ended cause first now → BeginsStream (rules first.state.scheme) at came ended cause first.held now.held
+begun_stream rules g at came ended cause first now is = record {
+  done = is.done;
+  next = is.next;
+  are_first = is.are_first;
+  texts = is.texts;
+  behind = is.shipped.behind;
+  run = is.shipped.run;
+  part = is.part;
+  is_part = is.is_part;
+  wrote = is.wrote;
+}
+
+told_stream : {K D : Type 0} (rules : K → Rules) (g : Ghosts D) (at : ℕ) (came : List ℕ) (ended : Bool) (first now : At (DeskView K D)) (r : Result Served ServeFault)
+    → MatchResult r (λ served. (more : List ℕ) → (ended ≡ true → more ≡ []) → IsWholeStream rules g at empty_state (came ++ more) first now) (λ fault. IsBegunStream rules g at empty_state came ended (cause_of fault.cause) first now)
+    → MatchResult r (λ served. (more : List ℕ) → (ended ≡ true → more ≡ []) → AnswersStream (rules first.state.scheme) at (came ++ more) first.held now.held) (λ fault. BeginsStream (rules first.state.scheme) at came ended (cause_of fault.cause) first.held now.held)
+told_stream rules g at came ended first now (Ok served) h = λ more none. whole_stream rules g at (came ++ more) first now (h more none)
+told_stream rules g at came ended first now (Err fault) h = begun_stream rules g at came ended (cause_of fault.cause) first now h
+
+ran_stream : {K D : Type 0} (rules : K → Rules) (g : Ghosts D) (at : ℕ) (had has : Option (List ℕ)) (first now : At (DeskView K D)) (result : Result Served ServeFault)
+    → Ran serving.most_bytes (λ came ended served. (more : List ℕ) → (ended ≡ true → more ≡ []) → IsWholeStream rules g at empty_state (came ++ more) first now) (λ came ended fault. IsBegunStream rules g at empty_state came ended (cause_of fault.cause) first now) had has result
+    → IsStreamFromNothing (rules first.state.scheme) at had has first.held now.held result
+ran_stream rules g at had has first now result is = record {
+  came = is.came;
+  ended = is.ended;
+  read = is.read;
+  bounded = is.bounded;
+  at_end = is.at_end;
+  leaves = told_stream rules g at is.came is.ended first now result is.leaves;
+}
+
+pub stream_from_nothing : {K D : Type 0} (rules : K → Rules) (g : Ghosts D) → StreamsAreRuns rules g → (k : Rules) (at : ℕ) (had has : Option (List ℕ)) (first now : At (DeskView K D)) (result : Result Served ServeFault) (empty made : Connected)
+    → rules first.state.scheme ≡ k → RunsStream rules g at had has first now result → HasCleanDisk (state g now.state.store) → IsSound k empty_state → rows_of_state k empty_state ≡ no_rows
+    → Creates empty made → state g first.state.store ≡ record { connection = made; catalog = None } → IsStreamFromNothing k at had has first.held now.held result
+stream_from_nothing rules g law k at had has first now result empty made same runs clean sound none creates fresh =
+    subst (λ (k : Rules). IsStreamFromNothing k at had has first.held now.held result) same (ran_stream rules g at had has first now result
+    (law at had has first now result runs clean empty_state (subst (λ (k : Rules). IsSound k empty_state) (sym same) sound)
     (shows_nothing (rules first.state.scheme) (subst (λ (k : Rules). rows_of_state k empty_state ≡ no_rows) (sym same) none) empty made (state g first.state.store) creates fresh)))

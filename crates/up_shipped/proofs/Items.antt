@@ -16,12 +16,12 @@ use Rattle.up_machine.specs.State.{State}
 use Rattle.up_records.specs.Standing.{Standing, HasCleanDisk}
 use Rattle.up_lines.specs.Runs.{Run}
 use Rattle.up_desk.specs.Serving.{is_failed, IsAnswered}
-use Rattle.up_desk.proofs.Runs.{ListLaws, Ran}
+use Rattle.up_desk.specs.Runs.{ServesEach}
+use Rattle.up_desk.proofs.Runs.{ListLaws, ran_all}
 use Rattle.up_service.specs.Answers.{Answered, answered_as, IsFailed}
 use Rattle.up_service.specs.Runs.{Service, Told, told, tells_fault, behind, after, AreDue, Lasts}
 use Rattle.up_service.proofs.Failing.{failed_answer}
 use Rattle.up_shipped.specs.Items.{Asking, commands_in, TellsNext, AreTold, IsShipped}
-use Rattle.up_shipped.proofs.Called.{called}
 
 -- a service answers what the items ask
 pub record Agrees {I : Type 0} (v : Service I) (q : Asking I) : Type 0 where
@@ -111,7 +111,7 @@ unmoved v q agrees s m none = by_fault (tells_fault v m) refl
 record AreCalledAll {I : Type 0} (v : Service I) (q : Asking I) (s : State) (items : List I) (texts : List (List ℕ)) : Type 0 where
   pub answers : List Answer
   pub tell : AreTold q items texts answers
-  pub ran : Ran v.rules s (commands_in q items) answers (after v s (told items texts))
+  pub ran : ServesEach v.rules s (commands_in q items) answers (after v s (told items texts))
 
 one_more : {I : Type 0} (v : Service I) (q : Asking I) → Agrees v q → (s : State) (i : I) (items : List I) (text : List ℕ) (texts : List (List ℕ)) → Fits q i
     → (text ≡ (v.answer s i).text) ⊎ IsTrue (tells_fault v (record { item = i; text = text })) → AreCalledAll v q (behind v s (record { item = i; text = text })) items texts
@@ -119,21 +119,21 @@ one_more : {I : Type 0} (v : Service I) (q : Asking I) → Agrees v q → (s : S
 one_more {I} v q agrees s i items text texts fits due rest None asks =
     let m : Told I = record { item = i; text = text } in
     let end = after v (behind v s m) (told items texts) in
-    let from : Ran v.rules s (filter_map q.asks items) rest.answers end = subst (λ (x : State). Ran v.rules x (filter_map q.asks items) rest.answers end) (unmoved v q agrees s m asks) rest.ran in
+    let from : ServesEach v.rules s (filter_map q.asks items) rest.answers end = subst (λ (x : State). ServesEach v.rules x (filter_map q.asks items) rest.answers end) (unmoved v q agrees s m asks) rest.ran in
     record {
       answers = rest.answers;
       tell = subst (λ (o : Option (ℕ × Command)). TellsNext (AreTold q items texts) (q.tell i) text o rest.answers) (sym asks) rest.tell;
-      ran = subst (λ (o : Option (ℕ × Command)). Ran v.rules s (cons_option o (filter_map q.asks items)) rest.answers end) (sym asks) from;
+      ran = subst (λ (o : Option (ℕ × Command)). ServesEach v.rules s (cons_option o (filter_map q.asks items)) rest.answers end) (sym asks) from;
     }
 one_more {I} v q agrees s i items text texts fits due rest (Some c) asks =
     let m : Told I = record { item = i; text = text } in
     let end = after v (behind v s m) (told items texts) in
     let one = once v q agrees s c m asks due in
-    let from : Ran v.rules s (c ∷ filter_map q.asks items) (one.answer ∷ rest.answers) end = (behind v s m, one.is, fits c asks, rest.ran) in
+    let from : ServesEach v.rules s (c ∷ filter_map q.asks items) (one.answer ∷ rest.answers) end = (behind v s m, one.is, fits c asks, rest.ran) in
     record {
       answers = one.answer ∷ rest.answers;
       tell = subst (λ (o : Option (ℕ × Command)). TellsNext (AreTold q items texts) (q.tell i) text o (one.answer ∷ rest.answers)) (sym asks) (one.text, rest.tell);
-      ran = subst (λ (o : Option (ℕ × Command)). Ran v.rules s (cons_option o (filter_map q.asks items)) (one.answer ∷ rest.answers) end) (sym asks) from;
+      ran = subst (λ (o : Option (ℕ × Command)). ServesEach v.rules s (cons_option o (filter_map q.asks items)) (one.answer ∷ rest.answers) end) (sym asks) from;
     }
 
 all_called : {I S : Type 0} (v : Service I) (q : Asking I) → Agrees v q → (gives : S → I → List ℕ → S → Type 0) (s : State) (items : List I) (texts : List (List ℕ)) (old new : S) → AllByRecursion (Fits q) items
@@ -154,7 +154,7 @@ shipped laws v q agrees gives s items texts next first last old new fits run sou
     let shown = lasts.shown clean in
     record {
       behind = after v s (told items texts);
-      run = record { answers = all.answers; told = all.tell; run = called laws v.rules s (commands_in q items) all.answers (after v s (told items texts)) sound all.ran };
+      run = record { answers = all.answers; told = all.tell; run = ran_all laws v.rules s (commands_in q items) all.answers (after v s (told items texts)) sound all.ran };
       at = shown.0;
       is_at = shown.1;
       sound = shown.2;

@@ -1,4 +1,3 @@
-pub mod Called
 pub mod Fitting
 pub mod Items
 pub mod Shipped

@@ -2,7 +2,7 @@
 use Rattle.std.proofs.Common.{◌≡◌, ℕ, ◌+◌, ◌<◌, List, [], ◌∷◌, Bool, true, false, Option, Some, None, length, take, get_or, refl, sym, ap, ◌∙◌}
 use Rattle.std.specs.FinMap as table
 use Rattle.up_store.specs.declared.second_hashes.SecondHash.{SecondHash}
-use Rattle.up_store.proofs.Common.{◌&&◌, if◌then◌else◌, Name, Table, if_passes, CampaignData, ImageData, reaches, CampaignShown, ImageShown, sha512_line, IsImage, IsCampaign, AreImages, AreSha512s, AreHashesOf, AreRunning, values_where, campaign_shown_line, hash_line, image_line, image_lines, image_shown_line, line_of_campaign, second_hash, sha512_lines, campaign_lines, IsTypedImage, IsTypedCampaign}
+use Rattle.up_store.proofs.Common.{Name, Table, if_passes, CampaignData, ImageData, CampaignShown, ImageShown, sha512_line, IsImage, IsCampaign, AreImages, AreSha512s, AreHashesOf, AreRunning, values_where, campaign_shown_line, hash_line, image_line, image_lines, image_shown_line, line_of_campaign, second_hash, sha512_lines, campaign_lines, IsTypedImage, IsTypedCampaign}
 use Rattle.up_store.proofs.ColumnFound.{image_shown, campaign_shown}
 use Rattle.up_store.proofs.ValuesWhere.{get_where}
 use Rattle.up_store.proofs.WholeTables as whole
@@ -91,9 +91,6 @@ campaign_key shown = shown.name
 abbrev is_running : CampaignData → Bool
 is_running c = c.running
 
-abbrev is_reached : Name → CampaignData → Bool
-is_reached vehicle c = reaches vehicle c.reach
-
 abbrev running : Table CampaignData → Name → Option CampaignData
 running campaigns n = if_passes is_running (table.get campaigns n)
 
@@ -103,37 +100,6 @@ pub campaign_of : (campaigns : Table CampaignData) (rows : List CampaignShown) (
 campaign_of campaigns rows i r h at are =
     let is = whole.row_is campaign_key campaign_shown_line (λ n. campaign_lines) (λ n. line_of_campaign) (λ n. refl) (λ n x. refl) is_running (running campaigns) rows i r h at are.each in
     (is.value, if_passes_some is_running (table.get campaigns (campaign_key r)) is.value is.there, campaign_shown is.value r is.same)
-
--- those of these rows' campaigns that reach the vehicle
-abbrev pub AreReaching : Name → List CampaignShown → Table CampaignData → Table CampaignData → Type 0
-AreReaching vehicle rows campaigns t = whole.IsSofar campaign_key campaign_shown_line (λ n. campaign_lines) (λ n. line_of_campaign) (λ n. refl) (λ n x. refl) (is_reached vehicle) (running campaigns) rows t
-
-pub reaching_begun : (vehicle : Name) (campaigns : Table CampaignData) → AreReaching vehicle [] campaigns table.empty
-reaching_begun vehicle campaigns = whole.begun campaign_key campaign_shown_line (λ n. campaign_lines) (λ n. line_of_campaign) (λ n. refl) (λ n x. refl) (is_reached vehicle) (running campaigns)
-
-pub reaching_more : (vehicle : Name) (campaigns : Table CampaignData) (rows : List CampaignShown) (i : ℕ) (r : CampaignShown) (t next : Table CampaignData) → i < length rows → r ≡ get_or rows i r → AreRunning rows campaigns
-    → ((name : Name) (campaign : CampaignData) → IsTypedCampaign name campaign → IsCampaign r campaign → next ≡ (if reaches vehicle campaign.reach then table.insert t campaign.name campaign else t))
-    → AreReaching vehicle (take i rows) campaigns t → AreReaching vehicle (take (i + 1) rows) campaigns next
-reaching_more vehicle campaigns rows i r t next h at are put so =
-    let is = whole.row_is campaign_key campaign_shown_line (λ n. campaign_lines) (λ n. line_of_campaign) (λ n. refl) (λ n x. refl) (is_reached vehicle) (running campaigns) rows i r h at are.each in
-    let same = campaign_shown is.value r is.same in
-    whole.more campaign_key campaign_shown_line (λ n. campaign_lines) (λ n. line_of_campaign) (λ n. refl) (λ n x. refl) (is_reached vehicle) (running campaigns) rows i r is.value t next h at is.there
-    (put (campaign_key r) is.value (are.typed (campaign_key r) is.value (if_passes_some is_running (table.get campaigns (campaign_key r)) is.value is.there)) same
-    ∙ ap (λ name. if reaches vehicle is.value.reach then table.insert t name is.value else t) (sym same.name)) so
-
-both_pass : (vehicle : Name) (o : Option CampaignData) → if_passes (is_reached vehicle) (if_passes is_running o) ≡ if_passes (λ c. c.running && reaches vehicle c.reach) o
-both_pass vehicle None = refl
-both_pass vehicle (Some c) = by_test c.running
-  where
-    by_test : (b : Bool) → if_passes (is_reached vehicle) (if b then Some c else None) ≡ (if b && reaches vehicle c.reach then Some c else None)
-    by_test true = refl
-    by_test false = refl
-
-pub reaching_ended : (vehicle : Name) (campaigns : Table CampaignData) (rows : List CampaignShown) (t : Table CampaignData) → AreRunning rows campaigns → AreReaching vehicle rows campaigns t
-    → t ≡ values_where (λ c. c.running && reaches vehicle c.reach) campaigns
-reaching_ended vehicle campaigns rows t are so =
-    whole.same_table t _ (λ n. whole.ended campaign_key campaign_shown_line (λ n. campaign_lines) (λ n. line_of_campaign) (λ n. refl) (λ n x. refl) (is_reached vehicle) (running campaigns) rows t are.each so n
-    ∙ both_pass vehicle (table.get campaigns n) ∙ sym (get_where (λ c. c.running && reaches vehicle c.reach) campaigns n))
 
 -- ---- all running campaigns
 

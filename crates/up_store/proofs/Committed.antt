@@ -5,13 +5,20 @@ use Rattle.sqlite.specs.Steps.{FailsToCommit}
 use Rattle.sqlite_trees.specs.declared.error.StoreError.{StoreError}
 use Rattle.sqlite_trees.specs.declared.error.StoreError.TheVariants.{OutOfMemory, Io, Corrupt, Full, Broken, Unstorable}
 use Rattle.up_tables.specs.Faults.{store_fault}
-use Rattle.up_store.proofs.Common.{IsOk, State, HasCleanDisk, HasCause, Fails, IsRolledBack, KeepsCounts, Shows, Survives, store_error, HasFailed, IfClean, IsInside, StoreFault, Memory, Store, Commits}
+use Rattle.up_tables.specs.Stands.{LeavesOnly}
+use Rattle.up_store.proofs.Common.{IsOk, Database, Trees, State, HasCleanDisk, HasCause, Fails, IsRolledBack, KeepsCounts, Shows, Survives, store_error, HasFailed, IfClean, IsInside, StoreFault, Memory, Store, Commits}
 
 pub committed_on : {A B : Type 0} (mid last : State) (commit : Result A Error) (told : Result B StoreFault) → OnOk told (IsOk commit)
     → (HasCleanDisk last → OnOk commit (IsTrue mid.in_transaction × Shows mid last mid.now mid.now false × KeepsCounts mid last × (last.marks ≡ []))) → OnOk told (IfClean (Commits mid) last)
 committed_on mid last commit (Err f) ok did = tt
 committed_on mid last (Ok x) (Ok y) ok did = λ clean. (did clean).1
 committed_on mid last (Err e) (Ok y) ok did = absurd (let no = ok in cc)
+
+-- a crash leaves it alone
+pub durable_on : {B : Type 0} (mid last : State) (told : Result B StoreFault) → (IsTrue last.is_open → (trees : Trees) → last.may_leave trees → trees ≡ last.committed.trees)
+    → OnOk told (IfClean (Commits mid) last) → OnOk told (IfClean (LeavesOnly (λ trees. trees ≡ mid.now.trees)) last)
+durable_on mid last (Err f) settled commits = tt
+durable_on mid last (Ok y) settled commits = λ clean trees may. settled (commits clean).is_open trees may ∙ ap (λ (db : Database). db.trees) (commits clean).committed_is
 
 -- a transaction was under way, so that the store failed
 failed : (mid last : State) (e : Error) → IfClean IsInside mid → Survives mid last (λ trees. trees ≡ mid.now.trees) → HasCleanDisk last → FailsToCommit mid last e → Fails mid last ⊥ e

@@ -38,7 +38,6 @@ pub use Rattle.up_metadata.specs.declared.keys.KeySet.{KeySet}
 pub use Rattle.up_metadata.specs.declared.keys.RepoKeys.{RepoKeys}
 pub use Rattle.up_plan.specs.Campaigns.{campaign_fits, CampaignData}
 pub use Rattle.up_plan.specs.Images.{image_fits, ImageData}
-pub use Rattle.up_plan.specs.Planning.{reaches}
 pub use Rattle.up_plan.specs.declared.campaign.Item.{Item}
 pub use Rattle.up_plan.specs.declared.campaign.Reach.{Reach}
 pub use Rattle.up_plan.specs.declared.image.Need.{Need}
@@ -53,13 +52,13 @@ pub use Rattle.up_rows.specs.declared.root_row.RootRow.{RootRow}
 pub use Rattle.up_sign.specs.Schemes.{Rules}
 pub use Rattle.up_store.specs.ColumnRows.{AreHashesOf, AreImages, AreRunning, AreSha512s, column_fault, IsCampaign, IsImage, with_image}
 pub use Rattle.up_store.proofs.Parts.{last_found, with_kept, with_founding, with_keys, with_image_line}
-pub use Rattle.up_store.specs.Connections.{BlamesWithin, BlamesWrite, Commits, CommitsRows, KeepsAs, KeepsRows, MadeIn, MayWrite, PutsRows, RaisedRows, RanWrite, SparesRows, TakesRows, WritesStore}
+pub use Rattle.up_store.specs.Connections.{BlamesWithin, Commits, KeepsAs, KeepsRows, MadeIn, PutsRows, RaisedRows}
 pub use Rattle.up_store.specs.Fitting.{IsClosing, IsNewCampaign, IsNewImage, IsNewVehicle, IsNextRoot, IsRecorded, IsReplacement, IsSameRoot}
 pub use Rattle.up_store.specs.Found.{ecus_found, values_where, vehicle_found}
 pub use Rattle.up_store.specs.Lines.{campaign_lines, campaign_shown_line, ecu_line, ecu_lines, ecu_shown, ecus_lines, file_line, file_lines, file_row, founding_number, hash_line, image_line, image_lines, image_shown_line, kept_line, key_row, line_of_campaign, repository_lines, repository_word, retired_lines, role_file_lines, role_lines, root_file_lines, root_lines, roots_lines, row_of_vehicle, second_hash, set_lines, sha512_lines, vehicle_lines}
 pub use Rattle.up_store.specs.Listing.{AreNumbered, files_lines, IsOfLastRoot, ListsRows, table_rows}
 pub use Rattle.up_store.specs.Puts.{HasFilesOnce, IsReported, MayAccept, MayReport, with_files, with_key_lines, with_numbers, with_reported, with_sha512_line}
-pub use Rattle.up_store.specs.ReadAs.{InTurn, IsRead, IsReadImage, IsTextOrNull, PutsCampaign, PutsImage, PutsReaching, PutsSha512, ReadsFounding, ReadsSha512, RunOf, SaysCampaign, SaysEcu, SaysFile, SaysHash, SaysImage, SaysInstalled, SaysKept, SaysKey, SaysNumbers, SaysVehicle}
+pub use Rattle.up_store.specs.ReadAs.{InTurn, IsRead, IsReadImage, IsTextOrNull, PutsCampaign, PutsImage, PutsSha512, ReadsFounding, ReadsSha512, RunOf, SaysCampaign, SaysEcu, SaysFile, SaysHash, SaysImage, SaysInstalled, SaysKept, SaysKey, SaysNumbers, SaysVehicle}
 pub use Rattle.up_store.specs.Shown.{AreKeysOf, campaign_made, file_read, image_made, is_key_of, IsFoundingOf, IsRoleOf, meta_told, reported_sha512, secrets_of, threshold_of, vehicle_read}
 pub use Rattle.up_store.specs.Typed.{AreTyped, AreTypedTexts, EachHasKeys, HasKeys, HaveKeys, IsToldEcu, IsTypedCampaign, IsTypedCampaignRow, IsTypedEcu, IsTypedFile, IsTypedFounding, IsTypedHash, IsTypedImage, IsTypedImageRow, IsTypedInstalled, IsTypedKept, IsTypedKey, IsTypedRoot, IsTypedVehicle, IsTypedVehicleRow}
 pub use Rattle.up_store.specs.Writes.{accept_writes, each_with, file_writes, FitsFounding, FitsVehicle, founding_writes, image_row_writes, key_writes, register_writes, reported_writes, root_writes, vehicle_writes}

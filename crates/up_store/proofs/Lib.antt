@@ -7,7 +7,6 @@ pub mod Created
 pub mod Raised
 pub mod Closed
 pub mod Written
-pub mod WriteBlames
 pub mod VehicleReads
 pub mod Inserted
 pub mod EcuReads
@@ -29,7 +28,6 @@ pub mod PutBlames
 pub mod WholeTables
 pub mod ValuesWhere
 pub mod ColumnTables
-pub mod QuotedNames
 pub mod OneKeys
 pub mod RootMoments
 pub mod RootTexts

@@ -1,6 +1,6 @@
 -- Rows that are read one after another.
-use Rattle.std.proofs.Common.{◌≡◌, ◌+◌, ◌<◌, ℕ, zero, suc, List, [], ◌∷◌, true, length, take, get_or, Option, Some, None, Result, Ok, Err, OnOk, inl, refl, sym, ap, subst, ◌∙◌, arith}
-use Rattle.up_store.proofs.Common.{IsSomeAnd, Database, Connected, Name, Table, reach_in, CampaignData, reaches, Reach, CampaignShown, IsWith, HasTables, AnyRows, Reads, up_schema, StoreFault, InTurn, PutsCampaign, PutsReaching}
+use Rattle.std.proofs.Common.{◌≡◌, ◌+◌, ◌<◌, ℕ, zero, suc, List, [], ◌∷◌, true, length, take, get_or, Option, Some, None, Result, Ok, Err, OnOk, refl, sym, subst, ◌∙◌, arith}
+use Rattle.up_store.proofs.Common.{IsSomeAnd, Database, Connected, IsWith, HasTables, AnyRows, Reads, up_schema, InTurn}
 
 -- of what was read of a row
 pub some_then : {A : Type 0} (P Q : A → Type 0) (read : Option A) → ((x : A) → P x → Q x) → IsSomeAnd read P → IsSomeAnd read Q
@@ -31,11 +31,3 @@ in_turn_more step (y ∷ ys) zero x before mid after low is so new =
 in_turn_more step (y ∷ ys) (suc i) x before mid after low is so new =
     let next : suc (i + 1) ≡ suc i + 1 = omega arith in
     subst (λ n. InTurn step (take n (y ∷ ys)) before after) next (so.0, so.1, in_turn_more step ys i x so.0 mid after (omega (arith, low)) is so.2 new)
-
--- a campaign that was put in reaches the vehicle, since its reach was read before
-pub reached_put : {A : Type 0} (result : Result A StoreFault) (vehicle : Name) (shown : CampaignShown) (before after : Table CampaignData) (reach : Reach)
-    → reach_in shown.reach ≡ Ok reach → reaches vehicle reach ≡ true → OnOk result (PutsCampaign shown before after) → OnOk result (PutsReaching vehicle shown before after)
-reached_put (Ok x) vehicle shown before after reach read also puts =
-    let same : puts.campaign.reach ≡ reach = (let e = sym puts.read.reach ∙ read in cc) in
-    inl (record { puts = puts; reached = ap (reaches vehicle) same ∙ also })
-reached_put (Err e) vehicle shown before after reach read also puts = tt

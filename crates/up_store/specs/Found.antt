@@ -1,9 +1,8 @@
 -- What is told by the rows of a state, beside what up_rows looks up.
-use Rattle.std.specs.Prelude.{◌&&◌, Bool, List, [], Option, option_map, unwrap_or, filter}
+use Rattle.std.specs.Prelude.{Bool, List, [], Option, option_map, unwrap_or, filter}
 use Rattle.std.specs.FinMap as table
 use Rattle.up_canon.specs.Names.{Name, Table}
 use Rattle.up_plan.specs.Campaigns.{CampaignData}
-use Rattle.up_plan.specs.Planning.{reaches}
 use Rattle.up_machine.specs.declared.rows.EcuRow.{EcuRow}
 use Rattle.up_machine.specs.declared.rows.VehicleRow.{VehicleRow}
 use Rattle.up_rows.specs.StateRows.{StateRows}
@@ -19,10 +18,6 @@ ecus_found vehicle rows = unwrap_or (option_map (λ v. v.ecus) (table.get rows.v
 -- the values of which the test holds, under their names
 abbrev pub values_where : {X : Type 0} → (X → Bool) → Table X → Table X
 values_where test t = table.from_sorted (filter (λ e. test e.1) (table.entries t))
-
--- the running campaigns that reach the vehicle
-abbrev pub campaigns_found : Name → StateRows → Table CampaignData
-campaigns_found vehicle rows = values_where (λ c. c.running && reaches vehicle c.reach) rows.campaigns
 
 -- the running campaigns
 abbrev pub running_found : StateRows → Table CampaignData

@@ -9,14 +9,11 @@ use Rattle.sqlite.specs.declared.types.Value.{Value}
 use Rattle.sqlite.specs.declared.types.Value.TheVariants.{Blob, Int, Null}
 use Rattle.sqlite.specs.State.{State as Connected, HasCleanDisk}
 use Rattle.sqlite.specs.Table.{Table as SqlTable}
-use Rattle.up_canon.specs.Canon.{json_string}
 use Rattle.up_canon.specs.Names.{Name, Table}
 use Rattle.up_canon.specs.declared.refusal.Refusal.{Refusal}
 use Rattle.up_manifest.specs.declared.report.Installed.{Installed}
 use Rattle.up_plan.specs.Campaigns.{CampaignData}
 use Rattle.up_plan.specs.Images.{ImageData}
-use Rattle.up_plan.specs.Planning.{reaches}
-use Rattle.up_plan.specs.declared.campaign.Reach.{Reach}
 use Rattle.up_machine.specs.declared.rows.EcuRow.{EcuRow}
 use Rattle.up_machine.specs.declared.rows.Founding.{Founding}
 use Rattle.up_machine.specs.declared.rows.Kept.{Kept}
@@ -175,31 +172,6 @@ pub record PutsCampaign (shown : CampaignShown) (before after : Table CampaignDa
   pub read : IsReadCampaign shown campaign
   pub put : after ≡ table.insert before campaign.name campaign
 
--- ---- campaigns that reach a vehicle
-
--- the column begins as a list, has no backslash, and this quoted name stands nowhere in it
-pub record LacksName (name column : List ℕ) : Type 0 where
-  pub list : get_or column 0 0 ≡ 91
-  pub plain : (i : ℕ) → i < length column → get_or column i 0 ≢ 92
-  pub lacks : (before behind : List ℕ) → column ≢ before ++ (name ++ behind)
-
--- the column says a reach that hasn't the vehicle
-pub record ReachesOthers (vehicle : Name) (column : List ℕ) : Type 0 where
-  pub reach : Reach
-  pub read : reach_in column ≡ Ok reach
-  pub others : reaches vehicle reach ≡ false
-
--- it is put in, and reaches the vehicle
-pub record PutsReached (vehicle : Name) (shown : CampaignShown) (before after : Table CampaignData) : Type 0 where
-  pub puts : PutsCampaign shown before after
-  pub reached : reaches vehicle puts.campaign.reach ≡ true
-
--- the campaign that the row is read as is put in where it reaches the vehicle; else its reach column hasn't the vehicle, and nothing changes
-abbrev pub PutsReaching : Name → CampaignShown → Table CampaignData → Table CampaignData → Type 0
-PutsReaching vehicle shown before after =
-    PutsReached vehicle shown before after
-    ⊎ ((after ≡ before) × (LacksName (json_string vehicle) shown.reach ⊎ ReachesOthers vehicle shown.reach))
-
 -- ---- what is told of a table's rows, whoever wrote them
 
 -- none where there is no row, else what it is read as
@@ -219,10 +191,6 @@ RunOf rows_of shown = (name : List ℕ) → EachSays SaysCampaign (running_shown
 -- the campaigns that run are what those rows are read as, one after another
 abbrev pub ReadsRunning : (List ℕ → List Row) → Table CampaignData → Type 0
 ReadsRunning rows_of read = (shown : List CampaignShown) × RunOf rows_of shown × InTurn PutsCampaign shown table.empty read
-
--- those of them that reach the vehicle are what their rows are read as; of the others the reach alone is read
-abbrev pub ReadsReaching : Name → (List ℕ → List Row) → Table CampaignData → Type 0
-ReadsReaching vehicle rows_of read = (shown : List CampaignShown) × RunOf rows_of shown × InTurn (PutsReaching vehicle) shown table.empty read
 
 -- the kept manifest of this vehicle and counter is what its row says
 abbrev pub ReadsKept : Name → ℕ → (List ℕ → List Row) → Option Kept → Type 0

@@ -8,7 +8,7 @@ use Rattle.sqlite.specs.State.{State as Connected, HasCleanDisk, IsRolledBack, S
 use Rattle.sqlite.specs.Tree.{Trees}
 use Rattle.up_rows.specs.StateRows.{StateRows}
 use Rattle.up_tables.specs.Ours.{HasFailed}
-use Rattle.up_tables.specs.Stands.{IfClean, IsInside}
+use Rattle.up_tables.specs.Stands.{IfClean, IsInside, LeavesOnly}
 use Rattle.up_tables.specs.Statements.{IsOpenStep, IsStep, OnlyReads, WhereInside}
 use Rattle.up_tables.specs.Tried.{BlamesOne, Ran, Undoes}
 use Rattle.up_tables.specs.declared.values.StoreFault.{StoreFault}
@@ -64,10 +64,12 @@ abbrev pub Committing : Result ⊤ StoreFault → Connected → Trees → Type 0
 Committing (Ok x) old trees = trees ≡ old.now.trees
 Committing (Err e) old trees = ⊥
 
--- what its step put is committed; the fault of the step is handed on, and its fault or the commit's undoes what was put
+-- what its step put is committed, and a crash leaves that alone; the fault of the step is handed on, and its fault or the commit's undoes what
+-- was put
 pub record EndsWrite (put : Result ⊤ StoreFault) (old new : Connected) (result : Result ⊤ StoreFault) : Type 0 where
   pub told : IfErr put (λ fault. result ≡ Err fault)
   pub committed : OnOk result (IfClean (Commits old) new)
+  pub durable : OnOk result (IfClean (LeavesOnly (λ trees. trees ≡ old.now.trees)) new)
   pub undone : OnOk put (IfClean IsInside old) → OnErr result (IfClean (IsRolledBack old) new)
   pub cause : OnOk put (IfClean IsInside old → HasCleanDisk new → IfErr result (λ fault. fault ≡ Store → HasFailed old new))
   pub survives : Survives old new (Committing put old)

@@ -1,9 +1,8 @@
 -- Which statements write what is given to the store, in their order; what they make of the database, and that it refuses one of them.
-use Rattle.std.specs.Prelude.{◌≡◌, ◌<◌, ◌^◌, ◌++◌, ℕ, pos, List, [], ◌∷◌, Option, Some, map, length, ⊤, Result}
+use Rattle.std.specs.Prelude.{◌≡◌, ◌<◌, ◌^◌, ◌++◌, ℕ, pos, List, [], ◌∷◌, Option, Some, map, length}
 use Rattle.sqlite.specs.declared.types.Value.TheVariants.{Int, Text, Blob}
 use Rattle.sqlite.specs.Effect.{Database}
 use Rattle.sqlite.specs.Order.{Row}
-use Rattle.sqlite.specs.State.{State as Connected}
 use Rattle.up_roles.specs.declared.repository.Repository.TheVariants.{Director, Image}
 use Rattle.up_plan.specs.Campaigns.{CampaignData}
 use Rattle.up_plan.specs.Images.{ImageData}
@@ -21,8 +20,6 @@ use Rattle.up_tables.specs.Texts.{insert_image_text, insert_sha512_text, insert_
 use Rattle.up_tables.specs.Texts.{insert_retired_text, insert_kept_text, update_meta_text, replace_ecu_text, insert_ecu_text, update_ecu_text}
 use Rattle.up_tables.specs.Texts.{insert_role_key_text, upsert_file_text, upsert_vehicle_text}
 use Rattle.up_tables.specs.Tried.{Makes, RefusesOne}
-use Rattle.up_tables.specs.declared.values.StoreFault.{StoreFault}
-use Rattle.up_store.specs.Connections.{WritesStore}
 use Rattle.up_store.specs.declared.files.ServedFile.{ServedFile}
 use Rattle.up_store.specs.Fitting.{IsNextRoot, IsSameRoot, IsNewImage, IsNewVehicle, IsReplacement, IsNewCampaign, IsClosing, IsRecorded}
 use Rattle.up_store.specs.Lines.{file_row, root_file_lines, role_file_lines, repository_lines, image_lines, sha512_lines}
@@ -123,8 +120,3 @@ pub record RefusesToWrite (rows next : StateRows) (limit : Option ℕ) (db : Dat
   pub these : List (List ℕ × Row)
   pub write : AreWrites rows next these
   pub refused : RefusesOne limit these db
-
--- ---- the write of a root version, which two calls carry out
-
-abbrev pub WritesRoot : RootRows → Connected → Connected → Result ⊤ StoreFault → Type 0
-WritesRoot new = WritesStore (IsNextRoot new) (λ rows. with_root_rows rows new) (root_writes new) (λ _. FitsFounding new.founding)

@@ -1,23 +1,20 @@
 //! Campaigns.
 ghost use Rattle.std.specs.Prelude.{◌≡◌, ⊤, Some, IfOk, IsSomeAnd};
 ghost use Rattle.std.specs.FinMap as table;
-ghost use Rattle.sqlite.specs.Held.{state};
 ghost use Rattle.up_rows.specs.Changes.{with_campaign_row};
 ghost use Rattle.up_tables.specs.Statements.{Finds};
 ghost use Rattle.up_tables.specs.Tables.{campaign_table};
 ghost use Rattle.up_tables.specs.declared.values.StoreFault.TheVariants.{Memory};
 ghost use Rattle.up_store.specs.ColumnRows.{OfCampaign, OnlyMemory};
-ghost use Rattle.up_store.specs.Connections.{PutsRows, ReadsStore, WritesStore};
+ghost use Rattle.up_store.specs.Connections.{PutsRows};
 ghost use Rattle.up_store.specs.Fitting.{IsNewCampaign, IsClosing};
-ghost use Rattle.up_store.specs.Found.{campaigns_found, running_found};
-ghost use Rattle.up_store.specs.ReadAs.{IsReadCampaign, ReadsCampaign, ReadsReaching, ReadsRunning};
+ghost use Rattle.up_store.specs.Found.{running_found};
+ghost use Rattle.up_store.specs.ReadAs.{IsReadCampaign, ReadsCampaign, ReadsRunning};
 ghost use Rattle.up_store.specs.Within.{FindsWithin, MakesAndPuts, PutsWithin};
 ghost use Rattle.up_store.specs.Writes.{campaign_writes, close_writes};
 
-use crate::campaign_rows::{
-    CampaignReading, CampaignShown, read_campaign, read_reaching, read_running, row_of,
-};
-use crate::store::{Store, StoreFault, end};
+use crate::campaign_rows::{CampaignReading, CampaignShown, read_campaign, read_running, row_of};
+use crate::store::StoreFault;
 use sqlite::{Alter, Transaction};
 use std::alloc::Global;
 use up_canon::ident::Ident;
@@ -27,59 +24,6 @@ use up_plan::campaign::Campaign;
 use up_tables::campaign::{
     campaign as campaign_shown, close_campaign, insert_campaign, running_campaigns as running_shown,
 };
-
-impl<D: Alter> Store<D> {
-    /// The campaign of this name, none where there is none.
-    pub fn campaign(&mut self, alloc: Global, name: &Ident) -> Result<Option<Campaign>, StoreFault>
-        ensures { ReadsStore (λ rows. table.get rows.campaigns name.now)
-            (Finds campaign_table 1 (ReadsCampaign name.now)) (state D.Store self.old) (state D.Store self.new) result }
-    {
-        let mut tx = self.conn.transaction();
-        find_campaign(&mut tx, alloc, name)
-    }
-
-    /// The running campaigns that reach the vehicle, by their names.
-    pub fn campaigns_for(
-        &mut self,
-        alloc: Global,
-        vehicle: &Ident,
-    ) -> Result<Table<Campaign>, StoreFault>
-        ensures { ReadsStore (campaigns_found vehicle.now) (Finds campaign_table 1 (ReadsReaching vehicle.now))
-            (state D.Store self.old) (state D.Store self.new) result }
-    {
-        let mut tx = self.conn.transaction();
-        find_campaigns(&mut tx, alloc, vehicle)
-    }
-
-    /// The running campaigns by their names.
-    pub fn running(&mut self, alloc: Global) -> Result<Table<Campaign>, StoreFault>
-        ensures { ReadsStore running_found (Finds campaign_table 1 ReadsRunning)
-            (state D.Store self.old) (state D.Store self.new) result }
-    {
-        let mut tx = self.conn.transaction();
-        find_running(&mut tx, alloc)
-    }
-
-    /// Writes a campaign whose name is new.
-    pub fn write_campaign(&mut self, alloc: Global, new: &Campaign) -> Result<(), StoreFault>
-        ensures { WritesStore (IsNewCampaign new.now) (λ rows. with_campaign_row rows new.now) (campaign_writes new.now)
-            (λ _. ⊤) (state D.Store self.old) (state D.Store self.new) result }
-    {
-        let mut tx = self.conn.transaction();
-        let put = put_campaign(&mut tx, alloc, new);
-        end(tx, put)
-    }
-
-    /// Closes a campaign that is there: `closed` is the same, not running.
-    pub fn write_close(&mut self, closed: &Campaign) -> Result<(), StoreFault>
-        ensures { WritesStore (IsClosing closed.now) (λ rows. with_campaign_row rows closed.now)
-            (close_writes closed.now) (λ _. ⊤) (state D.Store self.old) (state D.Store self.new) result }
-    {
-        let mut tx = self.conn.transaction();
-        let put = put_closed(&mut tx, closed);
-        end(tx, put)
-    }
-}
 
 /// Says in its row that a campaign doesn't run.
 pub fn put_closed<D: Alter>(
@@ -116,21 +60,6 @@ fn some_campaign(alloc: Global, shown: &CampaignShown) -> Result<Option<Campaign
 {
     match read_campaign(alloc, shown) {
         Ok(campaign) => Ok(Some(campaign)),
-        Err(fault) => Err(fault),
-    }
-}
-
-/// The running campaigns that reach the vehicle.
-fn find_campaigns<D: Alter>(
-    tx: &mut Transaction<'_, D>,
-    alloc: Global,
-    vehicle: &Ident,
-) -> Result<Table<Campaign>, StoreFault>
-    ensures { FindsWithin D.Store (λ rows found. found ≡ campaigns_found vehicle.now rows)
-        (Finds campaign_table 1 (ReadsReaching vehicle.now)) (λ _. ⊤) tx.old.conn tx.new.conn result }
-{
-    match running_shown::<D, CampaignReading>(tx, alloc) {
-        Ok(shown) => read_reaching(alloc, vehicle, shown.as_slice()),
         Err(fault) => Err(fault),
     }
 }

@@ -1,14 +1,13 @@
 //! Registered images.
 ghost use Rattle.std.specs.Prelude.{◌≡◌, None, Some, ⊤, IfOk, IsSomeAnd};
 ghost use Rattle.std.specs.FinMap as table;
-ghost use Rattle.sqlite.specs.Held.{state};
 ghost use Rattle.up_plan.specs.Images.{ImageData};
 ghost use Rattle.up_rows.specs.Changes.{with_image_rows};
 ghost use Rattle.up_tables.specs.Statements.{Finds};
 ghost use Rattle.up_tables.specs.Tables.{image_table, image_sha512_table};
 ghost use Rattle.up_tables.specs.declared.values.StoreFault.TheVariants.{Memory};
 ghost use Rattle.up_store.specs.ColumnRows.{AreImages, IsImage, OfImage, OnlyMemory, with_image};
-ghost use Rattle.up_store.specs.Connections.{PutsRows, ReadsStore, WritesStore};
+ghost use Rattle.up_store.specs.Connections.{PutsRows};
 ghost use Rattle.up_store.specs.Fitting.{IsNewImage};
 ghost use Rattle.up_store.specs.Puts.{HasColumns};
 ghost use Rattle.up_store.specs.ReadAs.{FindsBoth, IsRead, IsReadImage, ReadsBeside, ReadsImage, ReadsImages, ReadsSha512};
@@ -20,7 +19,7 @@ use crate::image_rows::{
 };
 use crate::roots::put_register;
 use crate::second_hashes::{find_sha512, find_sha512s, put_sha512};
-use crate::store::{Store, StoreFault, end};
+use crate::store::StoreFault;
 use sqlite::{Alter, Transaction};
 use std::alloc::Global;
 use up_canon::file_name::FileName;
@@ -28,42 +27,6 @@ use up_canon::table::Table;
 use up_machine::decision::RegisterRows;
 use up_plan::image::Image;
 use up_tables::image::{image as image_shown, images as images_shown, insert_image};
-
-impl<D: Alter> Store<D> {
-    /// The image of this filename, none where there is none.
-    pub fn image(&mut self, alloc: Global, file: &FileName) -> Result<Option<Image>, StoreFault>
-        ensures { ReadsStore (λ rows. table.get rows.images file.now) (FindsBoth image_table 1 image_sha512_table 1
-            (ReadsImage file.now)) (state D.Store self.old) (state D.Store self.new) result }
-    {
-        let mut tx = self.conn.transaction();
-        find_image(&mut tx, alloc, file)
-    }
-
-    /// All images by their filenames.
-    pub fn images(&mut self, alloc: Global) -> Result<Table<Image>, StoreFault>
-        ensures { ReadsStore (λ rows. rows.images) (FindsBoth image_table 1 image_sha512_table 1 ReadsImages)
-            (state D.Store self.old) (state D.Store self.new) result }
-    {
-        let mut tx = self.conn.transaction();
-        find_images(&mut tx, alloc)
-    }
-
-    /// Writes an image whose filename is new, its second hash where it has one, and new files of the image repository.
-    pub fn write_image(
-        &mut self,
-        alloc: Global,
-        image: &Image,
-        new: &RegisterRows,
-    ) -> Result<(), StoreFault>
-        ensures { WritesStore (IsNewImage image.now new.now) (λ rows. with_image_rows rows image.now new.now)
-            (image_writes image.now new.now) (λ _. FitsFounding new.now.founding) (state D.Store self.old)
-            (state D.Store self.new) result }
-    {
-        let mut tx = self.conn.transaction();
-        let put = put_image(&mut tx, alloc, image, new);
-        end(tx, put)
-    }
-}
 
 /// The image of this filename.
 pub fn find_image<D: Alter>(

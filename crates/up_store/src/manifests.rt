@@ -1,13 +1,12 @@
 //! Accepted manifests.
 ghost use Rattle.std.specs.Prelude.{◌≡◌, ◌<◌, ◌^◌, ⊤, OnOk, length};
 ghost use Rattle.std.specs.List.{AllByRecursion};
-ghost use Rattle.sqlite.specs.Held.{state};
 ghost use Rattle.up_rows.specs.Changes.{with_accepted_rows};
 ghost use Rattle.up_rows.specs.Lookups.{kept_with, latest_kept};
 ghost use Rattle.up_rows.specs.SecondHashes.{TellsItsHash};
 ghost use Rattle.up_tables.specs.Statements.{Finds};
 ghost use Rattle.up_tables.specs.Tables.{kept_table, vehicle_table};
-ghost use Rattle.up_store.specs.Connections.{PutsRows, PutsTables, ReadsStore, WritesStore};
+ghost use Rattle.up_store.specs.Connections.{PutsRows, PutsTables};
 ghost use Rattle.up_store.specs.Fitting.{IsRecorded};
 ghost use Rattle.up_store.specs.Puts.{IsMadeOfKept, IsReported, MayAccept, MayReport, with_reported};
 ghost use Rattle.up_store.specs.ReadAs.{FindsBoth, ReadsKept, ReadsLatest};
@@ -18,7 +17,7 @@ ghost use Rattle.up_store.specs.Writes.{FitsAccepted, accept_writes, reported_wr
 use crate::column_values::{check_places, check_version};
 use crate::ecus::set_ecus;
 use crate::kept_rows::{KeptReading, make_plan, row_of};
-use crate::store::{Store, StoreFault, end};
+use crate::store::StoreFault;
 use crate::vehicles::{VehicleReading, row_of as vehicle_row_of};
 use sqlite::{Alter, Transaction};
 use std::alloc::Global;
@@ -28,42 +27,6 @@ use up_machine::decision::AcceptedRows;
 use up_machine::rows::{Kept, VehicleRows};
 use up_tables::kept::{insert_kept, kept as kept_found};
 use up_tables::vehicle::{upsert_vehicle, vehicle as vehicle_shown};
-
-impl<D: Alter> Store<D> {
-    /// The vehicle's row with this counter, none where there is none.
-    pub fn kept(
-        &mut self,
-        alloc: Global,
-        vehicle: &Ident,
-        counter: Count,
-    ) -> Result<Option<Kept>, StoreFault>
-        ensures { ReadsStore (kept_with vehicle.now counter) (Finds kept_table 1 (ReadsKept vehicle.now counter))
-            (state D.Store self.old) (state D.Store self.new) result }
-    {
-        let mut tx = self.conn.transaction();
-        find_kept(&mut tx, alloc, vehicle, counter)
-    }
-
-    /// The vehicle's row with its greatest counter, none of an unknown vehicle and before its first manifest.
-    pub fn latest(&mut self, alloc: Global, vehicle: &Ident) -> Result<Option<Kept>, StoreFault>
-        ensures { ReadsStore (latest_kept vehicle.now) (FindsBoth vehicle_table 1 kept_table 1
-            (ReadsLatest vehicle.now)) (state D.Store self.old) (state D.Store self.new) result }
-    {
-        let mut tx = self.conn.transaction();
-        find_latest(&mut tx, alloc, vehicle)
-    }
-
-    /// Writes an accepted manifest: its vehicle's row, what its ECUs reported, and the row that is kept for it.
-    pub fn write_accept(&mut self, alloc: Global, new: &AcceptedRows) -> Result<(), StoreFault>
-        ensures { WritesStore (IsRecorded new.now) (λ rows. with_accepted_rows rows new.now) (accept_writes new.now)
-            (λ rows. IsRecorded new.now rows × FitsAccepted new.now) (state D.Store self.old)
-            (state D.Store self.new) result }
-    {
-        let mut tx = self.conn.transaction();
-        let put = put_accepted(&mut tx, alloc, new);
-        end(tx, put)
-    }
-}
 
 /// Sets the rows of a vehicle, and keeps a manifest.
 pub fn put_accepted<D: Alter>(

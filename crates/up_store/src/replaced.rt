@@ -1,29 +1,16 @@
 //! An ECU that another one replaces.
 ghost use Rattle.std.specs.Prelude.{⊤};
-ghost use Rattle.sqlite.specs.Held.{state};
 ghost use Rattle.up_rows.specs.Changes.{with_replaced_rows};
-ghost use Rattle.up_store.specs.Connections.{PutsRows, WritesStore};
+ghost use Rattle.up_store.specs.Connections.{PutsRows};
 ghost use Rattle.up_store.specs.Fitting.{IsReplacement};
 ghost use Rattle.up_store.specs.Within.{PutsWithin};
 ghost use Rattle.up_store.specs.Writes.{replace_writes};
 
-use crate::store::{Store, StoreFault, end};
+use crate::store::StoreFault;
 use sqlite::{Alter, Transaction};
 use up_machine::vehicle::Replacement;
 use up_tables::replace::replace_ecu;
 use up_tables::retired::insert_retired;
-
-impl<D: Alter> Store<D> {
-    /// Puts an ECU, before its first report, in the place of one of its vehicle, whose identifier is retired.
-    pub fn write_replace(&mut self, new: &Replacement) -> Result<(), StoreFault>
-        ensures { WritesStore (IsReplacement new.now) (λ rows. with_replaced_rows rows new.now) (replace_writes new.now)
-            (λ _. ⊤) (state D.Store self.old) (state D.Store self.new) result }
-    {
-        let mut tx = self.conn.transaction();
-        let put = put_replaced(&mut tx, new);
-        end(tx, put)
-    }
-}
 
 /// Puts the new ECU in the place of the old one, and retires the old one's identifier.
 pub fn put_replaced<D: Alter>(

@@ -1,6 +1,5 @@
 //! Root versions and the files that are served.
 ghost use Rattle.std.specs.Prelude.{◌≡◌, ◌==◌, ◌<◌, ◌^◌, ⊤, not, All, Option, Some, IfErr, IfOk, is_some, map, option_map};
-ghost use Rattle.sqlite.specs.Held.{state};
 ghost use Rattle.up_machine.specs.declared.rows.Founding.{Founding as FoundingData};
 ghost use Rattle.up_rows.specs.Changes.{with_root_rows, with_register_rows};
 ghost use Rattle.up_rows.specs.Lookups.{text_held};
@@ -9,7 +8,7 @@ ghost use Rattle.up_tables.specs.Statements.{FindsAll, FindsFiles, WhereOpen};
 ghost use Rattle.up_tables.specs.Tables.{role_key_table};
 ghost use Rattle.up_tables.specs.Texts.{insert_role_key_text};
 ghost use Rattle.up_tables.specs.declared.values.StoreFault.TheVariants as StoreFault;
-ghost use Rattle.up_store.specs.Connections.{PutsRows, PutsTables, ReadsStore, WritesStore};
+ghost use Rattle.up_store.specs.Connections.{PutsRows, PutsTables};
 ghost use Rattle.up_store.specs.Fitting.{IsNextRoot, IsSameRoot};
 ghost use Rattle.up_store.specs.Lines.{repository_word as word_of};
 ghost use Rattle.up_store.specs.Puts.{AreMadeOfRoot, HasFilesOnce, with_files, with_key_lines};
@@ -17,13 +16,13 @@ ghost use Rattle.up_store.specs.ReadAs.{FindsFounding, FindsNumbers, ReadsFile, 
 ghost use Rattle.up_store.specs.Shown.{file_read, meta_told, IsFoundingOf};
 ghost use Rattle.up_store.specs.Typed.{IsTypedFounding};
 ghost use Rattle.up_store.specs.Within.{FindsWithin, MakesAndPuts, PutsWithin};
-ghost use Rattle.up_store.specs.Writes.{FitsFounding, WritesRoot, each_with, file_writes, register_writes, root_writes};
+ghost use Rattle.up_store.specs.Writes.{FitsFounding, each_with, file_writes, register_writes, root_writes};
 
 use crate::column_values::moment_in;
 use crate::files::{FileReading, ServedFile, role_files, root_files, root_name};
 use crate::keys::{KeyReading, RoleKey, make_keys, read_keys, repository_word};
 use crate::numbers::{find_numbers, make_numbers, put_numbers};
-use crate::store::{Store, StoreFault, end};
+use crate::store::StoreFault;
 use sqlite::{Alter, Transaction};
 use std::alloc::Global;
 use up_canon::file_name::FileName;
@@ -34,75 +33,6 @@ use up_roles::repository::Repository;
 use up_tables::meta::MetaRow;
 use up_tables::repo_file::{FileRow, file, upsert_files};
 use up_tables::role_key::{RoleKeyRow, insert_role_keys, role_keys_of};
-
-impl<D: Alter> Store<D> {
-    /// The founding: the last root version with its keys, the image repository's version and its moment; none before founding.
-    pub fn founding(&mut self, alloc: Global) -> Result<Option<Founding>, StoreFault>
-        ensures { ReadsStore (λ rows. rows.founding) FindsFounding (state D.Store self.old)
-            (state D.Store self.new) result }
-    {
-        let mut tx = self.conn.transaction();
-        find_founding(&mut tx, alloc)
-    }
-
-    /// Whether the repositories are founded.
-    pub fn is_founded(&mut self, alloc: Global) -> Result<bool, StoreFault>
-        ensures { ReadsStore (λ rows. is_some rows.founding)
-            (FindsNumbers (λ row founded. founded ≡ not (row.root == 0))) (state D.Store self.old)
-            (state D.Store self.new) result }
-    {
-        let mut tx = self.conn.transaction();
-        find_whether_founded(&mut tx, alloc)
-    }
-
-    /// The text of a repository's file of this name, none where there is none.
-    pub fn file(
-        &mut self,
-        alloc: Global,
-        repository: Repository,
-        name: &FileName,
-    ) -> Result<Option<Text>, StoreFault>
-        ensures { ReadsStore (λ rows. text_held rows repository name.now)
-            (FindsFiles (ReadsFile (word_of repository) name.now)) (state D.Store self.old)
-            (state D.Store self.new) result }
-    {
-        let mut tx = self.conn.transaction();
-        find_file(&mut tx, alloc, repository, name)
-    }
-
-    /// Writes the first root version, with the files of the image repository.
-    pub fn write_found(&mut self, alloc: Global, new: &RootRows) -> Result<(), StoreFault>
-        ensures { WritesRoot new.now (state D.Store self.old) (state D.Store self.new) result }
-    {
-        self.write_root(alloc, new)
-    }
-
-    /// Writes the next root version, with new files of the image repository.
-    pub fn write_rotate(&mut self, alloc: Global, new: &RootRows) -> Result<(), StoreFault>
-        ensures { WritesRoot new.now (state D.Store self.old) (state D.Store self.new) result }
-    {
-        self.write_root(alloc, new)
-    }
-
-    /// Writes a root version, the first or the next.
-    fn write_root(&mut self, alloc: Global, new: &RootRows) -> Result<(), StoreFault>
-        ensures { WritesRoot new.now (state D.Store self.old) (state D.Store self.new) result }
-    {
-        let mut tx = self.conn.transaction();
-        let put = put_root(&mut tx, alloc, new);
-        end(tx, put)
-    }
-
-    /// Writes new files of the image repository.
-    pub fn write_refresh(&mut self, new: &RegisterRows) -> Result<(), StoreFault>
-        ensures { WritesStore (IsSameRoot new.now) (λ rows. with_register_rows rows new.now) (register_writes new.now)
-            (λ _. FitsFounding new.now.founding) (state D.Store self.old) (state D.Store self.new) result }
-    {
-        let mut tx = self.conn.transaction();
-        let put = put_register(&mut tx, new);
-        end(tx, put)
-    }
-}
 
 /// The founding.
 pub fn find_founding<D: Alter>(

@@ -1,6 +1,5 @@
 //! Vehicles and their ECUs.
 ghost use Rattle.std.specs.Prelude.{◌≡◌, ◌<◌, ◌^◌, ⊤, IfOk, IfErr, Some, false, string_bytes};
-ghost use Rattle.sqlite.specs.Held.{state};
 ghost use Rattle.up_canon.specs.Names.{is_ident};
 ghost use Rattle.up_rows.specs.Changes.{with_vehicle_rows};
 ghost use Rattle.up_rows.specs.Lookups.{last_owner, owner_found};
@@ -8,7 +7,7 @@ ghost use Rattle.up_tables.specs.Forms.{FitVehicle};
 ghost use Rattle.up_tables.specs.Statements.{Finds};
 ghost use Rattle.up_tables.specs.Tables.{ecu_table, retired_table, vehicle_table};
 ghost use Rattle.up_tables.specs.declared.values.StoreFault.TheVariants as StoreFault;
-ghost use Rattle.up_store.specs.Connections.{PutsRows, ReadsStore, WritesStore};
+ghost use Rattle.up_store.specs.Connections.{PutsRows};
 ghost use Rattle.up_store.specs.Fitting.{IsNewVehicle};
 ghost use Rattle.up_store.specs.Found.{vehicle_found, ecus_found};
 ghost use Rattle.up_store.specs.ReadAs.{FindsBoth, ReadsEcus, ReadsOwner, ReadsVehicle, StandsIn};
@@ -19,7 +18,7 @@ ghost use Rattle.up_store.specs.Writes.{FitsVehicle, vehicle_writes};
 
 use crate::column_values::{check_places, check_version, count_at, ident_at, ident_in};
 use crate::ecus::{EcuReading, add_ecus};
-use crate::store::{Store, StoreFault, end};
+use crate::store::StoreFault;
 use sqlite::{Alter, Row, Transaction};
 use std::alloc::Global;
 use up_canon::ident::Ident;
@@ -55,49 +54,6 @@ impl RowReading for VehicleReading {
             vehicle: ident_at(row, 0)?,
             primary: ident_at(row, 1)?,
         })
-    }
-}
-
-impl<D: Alter> Store<D> {
-    /// The vehicle's row, none of an unknown vehicle.
-    pub fn vehicle(
-        &mut self,
-        alloc: Global,
-        vehicle: &Ident,
-    ) -> Result<Option<VehicleRow>, StoreFault>
-        ensures { ReadsStore (vehicle_found vehicle.now) (Finds vehicle_table 1 (ReadsVehicle vehicle.now))
-            (state D.Store self.old) (state D.Store self.new) result }
-    {
-        let mut tx = self.conn.transaction();
-        find_vehicle(&mut tx, alloc, vehicle)
-    }
-
-    /// The vehicle's ECUs in inventory order; empty of an unknown vehicle.
-    pub fn ecus(&mut self, alloc: Global, vehicle: &Ident) -> Result<Listed<EcuRow>, StoreFault>
-        ensures { ReadsStore (ecus_found vehicle.now) (Finds ecu_table 2 (ReadsEcus vehicle.now))
-            (state D.Store self.old) (state D.Store self.new) result }
-    {
-        let mut tx = self.conn.transaction();
-        find_ecus(&mut tx, alloc, vehicle)
-    }
-
-    /// The vehicle in which the ECU stands, else the one in which an ECU of the name was replaced; none of an unknown ECU.
-    pub fn ecu_owner(&mut self, ecu: &Ident) -> Result<Option<Ident>, StoreFault>
-        ensures { ReadsStore (owner_found ecu.now) (FindsBoth ecu_table 2 retired_table 2 (ReadsOwner ecu.now))
-            (state D.Store self.old) (state D.Store self.new) result }
-    {
-        let mut tx = self.conn.transaction();
-        find_owner(&mut tx, ecu)
-    }
-
-    /// Writes a vehicle whose name is new, with its ECUs.
-    pub fn write_vehicle(&mut self, new: &VehicleRows) -> Result<(), StoreFault>
-        ensures { WritesStore (IsNewVehicle new.now) (λ rows. with_vehicle_rows rows new.now) (vehicle_writes new.now)
-            (λ _. FitsVehicle new.now) (state D.Store self.old) (state D.Store self.new) result }
-    {
-        let mut tx = self.conn.transaction();
-        let put = put_vehicle(&mut tx, new);
-        end(tx, put)
     }
 }
 

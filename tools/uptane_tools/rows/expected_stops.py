@@ -23,6 +23,7 @@ def bench(counter: int) -> str:
     return row_texts.canonical(line)
 
 
+WAYS = ("", ", in one run")
 LINES = [expected_streams.FOUND, expected_streams.VEHICLE, bench(1), bench(2)]
 
 
@@ -72,8 +73,8 @@ def texts() -> tuple[str, str]:
     for words, rows, says in controls:
         words = "wrong on purpose, " + words
         given += section(words, rows)
-        told += "".join("%s, a %s that stops: after 0 calls %s\n" % (words, file, says)
-                        for file in ("log", "database file"))
+        told += "".join("%s%s, a %s that stops: after 0 calls %s\n" % (words, way, file, says)
+                        for way in WAYS for file in ("log", "database file"))
     return given, told
 
 
@@ -82,14 +83,20 @@ def section(words: str, rows: list[tuple]) -> str:
 
 
 def places(words: str, number: int) -> str:
-    """Where each file stops: while it is opened, in the lines, and while it is closed."""
-    lines = ["in row %d" % row for row in range(1, number + 1)]
-    log = "%s, a log that stops: %s\n" % (words, ", ".join([
-        "while it is opened", *lines, "while it is closed"]))
-    return log + "%s, a database file that stops: while it is opened, while it is closed\n" % words
+    """Where each file stops: while it is opened, in the lines, and while it is closed. In one run
+    no line is answered before the commit of all.
+    """
+    told = ""
+    for way, rows in zip(WAYS, (number, 1)):
+        lines = ["in row %d" % row for row in range(1, rows + 1)]
+        log = ", ".join(["while it is opened", *lines, "while it is closed"])
+        told += "%s%s, a log that stops: %s\n" % (words, way, log)
+        told += ("%s%s, a database file that stops: while it is opened, while it is closed\n" %
+                 (words, way))
+    return told
 
 
 def first() -> tuple[str, str]:
     """The same of the first section."""
     given, told = texts()
-    return "\n# " + given.split("\n# ")[1] + "\n", "".join(told.splitlines(True)[:2])
+    return "\n# " + given.split("\n# ")[1] + "\n", "".join(told.splitlines(True)[:4])

@@ -62,14 +62,14 @@ READS = [
     "founding", "founded", "file director root.json", "file director 1.root.json",
     "file image root.json", "file image 2.root.json", "file image targets.json",
     "file image snapshot.json", "file image timestamp.json", "file director targets.json",
-    "image x/y.bin", "image a.bin", "images", "campaign some", "campaign any", "campaigns v",
-    "campaigns w", "running", "vehicle v", "ecus v", "ecus w", "owner a-v", "owner a-x", "owner v",
-    "kept v 3", "kept v 5", "kept w 3", "latest v", "latest w"]
+    "image x/y.bin", "image a.bin", "images", "campaign some", "campaign any", "running",
+    "vehicle v", "ecus v", "ecus w", "owner a-v", "owner a-x", "owner v", "kept v 3", "kept v 5",
+    "kept w 3", "latest v", "latest w"]
 
-# one of each of the thirteen
+# one of each of the twelve
 ONE_OF_EACH = [
     "founding", "founded", "file image timestamp.json", "image x/y.bin", "images", "campaign any",
-    "campaigns v", "running", "vehicle v", "ecus v", "owner a-v", "kept v 3", "latest v"]
+    "running", "vehicle v", "ecus v", "owner a-v", "kept v 3", "latest v"]
 
 # ---- older schemas: their statements, as databases in the field have them
 
@@ -247,12 +247,6 @@ class State:
     def running(self) -> list[str]:
         return [row for _, row in sorted(self.campaigns.items()) if row.split()[3] == "runs"]
 
-    def reaching(self, vehicle: str) -> Iterator[str]:
-        for row in self.running():
-            reach = row.split()[1]
-            if reach == "*" or vehicle in reach.split(","):
-                yield row
-
     def read(self, word: str, *rest: str) -> str:
         if word == "founding":
             return self.founding
@@ -262,8 +256,6 @@ class State:
             return " ; ".join(row for _, row in sorted(self.images.items())) or "no rows"
         if word == "running":
             return " ; ".join(self.running()) or "no rows"
-        if word == "campaigns":
-            return " ; ".join(self.reaching(*rest)) or "no rows"
         if word == "ecus":
             return " ; ".join(self.ecus.get(rest[0], [])) or "no rows"
         if word == "owner":

@@ -30,10 +30,8 @@ from uptane_tools.trial.trials import TOP
 PAGE = TOP / "docs" / "trust" / "THEOREM.md"
 HEADLINE = ("crates/up_desk/src/desk.rt", "run")
 # the same over fresh tables, whose statements have nothing of the inside
-FRESH = "crates/up_shipped/src/fresh.rt", ["run_fresh", "script_fresh"]
+FRESH = "crates/up_shipped/src/fresh.rt", ["run_fresh", "script_fresh", "stream_fresh"]
 LAWS = "crates/up_uptane/src/laws.rt"
-# to these definitions no contract leads, but proofs, or nothing yet
-OF_PROOFS = {"up_records": "FindsSuch IsThere"}
 # the law of the scheme that a desk is over, by the bound of its type
 BOUND = TOP / "crates" / "up_sign" / "src" / "scheme.rt"
 QUOTE = re.compile(r"^<!-- (quote|example) (\S+) (\w+) -->\n\n((?:    .*\n|\n(?=    ))*)",
@@ -367,8 +365,7 @@ def cases() -> trials.Cases:
     led = {source for source, _, _ in closure()}
     for path in to_read(text):
         yield "the headline leads to %s" % path.relative_to(TOP), path in led
-    yield "a contract leads to each definition", all(
-        name in OF_PROOFS.get(file.split("/")[1], "").split() for file, name in unled())
+    yield "a contract leads to each definition", not [*unled()]
     if kit_here():
         yield "the counts of the kit", KIT_TABLE.findall(text) == [kit_table(kit_here())]
 

@@ -77,7 +77,7 @@ fn called<D: Alter>(
 }
 
 /// The line of an answer, and behind that of a reply its text.
-fn answer_told(alloc: Global, answer: &Answer) -> Result<String, AllocError> {
+pub(crate) fn answer_told(alloc: Global, answer: &Answer) -> Result<String, AllocError> {
     let mut out = answer_text(alloc, answer)?;
     if let Answer::Reply(reply) = answer {
         out.push(' ')?;

@@ -1,6 +1,6 @@
 //! A section over files of which one stops at each of its calls in turn.
 use crate::stops::cases::{Before, Ended, all_of, so_many};
-use crate::stops::machine::{Machine, NEVER, Stopping, stopping_after};
+use crate::stops::machine::{Machine, NEVER, Stopping, Way, stopping_after};
 use crate::stops::runs::run;
 use sqlite_disk::Crash;
 use std::alloc::{AllocError, Global};
@@ -15,20 +15,33 @@ enum Came {
     Other(String),
 }
 
-/// What is told of a section over a log that stops and over a database file that does, a line each.
+/// What is told of a section whose commands are carried out one by one, and then of one run.
 pub(crate) fn told(alloc: Global, section: &str) -> Result<String, AllocError> {
     let words = section.split_once('\n').unwrap_or((section, "")).0;
-    let log = stopped_in_turn(alloc, section, Stopping::Log)?;
-    let db = stopped_in_turn(alloc, section, Stopping::Database)?;
+    let apart = told_of(alloc, section, words, Way::Apart)?;
+    let run = format!(in alloc; "{words}, in one run")?;
+    let together = told_of(alloc, section, run.as_str(), Way::Together)?;
+    format!(in alloc; "{}\n{}", apart.as_str(), together.as_str())
+}
+
+/// What is told over a log that stops and over a database file that does, a line each.
+fn told_of(alloc: Global, section: &str, words: &str, way: Way) -> Result<String, AllocError> {
+    let log = stopped_in_turn(alloc, section, Stopping::Log, way)?;
+    let db = stopped_in_turn(alloc, section, Stopping::Database, way)?;
     format!(in alloc; "{words}, a log that stops: {log}\n{words}, a database file that stops: {db}")
 }
 
 /// Where there were stops, or what isn't as the section says.
-fn stopped_in_turn(alloc: Global, section: &str, stopping: Stopping) -> Result<String, AllocError> {
+fn stopped_in_turn(
+    alloc: Global,
+    section: &str,
+    stopping: Stopping,
+    way: Way,
+) -> Result<String, AllocError> {
     let mut places = String::new(alloc);
     let mut last = so_many(NEVER as usize, 0);
     for calls in 0..NEVER {
-        match stopped_after(alloc, section, stopping, calls)? {
+        match stopped_after(alloc, section, stopping, way, calls)? {
             Came::Stop(before) => {
                 if before != last {
                     push_place(alloc, &mut places, before)?;
@@ -43,13 +56,13 @@ fn stopped_in_turn(alloc: Global, section: &str, stopping: Stopping) -> Result<S
     Ok(places)
 }
 
-/// Says where a stop was: in the row of a number, or before or behind all of them.
+/// Says where a stop was: in the first row without an answer, or before or behind all of them.
 fn push_place(alloc: Global, places: &mut String, before: Before) -> Result<(), AllocError> {
     if !places.is_empty() {
         places.push_str(", ")?;
     }
     if before.asked > before.answered {
-        let place = format!(in alloc; "in row {}", before.asked)?;
+        let place = format!(in alloc; "in row {}", before.answered.saturating_add(1))?;
         return places.push_str(place.as_str());
     }
     places.push_str(if before.answered == 0 {
@@ -64,9 +77,10 @@ fn stopped_after(
     alloc: Global,
     section: &str,
     stopping: Stopping,
+    way: Way,
     calls: u64,
 ) -> Result<Came, AllocError> {
-    let mut machine = stopping_after(alloc, stopping, calls);
+    let mut machine = stopping_after(alloc, stopping, way, calls);
     what_came(alloc, &mut machine, section)
 }
 

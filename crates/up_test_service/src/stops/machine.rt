@@ -13,16 +13,25 @@ pub(crate) enum Stopping {
     Database,
 }
 
+/// How the commands of a section are carried out: one by one, or in one run.
+#[derive(Clone, Copy, Debug)]
+pub(crate) enum Way {
+    Apart,
+    Together,
+}
+
 /// A machine, and the files on its disks while no connection has them.
 #[derive(Drop)]
 pub(crate) struct Machine<D: Crash> {
     files: Option<Files<D>>,
+    pub(crate) way: Way,
 }
 
 /// A machine with new files, of which one takes so many calls, and then none until the machine is started again.
 pub(crate) fn stopping_after(
     alloc: Global,
     stopping: Stopping,
+    way: Way,
     calls: u64,
 ) -> Machine<Fuse<Memory>> {
     let (log, db) = match stopping {
@@ -33,7 +42,10 @@ pub(crate) fn stopping_after(
         log: Fuse::new(Memory::new(alloc), log),
         db: Fuse::new(Memory::new(alloc), db),
     };
-    Machine { files: Some(files) }
+    Machine {
+        files: Some(files),
+        way,
+    }
 }
 
 impl<D: Crash + Drop> Machine<D> {

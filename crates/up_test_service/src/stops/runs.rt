@@ -3,7 +3,8 @@ ghost use Rattle.std.specs.Prelude.{◌≡◌, false};
 ghost use Rattle.sqlite.specs.Held.{state};
 
 use crate::stops::cases::{Before, Ended, all_of, carried_out, so_many};
-use crate::stops::machine::Machine;
+use crate::stops::machine::{Machine, Way};
+use crate::stops::together::Together;
 use sqlite::{Alter, Connection, FileStore, Files, Options};
 use sqlite_disk::Crash;
 use std::alloc::{AllocError, Global};
@@ -78,7 +79,7 @@ fn run_within<D: Crash + Drop>(
     before: Before,
     conn: Connection<FileStore<D>>,
 ) -> Result<Ended, AllocError> {
-    match carried_out_in(alloc, section, before, conn) {
+    match carried_out_in(alloc, machine.way, section, before, conn) {
         Left::Whole(conn) => Ok(closed(machine, section, conn)),
         Left::Cut(ended, store) => {
             machine.keep(store.close());
@@ -89,12 +90,13 @@ fn run_within<D: Crash + Drop>(
 
 fn carried_out_in<S: Alter + Drop>(
     alloc: Global,
+    way: Way,
     section: &str,
     before: Before,
     conn: Connection<S>,
 ) -> Left<S> {
     match tables_in(conn) {
-        Ok(store) => carried_out_at(alloc, section, before, store),
+        Ok(store) => carried_out_at(alloc, way, section, before, store),
         Err(conn) => Left::Cut(Ok(Ended::Stopped(so_many(0, 0))), conn.into_store()),
     }
 }
@@ -123,13 +125,23 @@ fn created<S: Alter>(conn: Connection<S>) -> Result<Store<S>, Connection<S>>
 /// Carries out the section at a desk over the tables.
 fn carried_out_at<S: Alter + Drop>(
     alloc: Global,
+    way: Way,
     section: &str,
     before: Before,
     store: Store<S>,
 ) -> Left<S> {
-    let mut desk = Desk::new(HmacSha256, store);
-    let ended = carried_out(alloc, &mut desk, section, before);
-    left_behind(ended, desk.release().release())
+    match way {
+        Way::Apart => {
+            let mut desk = Desk::new(HmacSha256, store);
+            let ended = carried_out(alloc, &mut desk, section, before);
+            left_behind(ended, desk.release().release())
+        }
+        Way::Together => {
+            let mut calls = Together::new(alloc, store);
+            let ended = calls.carried_out(alloc, section, before);
+            left_behind(ended, calls.release())
+        }
+    }
 }
 
 fn left_behind<S: Alter + Drop>(ended: Result<Ended, AllocError>, conn: Connection<S>) -> Left<S> {

@@ -1,4 +1,6 @@
-//! The thirteen reads by their words, each told as a line of text.
+//! The twelve reads by their words, each in a session of its own and told as a line of text.
+ghost use Rattle.std.specs.Prelude.{◌≡◌, false};
+
 use crate::store::campaigns::{campaign_text, campaigns_text};
 use crate::store::fault::Fault;
 use crate::store::images::{image_text, images_text};
@@ -6,7 +8,7 @@ use crate::store::manifests::kept_text;
 use crate::store::roots::founding_text;
 use crate::store::vehicles::{ecus_text, vehicle_text};
 use crate::store::words::{count, file_name, first_of, ident};
-use sqlite::Alter;
+use sqlite::{Alter, Transaction};
 use std::alloc::{AllocError, Global};
 use up_canon::file_name::FileName;
 use up_canon::ident::Ident;
@@ -14,10 +16,15 @@ use up_canon::text::Text;
 use up_machine::rows::Kept;
 use up_plan::campaign::Campaign;
 use up_roles::repository::Repository;
+use up_store::campaigns::{find_campaign, find_running};
+use up_store::images::{find_image, find_images};
+use up_store::manifests::{find_kept, find_latest};
+use up_store::roots::{find_file, find_founding, find_whether_founded};
 use up_store::store::{Store, StoreFault};
+use up_store::vehicles::{find_ecus, find_owner, find_vehicle};
 
 /// What a read answers: `founding`, `founded`, `file REPOSITORY NAME`, `image FILE`, `images`, `running`, `campaign NAME`,
-/// `campaigns VEHICLE`, `vehicle VEHICLE`, `ecus VEHICLE`, `owner ECU`, `kept VEHICLE COUNTER` or `latest VEHICLE`.
+/// `vehicle VEHICLE`, `ecus VEHICLE`, `owner ECU`, `kept VEHICLE COUNTER` or `latest VEHICLE`.
 pub(crate) fn read<S: Alter>(
     alloc: Global,
     store: &mut Store<S>,
@@ -36,6 +43,11 @@ pub(crate) fn read<S: Alter>(
     }
 }
 
+/// A session that put nothing ends.
+fn undone<S: Alter>(_tx: Transaction<'_, S>)
+    ensures { _tx.exit.0.now.in_transaction ≡ false }
+{}
+
 fn read_of_name<S: Alter>(
     alloc: Global,
     store: &mut Store<S>,
@@ -47,9 +59,8 @@ fn read_of_name<S: Alter>(
         "vehicle" => vehicle(alloc, store, &name),
         "ecus" => ecus(alloc, store, &name),
         "owner" => owner(alloc, store, &name),
-        "latest" => one_kept(alloc, store.latest(alloc, &name)),
-        "campaign" => one_campaign(alloc, store.campaign(alloc, &name)),
-        "campaigns" => campaigns(alloc, store, &name),
+        "latest" => latest(alloc, store, &name),
+        "campaign" => campaign(alloc, store, &name),
         _ => Err(Fault::Misspelled),
     }
 }
@@ -81,7 +92,10 @@ fn made(text: Result<String, AllocError>) -> Result<String, Fault> {
 }
 
 fn founding<S: Alter>(alloc: Global, store: &mut Store<S>) -> Result<String, Fault> {
-    match store.founding(alloc) {
+    let mut tx = store.conn.transaction();
+    let found = find_founding(&mut tx, alloc);
+    undone(tx);
+    match found {
         Ok(Some(row)) => made(founding_text(alloc, &row)),
         Ok(None) => none(alloc),
         Err(fault) => Err(Fault::from(fault)),
@@ -89,7 +103,10 @@ fn founding<S: Alter>(alloc: Global, store: &mut Store<S>) -> Result<String, Fau
 }
 
 fn founded<S: Alter>(alloc: Global, store: &mut Store<S>) -> Result<String, Fault> {
-    match store.is_founded(alloc) {
+    let mut tx = store.conn.transaction();
+    let found = find_whether_founded(&mut tx, alloc);
+    undone(tx);
+    match found {
         Ok(true) => made("yes".to_string(alloc)),
         Ok(false) => made("no".to_string(alloc)),
         Err(fault) => Err(Fault::from(fault)),
@@ -100,10 +117,22 @@ fn file<S: Alter>(alloc: Global, store: &mut Store<S>, given: &str) -> Result<St
     let (repository, name) = first_of(given);
     let name = file_name(alloc, name)?;
     match repository {
-        "director" => one_file(alloc, store.file(alloc, Repository::Director, &name)),
-        "image" => one_file(alloc, store.file(alloc, Repository::Image, &name)),
+        "director" => file_of(alloc, store, Repository::Director, &name),
+        "image" => file_of(alloc, store, Repository::Image, &name),
         _ => Err(Fault::Misspelled),
     }
+}
+
+fn file_of<S: Alter>(
+    alloc: Global,
+    store: &mut Store<S>,
+    repository: Repository,
+    name: &FileName,
+) -> Result<String, Fault> {
+    let mut tx = store.conn.transaction();
+    let found = find_file(&mut tx, alloc, repository, name);
+    undone(tx);
+    one_file(alloc, found)
 }
 
 fn one_file(alloc: Global, found: Result<Option<Text>, StoreFault>) -> Result<String, Fault> {
@@ -124,7 +153,10 @@ fn image_of<S: Alter>(
     store: &mut Store<S>,
     name: &FileName,
 ) -> Result<String, Fault> {
-    match store.image(alloc, name) {
+    let mut tx = store.conn.transaction();
+    let found = find_image(&mut tx, alloc, name);
+    undone(tx);
+    match found {
         Ok(Some(found)) => made(image_text(alloc, &found)),
         Ok(None) => none(alloc),
         Err(fault) => Err(Fault::from(fault)),
@@ -132,17 +164,30 @@ fn image_of<S: Alter>(
 }
 
 fn images<S: Alter>(alloc: Global, store: &mut Store<S>) -> Result<String, Fault> {
-    match store.images(alloc) {
+    let mut tx = store.conn.transaction();
+    let found = find_images(&mut tx, alloc);
+    undone(tx);
+    match found {
         Ok(found) => listed(images_text(alloc, found.values())),
         Err(fault) => Err(Fault::from(fault)),
     }
 }
 
 fn running<S: Alter>(alloc: Global, store: &mut Store<S>) -> Result<String, Fault> {
-    match store.running(alloc) {
+    let mut tx = store.conn.transaction();
+    let found = find_running(&mut tx, alloc);
+    undone(tx);
+    match found {
         Ok(found) => listed(campaigns_text(alloc, found.values())),
         Err(fault) => Err(Fault::from(fault)),
     }
+}
+
+fn campaign<S: Alter>(alloc: Global, store: &mut Store<S>, name: &Ident) -> Result<String, Fault> {
+    let mut tx = store.conn.transaction();
+    let found = find_campaign(&mut tx, alloc, name);
+    undone(tx);
+    one_campaign(alloc, found)
 }
 
 fn one_campaign(
@@ -156,19 +201,11 @@ fn one_campaign(
     }
 }
 
-fn campaigns<S: Alter>(
-    alloc: Global,
-    store: &mut Store<S>,
-    vehicle: &Ident,
-) -> Result<String, Fault> {
-    match store.campaigns_for(alloc, vehicle) {
-        Ok(found) => listed(campaigns_text(alloc, found.values())),
-        Err(fault) => Err(Fault::from(fault)),
-    }
-}
-
 fn vehicle<S: Alter>(alloc: Global, store: &mut Store<S>, name: &Ident) -> Result<String, Fault> {
-    match store.vehicle(alloc, name) {
+    let mut tx = store.conn.transaction();
+    let found = find_vehicle(&mut tx, alloc, name);
+    undone(tx);
+    match found {
         Ok(Some(row)) => made(vehicle_text(alloc, &row)),
         Ok(None) => none(alloc),
         Err(fault) => Err(Fault::from(fault)),
@@ -176,14 +213,20 @@ fn vehicle<S: Alter>(alloc: Global, store: &mut Store<S>, name: &Ident) -> Resul
 }
 
 fn ecus<S: Alter>(alloc: Global, store: &mut Store<S>, vehicle: &Ident) -> Result<String, Fault> {
-    match store.ecus(alloc, vehicle) {
+    let mut tx = store.conn.transaction();
+    let found = find_ecus(&mut tx, alloc, vehicle);
+    undone(tx);
+    match found {
         Ok(found) => listed(ecus_text(alloc, found.as_slice())),
         Err(fault) => Err(Fault::from(fault)),
     }
 }
 
 fn owner<S: Alter>(alloc: Global, store: &mut Store<S>, ecu: &Ident) -> Result<String, Fault> {
-    match store.ecu_owner(ecu) {
+    let mut tx = store.conn.transaction();
+    let found = find_owner(&mut tx, ecu);
+    undone(tx);
+    match found {
         Ok(Some(vehicle)) => made(vehicle.text().to_string(alloc)),
         Ok(None) => none(alloc),
         Err(fault) => Err(Fault::from(fault)),
@@ -194,7 +237,17 @@ fn kept<S: Alter>(alloc: Global, store: &mut Store<S>, given: &str) -> Result<St
     let (vehicle, counter) = first_of(given);
     let counter = count(counter)?;
     let vehicle = ident(alloc, vehicle)?;
-    one_kept(alloc, store.kept(alloc, &vehicle, counter))
+    let mut tx = store.conn.transaction();
+    let found = find_kept(&mut tx, alloc, &vehicle, counter);
+    undone(tx);
+    one_kept(alloc, found)
+}
+
+fn latest<S: Alter>(alloc: Global, store: &mut Store<S>, vehicle: &Ident) -> Result<String, Fault> {
+    let mut tx = store.conn.transaction();
+    let found = find_latest(&mut tx, alloc, vehicle);
+    undone(tx);
+    one_kept(alloc, found)
 }
 
 fn one_kept(alloc: Global, found: Result<Option<Kept>, StoreFault>) -> Result<String, Fault> {

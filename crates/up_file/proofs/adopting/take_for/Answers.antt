@@ -6,7 +6,7 @@ use Rattle.up_file.proofs.adopting.take_for.Goals as goal
 pub returns-in-Ok-true-clause-taken : goal.returns-in-Ok-true-clause-taken
 returns-in-Ok-true-clause-taken g c =
     taken_ok (state g.D.Store) (state g.D.Store) c.args.method.now (state g.D.Store c.args.conn) c.has_keys_of.new.conn c.has_keys_of.ensures.read c.adopt_or_create.result
-    (λ clean rows listed. sym (c.in-Ok-true.ensures.told clean rows listed) ∙ c.in-Ok-true.field-0-test) c.adopt_or_create.ensures.taken
+    (λ clean version rows listed. sym (c.in-Ok-true.ensures.told clean version rows listed) ∙ c.in-Ok-true.field-0-test) c.adopt_or_create.ensures.taken
 
 pub returns-in-Ok-true-clause-refused : goal.returns-in-Ok-true-clause-refused
 returns-in-Ok-true-clause-refused g c =
@@ -23,7 +23,7 @@ returns-in-Ok-false-clause-refused g c = refused_at (state g.D.Store) (state g.D
 pub returns-in-Ok-false-clause-other : goal.returns-in-Ok-false-clause-other
 returns-in-Ok-false-clause-other g c = λ told. record {
   read = c.has_keys_of.ensures.read;
-  keys = λ clean rows listed. sym (c.in-Ok-false.ensures.told clean rows listed) ∙ c.in-Ok-false.field-0-test;
+  keys = λ clean version rows listed. sym (c.in-Ok-false.ensures.told clean version rows listed) ∙ c.in-Ok-false.field-0-test;
 }
 
 pub returns-in-Err-Store-clause-taken : goal.returns-in-Err-Store-clause-taken

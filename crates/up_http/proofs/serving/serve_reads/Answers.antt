@@ -1,4 +1,4 @@
-use Rattle.std.proofs.Common.{◌⊎◌, inl, inr, ◌≡◌, ◌≤◌, ◌+◌, ◌-◌, ◌++◌, ◌∙◌, ℕ, List, [], true, false, length, take, drop, refl, sym, ap, subst, arith, length-append, length-drop, append_assoc, append-nil}
+use Rattle.std.proofs.Common.{◌⊎◌, inr, ◌≡◌, ◌≤◌, ◌+◌, ◌-◌, ◌++◌, ◌∙◌, ℕ, List, [], true, false, length, take, drop, refl, sym, ap, subst, arith, length-append, length-drop, append_assoc, append-nil}
 use Rattle.std.proofs.lemmas.List.{length-take-le}
 use Rattle.std.specs.Prelude.{Option}
 use Rattle.std.specs.Io.KnownBytes.{Consumes}
@@ -6,8 +6,8 @@ use Rattle.std.proofs.KnownBytes.{Consumes-nil, Consumes-trans, Consumes-kept}
 use Rattle.up_lines.specs.Runs.{At, LastRead}
 use Rattle.up_http.specs.Serving.{WantsMore, piece_bytes}
 use Rattle.up_http.specs.Steps.{Sofar}
-use Rattle.up_http.proofs.ServeLaws.{fresh, nearer, piece_left, last_read, read_later, room_left, ran_end, ran_failed, ran_over, ran_stop}
-use Rattle.up_http.proofs.Blaming.{blames_all, blames_both, stands_all}
+use Rattle.up_http.proofs.ServeLaws.{fresh, nearer, piece_left, last_read, read_later, room_left, ran_end, ran_failed, ran_over, ran_passed}
+use Rattle.up_http.proofs.Blaming.{blames_all, stands_all}
 use Rattle.up_http.proofs.serving.serve_reads.Goals as goal
 
 pub loop-progress-init : goal.loop-progress-init
@@ -31,31 +31,31 @@ loop-progress-init g c =
 left : (xs : List ℕ) (at filled : ℕ) → at ≤ filled → filled ≤ length xs → length (take (filled - at) (drop at xs)) ≡ filled - at
 left xs at filled h k = length-take-le (filled - at) (drop at xs) (omega (arith, length-drop at xs))
 
-pub loop-progress-smaller-in-Ok : goal.loop-progress-smaller-in-Ok
-loop-progress-smaller-in-Ok g c = let (came, read, so, budget, inside, within, room, can_read, can_write, last) = c.loop-progress.invariant in
-    nearer c.loop-progress.most c.loop-progress.at c.loop-progress.filled c.in-Ok.taken c.loop-progress.progress.talk.fed.given c.serve_piece.new.progress.talk.fed.given _ c.if-at-filled.true
-    (left c.loop-progress.buffer c.loop-progress.at c.loop-progress.filled inside within) c.in-Ok.ensures.ok.0.0 c.in-Ok.ensures.ok.0.1
+pub loop-progress-smaller-then-at-filled : goal.loop-progress-smaller-then-at-filled
+loop-progress-smaller-then-at-filled g c = let (came, read, so, budget, inside, within, room, can_read, can_write, last) = c.loop-progress.invariant in
+    nearer c.loop-progress.most c.loop-progress.at c.loop-progress.filled c.in_ok-taken.taken c.loop-progress.progress.talk.fed.given c.serve_piece.new.progress.talk.fed.given _ c.if-at-filled.true
+    (left c.loop-progress.buffer c.loop-progress.at c.loop-progress.filled inside within) c.in_ok-taken.ensures.ok.0.0 c.in_ok-taken.ensures.ok.0.1
 
-pub loop-progress-preserved-in-Ok : goal.loop-progress-preserved-in-Ok
-loop-progress-preserved-in-Ok g c = let (came, read, so, budget, inside, within, room, can_read, can_write, last) = c.loop-progress.invariant in
-    let n = c.in-Ok.taken in
+pub loop-progress-preserved-then-at-filled : goal.loop-progress-preserved-then-at-filled
+loop-progress-preserved-then-at-filled g c = let (came, read, so, budget, inside, within, room, can_read, can_write, last) = c.loop-progress.invariant in
+    let n = c.in_ok-taken.taken in
     let piece = take (c.loop-progress.filled - c.loop-progress.at) (drop c.loop-progress.at c.loop-progress.buffer) in
     let long : length piece ≡ c.loop-progress.filled - c.loop-progress.at = left c.loop-progress.buffer c.loop-progress.at c.loop-progress.filled inside within in
-    let few : n ≤ length piece = c.in-Ok.ensures.ok.0.0 in
+    let few : n ≤ length piece = c.in_ok-taken.ensures.ok.0.0 in
     let some : length (take n piece) ≡ n = length-take-le n piece few in
     let behind = take (c.loop-progress.filled - (c.loop-progress.at + n)) (drop (c.loop-progress.at + n) c.loop-progress.buffer) in
     let same : came ++ piece ≡ (came ++ take n piece) ++ behind =
     ap (λ l. came ++ l) (sym (piece_left c.loop-progress.buffer c.loop-progress.at c.loop-progress.filled n (omega arith))) ∙ sym (append_assoc came (take n piece) behind) in (
       came ++ take n piece,
       subst (Consumes (g.R.Source.remaining c.args.reader.now) (g.R.Source.remaining c.loop-progress.reader)) same read,
-      c.in-Ok.ensures.ok.1 _ came so,
+      c.in_ok-taken.ensures.ok.1 _ came so,
       omega (arith, budget, some, few, long, length-append came (take n piece)),
       omega (arith, few, long),
       within,
       room,
       can_read,
-      c.in-Ok.ensures.goes_on,
-      read_later _ _ _ c.in-Ok.ensures.grows (subst (λ l. LastRead piece_bytes (WantsMore c.loop-progress.progress.answered) l false) same last),
+      c.in_ok-taken.ensures.goes_on,
+      read_later _ _ _ c.in_ok-taken.ensures.grows (subst (λ l. LastRead piece_bytes (WantsMore c.loop-progress.progress.answered) l false) same last),
     )
 
 -- nothing is left of the piece, and more was read
@@ -65,23 +65,23 @@ consumed_more had mid has came piece more k none p q =
 
 pub loop-progress-preserved : goal.loop-progress-preserved
 loop-progress-preserved g c = let (came, read, so, budget, inside, within, room, can_read, can_write, last) = c.loop-progress.invariant in
-    let n = c.in-Ok-read_piece.n in
+    let n = c.in-Ok.n in
     let none : c.loop-progress.filled - c.loop-progress.at ≡ 0 = omega (arith, c.if-at-filled.false) in
     let goes_on : c.loop-progress.progress.talk.fed.ended ≡ false = sym c.loop-progress.progress.ends ∙ c.loop-progress-test.true in
-    let fits : n ≤ length c.read_piece.new.buffer = c.in-Ok-read_piece.ensures.count.0 in
-    let few : n ≤ c.loop-progress.most = c.in-Ok-read_piece.ensures.count.1 in
+    let fits : n ≤ length c.read_piece.new.buffer = c.in-Ok.ensures.count.0 in
+    let few : n ≤ c.loop-progress.most = c.in-Ok.ensures.count.1 in
     let long : length (take n c.read_piece.new.buffer) ≡ n = length-take-le n c.read_piece.new.buffer fits in
     let size : length c.read_piece.new.buffer ≡ piece_bytes = c.read_piece.auto.buffer ∙ room in
     let whole : came ++ take n c.read_piece.new.buffer ≡ came ++ take (n - 0) c.read_piece.new.buffer = ap (λ k. came ++ take k c.read_piece.new.buffer) (omega arith) in (
       came,
       subst (Consumes (g.R.Source.remaining c.args.reader.now) (g.R.Source.remaining c.read_piece.new.reader)) whole
-          (consumed_more _ (g.R.Source.remaining c.loop-progress.reader) _ came (drop c.loop-progress.at c.loop-progress.buffer) (take n c.read_piece.new.buffer) (c.loop-progress.filled - c.loop-progress.at) none read c.in-Ok-read_piece.ensures.bytes),
+          (consumed_more _ (g.R.Source.remaining c.loop-progress.reader) _ came (drop c.loop-progress.at c.loop-progress.buffer) (take n c.read_piece.new.buffer) (c.loop-progress.filled - c.loop-progress.at) none read c.in-Ok.ensures.bytes),
       so,
       omega (arith, budget, none, few),
       omega arith,
       fits,
       size,
-      c.in-Ok-read_piece.ensures.goes_on (omega arith),
+      c.in-Ok.ensures.goes_on (omega arith),
       can_write,
       last_read (g.A.Respond.gives c.args.responder.now) _ came (take n c.read_piece.new.buffer) _ false c.loop-progress.progress _ _ so goes_on (omega arith) (sym whole) (omega (arith, long, fits, size)) (λ h. absurd (cc)),
     )
@@ -101,20 +101,20 @@ returns-in-Ok-eq0-clause-ran g c = let (came, read, so, budget, inside, within, 
     (consumed_none _ (g.R.Source.remaining c.loop-progress.reader) _ came (drop c.loop-progress.at c.loop-progress.buffer) c.read_piece.new.buffer (c.loop-progress.filled - c.loop-progress.at) c.in-Ok-eq0.field-0 none c.in-Ok-eq0.field-0-test read c.in-Ok-eq0.ensures.bytes)
     (omega (arith, below)) (c.in-Ok-eq0.ensures.end c.in-Ok-eq0.field-0-test (omega (arith, below, budget, none)) (omega (arith, room))) so c.finish.ensures.ok c.finish.ensures.err goes_on c.finish.ensures.grows
 
+pub returns-in_err-taken-clause-ran : goal.returns-in_err-taken-clause-ran
+returns-in_err-taken-clause-ran g c = let (came, read, so, budget, inside, within, room, can_read, can_write, last) = c.loop-progress.invariant in
+    let piece = take (c.loop-progress.filled - c.loop-progress.at) (drop c.loop-progress.at c.loop-progress.buffer) in
+    ran_passed (g.A.Respond.gives c.args.responder.now) c.from_residual.result c.in_err-taken.field-0.0 _ _ _ _ (came ++ piece) c.serve_piece.new.progress c.from_residual.ensures.1 read
+    (omega (arith, budget, left c.loop-progress.buffer c.loop-progress.at c.loop-progress.filled inside within, length-append came piece)) (c.in_err-taken.ensures.err _ came so)
+    (read_later _ _ _ c.in_err-taken.ensures.grows last)
+
 pub returns-in-Err-clause-ran : goal.returns-in-Err-clause-ran
 returns-in-Err-clause-ran g c = let (came, read, so, budget, inside, within, room, can_read, can_write, last) = c.loop-progress.invariant in
-    let piece = take (c.loop-progress.filled - c.loop-progress.at) (drop c.loop-progress.at c.loop-progress.buffer) in
-    ran_stop (g.A.Respond.gives c.args.responder.now) c.in-Err.cause _ _ _ _ (came ++ piece) c.serve_piece.new.progress read
-    (omega (arith, budget, left c.loop-progress.buffer c.loop-progress.at c.loop-progress.filled inside within, length-append came piece)) (c.in-Err.ensures.err _ came so)
-    (read_later _ _ _ c.in-Err.ensures.grows last)
-
-pub returns-in-Err-read_piece-clause-ran : goal.returns-in-Err-read_piece-clause-ran
-returns-in-Err-read_piece-clause-ran g c = let (came, read, so, budget, inside, within, room, can_read, can_write, last) = c.loop-progress.invariant in
     let none : c.loop-progress.filled - c.loop-progress.at ≡ 0 = omega (arith, c.if-at-filled.false) in
     let goes_on : c.loop-progress.progress.talk.fed.ended ≡ false = sym c.loop-progress.progress.ends ∙ c.loop-progress-test.true in
     ran_failed (g.A.Respond.gives c.args.responder.now) _ _ _ _ came c.loop-progress.progress
     (Consumes-kept _ (g.R.Source.remaining c.loop-progress.reader) _ came
-    (consumed_none _ _ _ came (drop c.loop-progress.at c.loop-progress.buffer) [] (c.loop-progress.filled - c.loop-progress.at) 0 none refl read (Consumes-nil _)) c.in-Err-read_piece.ensures.err)
+    (consumed_none _ _ _ came (drop c.loop-progress.at c.loop-progress.buffer) [] (c.loop-progress.filled - c.loop-progress.at) 0 none refl read (Consumes-nil _)) c.in-Err.ensures.err)
     (omega (arith, budget)) goes_on so
 
 pub returns-clause-ran : goal.returns-clause-ran
@@ -135,13 +135,4 @@ returns-in-Ok-eq0-clause-ends g c = let (came, read, so, budget, inside, within,
       ended = stands_all c.finish.result (inr ended);
       blames = blames_all c.finish.result (g.R.Source.has_failed c.read_piece.new.reader) (g.R.Source.can_read c.read_piece.new.reader ⊎ g.R.Source.has_ended c.read_piece.new.reader)
           (g.W.Sink.has_failed c.finish.new.writer) (g.W.Sink.can_write c.finish.new.writer) (inr ended) c.finish.ensures.blames;
-    }
-
-pub returns-in-Err-clause-ends : goal.returns-in-Err-clause-ends
-returns-in-Err-clause-ends g c = let (came, read, so, budget, inside, within, room, can_read, can_write, last) = c.loop-progress.invariant in
-    record {
-      goes_on = tt;
-      ended = tt;
-      blames = blames_both c.in-Err.cause (g.R.Source.has_failed c.loop-progress.reader) (g.R.Source.can_read c.loop-progress.reader ⊎ g.R.Source.has_ended c.loop-progress.reader)
-          (g.W.Sink.has_failed c.serve_piece.new.writer) (g.W.Sink.can_write c.serve_piece.new.writer) (inl can_read) c.in-Err.ensures.blames;
     }

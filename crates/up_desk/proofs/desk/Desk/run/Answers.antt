@@ -1,33 +1,28 @@
-use Rattle.std.proofs.Common.{◌≡◌, ◌+◌, ◌∙◌, refl, ap, arith, vec_len}
+use Rattle.std.proofs.Common.{List, ap, subst}
+use Rattle.up_machine.specs.declared.answer.Answer.{Answer}
 use Rattle.up_records.specs.Standing.{state}
-use Rattle.up_desk.proofs.Runs.{ListLaws, none_so_far, one_more, chosen_ok, run_whole}
+use Rattle.up_desk.specs.Groups.{AreCalledOrUndone}
+use Rattle.up_desk.specs.Runs.{AreCalled}
+use Rattle.up_desk.proofs.Groups.{called_behind}
 use Rattle.up_desk.proofs.desk.Desk.run.Goals as goal
 
-pub loop-item-init : goal.loop-item-init
-loop-item-init g c = record {
-  far = none_so_far (g.K.Scheme.rules c.args.self.now.scheme) (state g.D.Store c.args.self.now.store) c.args.commands.now c.args.answers.now.items c.reserve.new.self.items c.reserve.ensures.items;
-  scheme = refl;
-  room = omega (arith, c.in_ok-reserve.ensures.ok);
-}
+pub returns-then-alone-clause-ran : goal.returns-then-alone-clause-ran
+returns-then-alone-clause-ran g c =
+    subst (λ (held : List Answer). AreCalled (g.K.Scheme.rules c.args.self.now.scheme) c.args.commands.now held c.run_apart.new.answers.items (state g.D.Store c.args.self.now.store) (state g.D.Store c.run_apart.new.self.store))
+    c.reserve.ensures.items c.run_apart.ensures.ran
 
-pub loop-item-preserved : goal.loop-item-preserved
-loop-item-preserved g c =
-    let kept = c.loop-item.invariant in
-    let pushed = chosen_ok c.push.result c.unwrap.result _ _ _ c.unwrap.ensures c.push.ensures.items in
-    let longer : vec_len c.push.new.self ≡ vec_len c.loop-item.answers + 1 = chosen_ok c.push.result c.unwrap.result _ _ _ c.unwrap.ensures c.push.ensures.len in
-    record {
-      far = one_more _ _ _ (state g.D.Store c.loop-item.self.store) _ _ _ _ _ _ _ _ c.loop-item-test.true c.item-item.is (ap g.K.Scheme.rules kept.scheme) kept.far pushed c.keeps_limits.ensures c.call-answer.ensures.called;
-      scheme = c.call-answer.ensures.scheme ∙ kept.scheme;
-      room = omega arith;
-    }
+pub returns-then-together-clause-ran : goal.returns-then-together-clause-ran
+returns-then-together-clause-ran g c =
+    let k = g.K.Scheme.rules c.args.self.now.scheme in
+    let ends = subst (λ b. AreCalledOrUndone k c.args.commands.now c.reserve.new.self.items c.run_together-together.new.answers.items (state g.D.Store c.args.self.now.store) (state g.D.Store c.run_together-together.new.self.store) b)
+    c.if-together.true c.run_together-together.ensures.ends in
+    subst (λ (held : List Answer). AreCalled k c.args.commands.now held c.run_together-together.new.answers.items (state g.D.Store c.args.self.now.store) (state g.D.Store c.run_together-together.new.self.store)) c.reserve.ensures.items ends
 
 pub returns-clause-ran : goal.returns-clause-ran
 returns-clause-ran g c =
-    let laws : ListLaws = record {
-      served = c.repeats_change_nothing.ensures.served;
-      repeats = c.repeats_change_nothing.ensures.thinned;
-      replies = c.kept_replies_stay.ensures.run;
-      apart = c.vehicles_stand_apart.ensures.apart;
-      exchanged = c.vehicles_stand_apart.ensures.exchanged;
-    } in
-    run_whole laws _ _ _ c.args.commands.now c.loop-item.item-index _ _ c.loop-item-test.false c.loop-item.invariant.far
+    let k = g.K.Scheme.rules c.args.self.now.scheme in
+    let ends = subst (λ b. AreCalledOrUndone k c.args.commands.now c.reserve.new.self.items c.run_together-together.new.answers.items (state g.D.Store c.args.self.now.store) (state g.D.Store c.run_together-together.new.self.store) b)
+    c.if-together.false c.run_together-together.ensures.ends in
+    let whole = called_behind k _ c.args.commands.now c.reserve.new.self.items c.run_together-together.new.answers.items c.run_apart-2.new.answers.items (state g.D.Store c.args.self.now.store) (state g.D.Store c.run_together-together.new.self.store)
+    (state g.D.Store c.run_apart-2.new.self.store) (ap g.K.Scheme.rules c.run_together-together.ensures.scheme) ends c.run_apart-2.ensures.ran in
+    subst (λ (held : List Answer). AreCalled k c.args.commands.now held c.run_apart-2.new.answers.items (state g.D.Store c.args.self.now.store) (state g.D.Store c.run_apart-2.new.self.store)) c.reserve.ensures.items whole

@@ -1,5 +1,0 @@
-use Rattle.up_store.proofs.Ended.{reads_store}
-use Rattle.up_store.proofs.store.Store.is_founded.Goals as goal
-
-pub returns : goal.returns
-returns g c = reads_store g.D.Store c.drop-tx.new.self.0 c.find_whether_founded.result c.self.view_is c.transaction-tx.ensures.begun c.find_whether_founded.ensures c.drop-tx.ensures.undone c.drop-tx.ensures.survives (λ before shown clean. shown (before clean))
