@@ -58,6 +58,8 @@ WAITS = (1, 3, 9)
 # seconds between two rounds, and behind one that failed or installed something; behind each further
 # one that failed the wait doubles
 INTERVAL, SOON = 86_400, 300
+# 9999-12-31T23:59:59Z
+LAST_SECOND = 253_402_300_799
 
 
 class Failed(Exception):
@@ -197,8 +199,8 @@ def new_manifest(told, now):
 
 
 def clock(told):
-    """The latest time that the vehicle knows: it never goes back."""
-    told["time"] = max(told.get("time", 0), int(time.time()))
+    """The latest time that the vehicle knows: it never goes back, nor past the year 9999."""
+    told["time"] = max(told.get("time", 0), min(int(time.time()), LAST_SECOND))
     return told["time"]
 
 
@@ -249,7 +251,7 @@ def skip(told, name, now):
     other in a few tries. One that can't be signed isn't kept."""
     for ecu in told["ecus"]:
         if ecu["ecu"] == name:
-            ecu["counter"] = raised(max(2 * ecu["counter"], now)) - 1
+            ecu["counter"] = raised(max(2 * ecu["counter"], now, 1)) - 1
 
 
 def path_of(folder, name):

@@ -194,9 +194,9 @@ function manifest(vehicle, now) {
   return built({ ...vehicle, key: vehicle.ecus.find((it) => it.ecu === vehicle.primary).secret, reports });
 }
 
-// The latest time that the vehicle knows: it never goes back.
+// The latest time that the vehicle knows: it never goes back, nor past the year 9999.
 function clock(vehicle) {
-  vehicle.time = Math.max(vehicle.time ?? 0, world.now());
+  vehicle.time = Math.max(vehicle.time ?? 0, Math.min(world.now(), LAST_SECOND));
   return vehicle.time;
 }
 
@@ -382,7 +382,7 @@ function checkImage(target, content) {
 
 // ---- rounds
 
-const WAITS = [1, 3, 9, 0], PATIENCE = 100_000, INTERVAL = 86_400, SOON = 300;
+const WAITS = [1, 3, 9, 0], PATIENCE = 100_000, INTERVAL = 86_400, SOON = 300, LAST_SECOND = 253_402_300_799;
 const between = (least, most) => least + Math.random() * (most - least);
 
 // What the vectors of rounds put others in the place of: one answer, of at most a byte more than a file may have, the clock, and a wait.
@@ -466,7 +466,7 @@ async function answered(vehicle, url, save) {
     vehicle.pending = null;
     if (what === 'counter') vehicle.counter = Math.max(vehicle.counter, raised(value + 1) - 1);
     // (no one says what an ECU's last counter was: the next is the time, or twice what was refused, which comes above any other in a few tries)
-    else if (what === 'report') vehicle.ecus.filter((it) => it.ecu === value).forEach((it) => { it.counter = raised(Math.max(2 * it.counter, now)) - 1; });
+    else if (what === 'report') vehicle.ecus.filter((it) => it.ecu === value).forEach((it) => { it.counter = raised(Math.max(2 * it.counter, now, 1)) - 1; });
     else if (what === 'mend') throw new Failed(`${status} ${text}`);
   }
   throw new Failed('the service goes on refusing the counters');
