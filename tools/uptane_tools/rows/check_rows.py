@@ -27,7 +27,7 @@ from uptane_tools.trial import http_cases, trials
 EXAMPLES, ROWS = trials.TOP / "examples", trials.TOP / "rows"
 PRIMARY = EXAMPLES / "primary"
 COMPUTED = [("texts", "expected_texts"), ("decisions", "expected_decisions"),
-            ("the store", "expected_store"), ("lines", "each_line", "wanted")]
+            ("lines", "each_line", "wanted")]
 
 
 def read(path: Path) -> str:

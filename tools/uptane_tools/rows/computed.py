@@ -14,7 +14,7 @@ from pathlib import Path
 
 from uptane_tools import TOP, arguments
 from uptane_tools.rows import (brought_cases, cases, collect_rows, ed25519_cases, expected_stops,
-                               expected_streams)
+                               expected_store, expected_streams)
 from uptane_tools.trial import trials
 
 # the sections of streams that an input has are so short
@@ -24,6 +24,7 @@ Texts = Callable[[], tuple[str, str]]
 # of each kind all of it, and the part that the crate's input has
 KINDS: dict[tuple[str, str], tuple[Texts, Texts]] = {
     ("up_test_worked_rows", ""): (collect_rows.texts, collect_rows.first),
+    ("up_test_store", "store"): (expected_store.texts, expected_store.first),
     ("up_test_ed25519", ""): (ed25519_cases.texts, ed25519_cases.first),
     ("up_test_ed25519", "cached"): (ed25519_cases.cached_texts, ed25519_cases.cached_first),
     ("up_test_ed25519", "brought"): (brought_cases.texts, brought_cases.first),

@@ -1,9 +1,6 @@
 """The cases of the store in `up_test_store`: the nine writes, every read after every write, and
 databases of older schemas.
 
-    tools/run expected_store         tells whether its rows are these
-    tools/run expected_store write   writes them
-
 What a read has to answer is computed from the rows that are written and the page on tables, and
 not by the program: the parts of a row are read as they were spelled when they were written.
 FORMATS says which files a root version has.
@@ -12,13 +9,19 @@ A database of an older schema is made by the statements of that schema, which st
 rows that are put in as the page on tables has them. Once it is taken it has to answer each read
 as a created database answers it.
 """
+import itertools
 import json
 from collections.abc import Iterator
 from typing import Any
 
-from uptane_tools import arguments
 from uptane_tools.rows import cases
 
+CRATE = "up_test_store"
+# what a section is carried out over, and how the words begin of one over disks that fail
+PLACES = ["memory", "files", "memory in turns", "files in turns"]
+SWEPT = "each disk call refused"
+# the first of the sections that are written by hand
+BY_HAND = "adopt and create"
 KEYS = {
     1: "01,02/2;0b/1;15,16,17,18/3;1f20/1 33,34/2;3d/1;47/1;51,52/1",
     2: "0102/1;6f/1;79,7a/2;83/1 97,98,99/2;a1/1;ab/1;b5/1",
@@ -507,14 +510,32 @@ def computed() -> list[str]:
         older("a new database of schema 2 in files", 2, [], WRITES[:1], READS)]
 
 
-def main(words: arguments.Words = None) -> int:
-    """Compares the crate's cases, or writes them."""
-    sections = cases.kinds("up_test_store")["store"].split("\n# ")
-    names = {text.split("\n")[0] for text in computed()}
-    if arguments.given(__doc__, words, order=["tell", "write"]).order == "write":
-        others = [text for text in sections if text.split("\n")[0] not in names]
-        cases.put("up_test_store", "store", "\n# ".join([others[0], *computed(), *others[1:]]))
-        return 0
-    missing = [text.split("\n")[0] for text in computed() if text not in sections]
-    print("".join(f"another section on {name}\n" for name in missing), end="")
-    return len(missing)
+def told_of(section: str) -> str:
+    """What is told of a section: how many of its cases are answered so, over each place; where
+    disks fail, without the statements at its beginning, which make the database.
+    """
+    words, *rows = filter(None, section.split("\n"))
+    asked = list(itertools.dropwhile(lambda it: it.startswith("run "), rows))
+    places = ["files"] if words.endswith("in files") else PLACES
+    lines = ["over %s, %s: %d\n" % (it, words, len(rows)) for it in places]
+    if words.startswith(SWEPT):
+        lines += [
+            "over a %s that fails from any call on, %s: %d\n" % (it, words, len(asked))
+            for it in ("log", "database file")]
+    return "".join(lines)
+
+
+def texts() -> tuple[str, str]:
+    """The sections that are computed, and what is told of them."""
+    sections = computed()
+    return "".join("\n# " + it for it in sections), "".join(map(told_of, sections))
+
+
+def first() -> tuple[str, str]:
+    """Those over disks that fail, with the sections that are written by hand, and what is told of
+    the former.
+    """
+    short = [it for it in computed() if it.startswith(SWEPT)]
+    given = cases.kinds(CRATE)["store"]
+    by_hand = given[given.index("\n# " + BY_HAND):]
+    return "".join("\n# " + it for it in short) + by_hand, "".join(map(told_of, short))

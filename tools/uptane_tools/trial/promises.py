@@ -21,7 +21,7 @@ from pathlib import Path
 from typing import Any
 
 from uptane_tools import arguments
-from uptane_tools.rows import expected_streams
+from uptane_tools.rows import expected_store, expected_streams
 from uptane_tools.trial import trials
 from uptane_tools.trial.trials import TOP
 
@@ -62,6 +62,8 @@ def sections(folder: Path) -> set[str]:
     words = re.findall(r"^(?:#|row) (.+)$", text, re.MULTILINE)
     if folder.name == "up_test_service":
         words += [it[0] for it in expected_streams.parts()]
+    if folder.name == "up_test_store":
+        words += [it.partition("\n")[0] for it in expected_store.computed()]
     if words and "\nrow " in text:
         words += [it.parent.name for it in (TOP / "rows").glob("*/script")]
         words += re.findall(r"^# (.+)$", (TOP / "rows" / "each_answer").read_text(encoding="utf-8"),
