@@ -6,6 +6,10 @@ leaves a choice, it takes that of the RFC's own code (section 6): the equation w
 cofactor, k modulo the order. Comments name the sections.
 """
 import hashlib
+from collections.abc import Iterator
+
+# a point as (X, Y, Z, T)
+Point = tuple[int, int, int, int]
 
 # ---- 5.1: the parameters
 
@@ -16,18 +20,18 @@ ROOT_OF_MINUS_1 = pow(2, (P - 1) // 4, P)
 NEUTRAL = (0, 1, 1, 0)
 
 
-def digest(*parts):
+def digest(*parts: bytes) -> bytes:
     return hashlib.sha512(b"".join(parts)).digest()
 
 
-def number(data):
+def number(data: bytes) -> int:
     return int.from_bytes(data, "little")
 
 
 # ---- 5.1.4: points as (X, Y, Z, T), where x = X / Z, y = Y / Z and x * y = T / Z
 
 
-def add(one, other):
+def add(one: Point, other: Point) -> Point:
     (x1, y1, z1, t1), (x2, y2, z2, t2) = one, other
     a, b = (y1 - x1) * (y2 - x2) % P, (y1 + x1) * (y2 + x2) % P
     c, d = t1 * 2 * D * t2 % P, z1 * 2 * z2 % P
@@ -35,7 +39,7 @@ def add(one, other):
     return e * f % P, g * h % P, f * g % P, e * h % P
 
 
-def multiple(count, point):
+def multiple(count: int, point: Point) -> Point:
     total = NEUTRAL
     while count:
         if count & 1:
@@ -45,7 +49,7 @@ def multiple(count, point):
     return total
 
 
-def is_same(one, other):
+def is_same(one: Point, other: Point) -> bool:
     (x1, y1, z1, _), (x2, y2, z2, _) = one, other
     return (x1 * z2 - x2 * z1) % P == 0 and (y1 * z2 - y2 * z1) % P == 0
 
@@ -53,13 +57,13 @@ def is_same(one, other):
 # ---- 5.1.2 and 5.1.3: points as bytes
 
 
-def encode(point):
+def encode(point: Point) -> bytes:
     inverse = pow(point[2], P - 2, P)
     x, y = point[0] * inverse % P, point[1] * inverse % P
     return (y | (x & 1) << 255).to_bytes(32, "little")
 
 
-def decode(data):
+def decode(data: bytes) -> Point | None:
     """The point that 32 bytes write; none where they write none."""
     if len(data) != 32:
         return None
@@ -79,19 +83,19 @@ def decode(data):
     return x, y, 1, x * y % P
 
 
-def is_public(data):
-    """Whether they are a public key: a point that isn't neutral, in the subgroup of the base point's
-    order. Under any other anybody makes signatures.
+def is_public(data: bytes) -> bool:
+    """Whether they are a public key: a point that isn't neutral, in the subgroup of the base
+    point's order. Under any other anybody makes signatures.
     """
     point = decode(data)
     return point is not None and not is_same(point, NEUTRAL) and is_same(
         multiple(ORDER, point), NEUTRAL)
 
 
-BASE = decode((4 * pow(5, P - 2, P) % P).to_bytes(32, "little"))
+BASE = decode((4 * pow(5, P - 2, P) % P).to_bytes(32, "little")) or NEUTRAL
 
 
-def rows_of_multiples():
+def rows_of_multiples() -> Iterator[list[Point]]:
     """For each four bits of a count, the fifteen multiples of the base point that they may stand
     for.
     """
@@ -107,7 +111,7 @@ def rows_of_multiples():
 MULTIPLES = list(rows_of_multiples())
 
 
-def multiple_of_base(count):
+def multiple_of_base(count: int) -> Point:
     """[count]B, for a count below 2^256."""
     total = NEUTRAL
     for row in MULTIPLES:
@@ -120,7 +124,7 @@ def multiple_of_base(count):
 # ---- 5.1.5 to 5.1.7: keys, signatures
 
 
-def expanded(secret):
+def expanded(secret: bytes) -> tuple[int, bytes]:
     """The scalar and the prefix of a secret."""
     if len(secret) != 32:
         raise ValueError("a secret of %d bytes" % len(secret))
@@ -131,11 +135,11 @@ def expanded(secret):
     return number(hashed[:32]), bytes(hashed[32:])
 
 
-def public_of(secret):
+def public_of(secret: bytes) -> bytes:
     return encode(multiple_of_base(expanded(secret)[0]))
 
 
-def sign(secret, message):
+def sign(secret: bytes, message: bytes) -> bytes:
     scalar, prefix = expanded(secret)
     r = number(digest(prefix, message)) % ORDER
     first = encode(multiple_of_base(r))
@@ -143,7 +147,7 @@ def sign(secret, message):
     return first + ((r + k * scalar) % ORDER).to_bytes(32, "little")
 
 
-def verify(public, message, signature):
+def verify(public: bytes, message: bytes, signature: bytes) -> bool:
     if len(signature) != 64:
         return False
     first, s = decode(signature[:32]), number(signature[32:])

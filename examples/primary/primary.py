@@ -1,39 +1,54 @@
 #!/usr/bin/env python3
-"""A Primary ECU in small: builds and signs a vehicle version manifest, sends it, and verifies all that comes back.
+"""A Primary ECU in small: builds and signs a vehicle version manifest, sends it, and verifies all
+that comes back.
 
-    primary.py build < manifest-input.json        prints the body to deliver
-    primary.py line AT < manifest-input.json      prints it as a `deliver` line of a script, at the moment AT
-    primary.py send URL < manifest-input.json     posts it to the Director at http://HOST:PORT, and prints the reply
-    primary.py check SECRETS < reply.json         looks at a reply's signatures alone: SECRETS is a file with the Director's
-                                                  secrets of each role, which verify as they sign
-    primary.py trust URL VEHICLE                  puts the first Root of each repository into VEHICLE, as where it is built
-    primary.py round URL VEHICLE [IMAGES]         one round of a vehicle: a new manifest, the metadata of both repositories,
-                                                  and what is to be installed, from the folder IMAGES
-    primary.py rounds URL VEHICLE [IMAGES]        rounds without end: one a day, and sooner behind one that failed
+    primary.py build < manifest-input.json      prints the body to deliver
+    primary.py line AT < manifest-input.json    prints it as a `deliver` line of a script, at the
+                                                moment AT
+    primary.py send URL < manifest-input.json   posts it to the Director at http://HOST:PORT, and
+                                                prints the reply
+    primary.py check SECRETS < reply.json       looks at a reply's signatures alone: SECRETS is a
+                                                file with the Director's secrets of each role, which
+                                                verify as they sign
+    primary.py trust URL VEHICLE                puts the first Root of each repository into VEHICLE,
+                                                as where it is built
+    primary.py round URL VEHICLE [IMAGES]       one round of a vehicle: a new manifest, the metadata
+                                                of both repositories, and what is to be installed,
+                                                from the folder IMAGES
+    primary.py rounds URL VEHICLE [IMAGES]      rounds without end: one a day, and sooner behind one
+                                                that failed
 
 Nothing but Python's standard library is used. The input of `build` is one JSON object:
 
     {"vehicle": .., "primary": .., "key": HEX, "counter": N,
-     "reports": [{"ecu": .., "key": HEX, "counter": N, "time": SECONDS, "attack": .., "file": .., "length": N, "sha256": HEX}, ..]}
+     "reports": [{"ecu": .., "key": HEX, "counter": N, "time": SECONDS, "attack": .., "file": ..,
+                  "length": N, "sha256": HEX}, ..]}
 
-A report may have `"sha512": HEX` too. With `"method": "ed25519"` the keys are secrets of Ed25519; without, they are HMAC's. So it
-is with VEHICLE and SECRETS; under Ed25519 `check` takes the text of the Director's Root in place of SECRETS.
+A report may have `"sha512": HEX` too. With `"method": "ed25519"` the keys are secrets of Ed25519;
+without, they are HMAC's. So it is with VEHICLE and SECRETS; under Ed25519 `check` takes the text of
+the Director's Root in place of SECRETS.
 
-VEHICLE is a file that holds what the vehicle knows, `vehicle.json` for one; it is written anew in each round. Before `trust` it is
+VEHICLE is a file that holds what the vehicle knows, `vehicle.json` for one; it is written anew in
+each round. Before `trust` it is
 
-    {"vehicle": .., "primary": .., "counter": 0, "method": "ed25519", "director": {"versions": {}}, "image": {"versions": {}},
+    {"vehicle": .., "primary": .., "counter": 0, "method": "ed25519",
+     "director": {"versions": {}}, "image": {"versions": {}},
      "ecus": [{"ecu": .., "hardware": .., "secret": HEX, "counter": 0,
                "installed": {"file": .., "length": N, "sha256": HEX, "release": N}}, ..]}
 
-with the inventory's ECUs in its order, and what is in them. It holds secrets: the ECUs', and under HMAC, in `role_secrets`, those
-of the repositories' roles. OpenSSL's file of one ends with it: `openssl pkey -in P1.pem -outform DER | tail -c 32 | od -An -vtx1`. In a
-vehicle each ECU signs its own report with its own key and hands the envelope to the Primary, and checks the metadata once more; here
-one program holds all keys. Images aren't served by the repositories: a round takes them from a folder, by their filenames, and
-installs none before all are there. What `trust` fetches is believed as it comes: so that is done once, in the factory, and over a
-connection that nobody else can change. Where an ECU was replaced, its old identifier is put into the list `replaced`.
+with the inventory's ECUs in its order, and what is in them. It holds secrets: the ECUs', and under
+HMAC, in `role_secrets`, those of the repositories' roles. OpenSSL's file of one ends with it:
+`openssl pkey -in P1.pem -outform DER | tail -c 32 | od -An -vtx1`. In a vehicle each ECU signs its
+own report with its own key and hands the envelope to the Primary, and checks the metadata once
+more; here one program holds all keys. Images aren't served by the repositories: a round takes them
+from a folder, by their filenames, and installs none before all are there. What `trust` fetches is
+believed as it comes: so that is done once, in the factory, and over a connection that nobody else
+can change. Where an ECU was replaced, its old identifier is put into the list `replaced`.
 
-The status is 0 where all went well, 1 with a message where it didn't, and 2 where the words are wrong.
+The status is 0 where all went well, 1 with a message where it didn't, and 2 where the words are
+wrong.
 """
+import argparse
 import http.client
 import json
 import os
@@ -43,16 +58,22 @@ import sys
 import time
 import urllib.error
 import urllib.request
+from collections.abc import Callable
 from pathlib import Path
+from typing import Any
 
 sys.dont_write_bytecode = True
 
-import forms
-import verify
-from envelopes import MOST, File, canonical, hashes, key_identifier, manifest, reply_of, use, value_of
+import forms  # noqa: E402 (no bytecode is written beside them)
+import verify  # noqa: E402
+from envelopes import (  # noqa: E402
+    MOST, File, canonical, hashes, key_identifier, manifest, reply_of, use, value_of)
 
-# seconds: what an answer may take, longer than the proxies of `examples/service` wait, and the waits
-# between tries, each half as long again at random so that a fleet doesn't come at once
+Told = dict[str, Any]
+Image = Callable[[str], bytes | None]
+
+# seconds: what an answer may take, longer than the proxies of `examples/service` wait, and the
+# waits between tries, each half as long again at random so that a fleet doesn't come at once
 PATIENCE = 100
 WAITS = (1, 3, 9)
 # seconds between two rounds, and behind one that failed or installed something; behind each further
@@ -62,6 +83,11 @@ INTERVAL, SOON = 86_400, 300
 LAST_SECOND = 253_402_300_799
 
 
+# what comes of a file or a line that isn't there, or of another form
+OF_FORMS = (ValueError, KeyError, TypeError, AttributeError)
+STRANGE = (OSError, *OF_FORMS)
+
+
 class Failed(Exception):
     """What ends a round without a verdict, told in one line."""
 
@@ -69,7 +95,7 @@ class Failed(Exception):
 # ---- requests
 
 
-def follows(status, text):
+def follows(status: int, text: str) -> tuple[str, Any]:
     """What a Primary does after an answer: `read` it; send the same `again`, since the answer is no
     verdict on it; raise the manifest's `counter` above a number, or that of an ECU's `report`; or
     nothing until somebody has made good what the answer names (`mend`)."""
@@ -92,7 +118,7 @@ def follows(status, text):
     return ("report", value) if error == 18 and forms.is_name(value) else ("mend", error)
 
 
-def of_get(status, text):
+def of_get(status: int, text: str) -> str:
     """What an answer to a GET is: the file, to be `read`; `none`, where the repository has none of
     this name; the same `again`; or the `end` of the round, without a verdict."""
     what, value = follows(status, text)
@@ -104,11 +130,11 @@ def of_get(status, text):
 class NoRedirect(urllib.request.HTTPRedirectHandler):
     """A redirect is an answer that isn't the service's."""
 
-    def redirect_request(self, *_):
+    def redirect_request(self, *_: Any) -> None:
         return None
 
 
-def taken(answer, ends):
+def taken(answer: Any, ends: float) -> bytes:
     """The bytes of an answer, one more at most than a file may have: all of them come in time."""
     data = bytearray()
     while len(data) <= forms.LARGEST and (piece := answer.read1(65_536)):
@@ -118,7 +144,7 @@ def taken(answer, ends):
     return bytes(data)
 
 
-def exchanged(url, data):
+def exchanged(url: str, data: bytes | None) -> tuple[int, bytes]:
     """The status of one answer, and its bytes."""
     ends, opener = time.monotonic() + PATIENCE, urllib.request.build_opener(NoRedirect)
     request = urllib.request.Request(url, data=data, headers={"Connection": "close"})
@@ -129,13 +155,14 @@ def exchanged(url, data):
         return refused.code, taken(refused, ends)
 
 
-def asked(url, body=None):
+def asked(url: str, body: str | None = None) -> tuple[int, str]:
     """The status and the text of an answer. Where none comes, or the service says that the fault is
     its own, the same is asked again after a while: a manifest that was accepted meanwhile is
     answered by its kept reply."""
+    wrong: Any = None
     for wait in (*WAITS, None):
         try:
-            status, data = exchanged(url, body and body.encode("ascii"))
+            status, data = exchanged(url, body.encode("ascii") if body else None)
             verify.expect(len(data) <= forms.LARGEST, "%s has no end", url)
             came = status, data.decode("utf-8", "strict" if status == 200 else "replace")
         except (OSError, http.client.HTTPException, UnicodeError) as error:
@@ -144,18 +171,19 @@ def asked(url, body=None):
             return came
         wrong = "%d %s" % (came[0], came[1][:200]) if came else wrong
         if wait is None:
-            raise Failed("no answer from %s: %s" % (url, wrong))
+            break
         time.sleep(wait * random.uniform(1, 1.5))
+    raise Failed("no answer from %s: %s" % (url, wrong))
 
 
-def send(url, body):
+def send(url: str, body: str) -> tuple[int, str]:
     return asked(url + "/director/manifest", body)
 
 
-def fetcher(url):
+def fetcher(url: str) -> verify.Fetch:
     """Fetches a file of a repository; none where there is none of that name."""
 
-    def fetch(name):
+    def fetch(name: str) -> File | None:
         status, text = asked("%s/%s" % (url, name))
         what = of_get(status, text)
         if what == "end":
@@ -168,18 +196,18 @@ def fetcher(url):
 # ---- a round
 
 
-def primary_of(told):
+def primary_of(told: Told) -> Told:
     return next(ecu for ecu in told["ecus"] if ecu["ecu"] == told["primary"])
 
 
-def raised(counter):
+def raised(counter: int) -> int:
     """A counter that may be signed. The greatest number never is: none would come behind it."""
     if counter >= MOST:
         raise Failed("no counter is left")
     return counter
 
 
-def new_report(ecu, now):
+def new_report(ecu: Told, now: int) -> Told:
     """What an ECU reports next: what it has, and the attack that it has seen. Its counter rises;
     where none is left, and nothing but the time moved, the report is the last one once more."""
     own = ecu["installed"]
@@ -190,7 +218,7 @@ def new_report(ecu, now):
     return ecu["last"] | {"key": ecu["secret"], "counter": ecu["counter"]}
 
 
-def new_manifest(told, now):
+def new_manifest(told: Told, now: int) -> str:
     """The body of the next manifest: its counter rises, and each ECU reports."""
     counter, reports = raised(told["counter"] + 1), [new_report(it, now) for it in told["ecus"]]
     told["counter"], key = counter, primary_of(told)["secret"]
@@ -198,17 +226,17 @@ def new_manifest(told, now):
     return manifest(made | {"counter": counter, "reports": reports})
 
 
-def clock(told):
+def clock(told: Told) -> int:
     """The latest time that the vehicle knows: it never goes back, nor past the year 9999."""
     told["time"] = max(told.get("time", 0), min(int(time.time()), LAST_SECOND))
     return told["time"]
 
 
-def role_secrets(told):
+def role_secrets(told: Told) -> verify.Keys:
     return {key_identifier(key): key for key in map(bytes.fromhex, told.get("role_secrets", []))}
 
 
-def answered(told, url, save):
+def answered(told: Told, url: str, save: Callable[[], None]) -> dict[str, Told]:
     """What is to be installed by the reply to this round's manifest, by ECU, once it is verified.
 
     A manifest is kept until it was answered. From then on its bytes would only ever bring the same
@@ -228,7 +256,8 @@ def answered(told, url, save):
                 return verify.verified(told, reply, fetch, role_secrets(told), clock(told))
         except verify.Old as old:
             told["pending"] = None
-            verify.expect(not is_second, "the service's replies stay old, or the clock is wrong: %s", old)
+            words = "the service's replies stay old, or the clock is wrong: %s"
+            verify.expect(not is_second, words, old)
             print("again with a new manifest: %s" % old)
             is_second = True
         except verify.Refused:
@@ -245,7 +274,7 @@ def answered(told, url, save):
     raise Failed("the service goes on refusing the counters")
 
 
-def skip(told, name, now):
+def skip(told: Told, name: str, now: int) -> None:
     """The ECU has lost its counter, and the refusal doesn't say what the last one was. Counters may
     skip: so the next one is the time in seconds, or twice what was refused, which comes above any
     other in a few tries. One that can't be signed isn't kept."""
@@ -254,39 +283,40 @@ def skip(told, name, now):
             ecu["counter"] = raised(max(2 * ecu["counter"], now, 1)) - 1
 
 
-def path_of(folder, name):
-    """The path of an image. A filename is not a path: `/` and a first `.` are written as %2F and %2E."""
+def path_of(folder: Path, name: str) -> Path:
+    """The path of an image. A filename is not a path: `/` and a first `.` are %2F and %2E."""
     return folder / re.sub(r"^\.", "%2E", name.replace("/", "%2F"))
 
 
-def images_in(folder):
+def images_in(folder: Path | None) -> Image:
     """Finds an image by its filename, where the folder has it."""
 
-    def image(name):
+    def image(name: str) -> bytes | None:
         path = path_of(folder, name) if folder else None
         return path.read_bytes() if path and path.is_file() else None
 
     return image
 
 
-def takes(_ecu, _content):
+def takes(_ecu: str, _content: bytes) -> bool:
     """Whether an ECU installs an image: here each one does."""
     return True
 
 
-def has_already(ecu, target):
+def has_already(ecu: Told, target: Told) -> bool:
     """Whether an ECU has its target's image already. A SHA-512 that only one of them has makes no
     difference."""
     own, second = ecu["installed"], verify.second_hash(target)
     is_one = second is None or own.get("sha512") in (None, second)
     found = own["file"], own["length"], own["sha256"], own.get("release")
-    return is_one and found == (target["file"], target["length"], target["hashes"]["sha256"], target["release"])
+    digest = target["hashes"]["sha256"]
+    return is_one and found == (target["file"], target["length"], digest, target["release"])
 
 
-def install(told, due, image):
-    """Puts each image into its ECU that hasn't it, in the order of Targets, once all of these can be
-    had and are what was meant: one may need another. So none follows one that failed. Returns how
-    many were installed, and nothing where one wasn't."""
+def install(told: Told, due: dict[str, Told], image: Image) -> int | None:
+    """Puts each image into its ECU that hasn't it, in the order of Targets, once all of these can
+    be had and are what was meant: one may need another. So none follows one that failed. Returns
+    how many were installed, and nothing where one wasn't."""
     found, ecus = {}, {it["ecu"]: it for it in told["ecus"]}
     due = {name: target for name, target in due.items() if not has_already(ecus[name], target)}
     for ecu, target in due.items():
@@ -308,24 +338,26 @@ def install(told, due, image):
     return len(due)
 
 
-def write(path, told):
+def write(path: Path, told: Told) -> None:
     """Writes the file whole or not at all, for its owner alone."""
     new = path.with_name(path.name + ".new")
-    with open(os.open(new, os.O_WRONLY | os.O_CREAT | os.O_TRUNC, 0o600), "w", encoding="ascii") as file:
+    handle = os.open(new, os.O_WRONLY | os.O_CREAT | os.O_TRUNC, 0o600)
+    with open(handle, "w", encoding="ascii") as file:
         file.write(json.dumps(told, indent=1) + "\n")
     os.replace(new, path)
 
 
-def went(told, url, save, image):
-    """A round, and what `install` returns. What is wrong with the metadata or an image is told in the
-    Primary's own report, from the next manifest on, until metadata is accepted again."""
+def went(told: Told, url: str, save: Callable[[], None], image: Image) -> int | None:
+    """A round, and what `install` returns. What is wrong with the metadata or an image is told in
+    the Primary's own report, from the next manifest on, until metadata is accepted again."""
     own = primary_of(told)
     try:
         due = answered(told, url, save)
         told["pending"], own["attack"] = None, ""
         save()
         installed = install(told, due, image)
-        print("verified: version %d, targets %d" % (told["director"]["versions"]["targets"], len(due)))
+        version = told["director"]["versions"]["targets"]
+        print("verified: version %d, targets %d" % (version, len(due)))
         return installed
     except verify.Refused as wrong:
         own["attack"] = "".join(it for it in str(wrong) if " " <= it <= "~")[:256]
@@ -334,13 +366,13 @@ def went(told, url, save, image):
         save()
 
 
-def go_round(url, path, images):
+def go_round(url: str, path: Path, images: Path | None) -> int | None:
     told = json.loads(path.read_text(encoding="ascii"))
     use(told)
     return went(told, url, lambda: write(path, told), images_in(images))
 
 
-def pause(failed, installed=0):
+def pause(failed: int, installed: int | None = 0) -> float:
     """The seconds until the next round, behind so many that failed in a row. They differ at random,
     so that a fleet that was switched on at one moment, or met one outage, doesn't come at one
     moment: by a tenth, and behind a failure by half the wait. What was installed is told soon."""
@@ -349,20 +381,20 @@ def pause(failed, installed=0):
     return min(INTERVAL, SOON * 2 ** min(max(failed - 1, 0), 20)) * random.uniform(0.5, 1)
 
 
-def behind(go, failed):
-    """Goes a round, behind so many that failed in a row: how many have by then, and the seconds until
-    the next one. An image that isn't there is a failure too."""
+def behind(go: Callable[[], int | None], failed: int) -> tuple[int, float]:
+    """Goes a round, behind so many that failed in a row: how many have by then, and the seconds
+    until the next one. An image that isn't there is a failure too."""
     installed = None
     try:
         installed = go()
-    except (Failed, verify.Refused, OSError, ValueError, KeyError, TypeError, AttributeError) as wrong:
+    except (Failed, verify.Refused, *STRANGE) as wrong:
         is_told = isinstance(wrong, (Failed, verify.Refused))
         print("primary: %s" % (wrong if is_told else repr(wrong)), file=sys.stderr, flush=True)
     failed = failed + 1 if installed is None else 0
     return failed, pause(failed, installed)
 
 
-def go_rounds(url, path, images):
+def go_rounds(url: str, path: Path, images: Path | None) -> None:
     failed = 0
     while True:
         failed, wait = behind(lambda: go_round(url, path, images), failed)
@@ -370,8 +402,9 @@ def go_rounds(url, path, images):
         time.sleep(wait)
 
 
-def trust(url, path):
-    """What a vehicle trusts from the beginning: root version 1 of both repositories, and no file yet."""
+def trust(url: str, path: Path) -> None:
+    """What a vehicle trusts from the beginning: root version 1 of both repositories, and no file.
+    """
     told, fetch = json.loads(path.read_text(encoding="ascii")), fetcher(url)
     for repository in ("director", "image"):
         root = fetch(repository + "/1.root.json")
@@ -383,62 +416,83 @@ def trust(url, path):
 # ---- words
 
 
-def check(text, told):
-    """Looks at a reply alone: each file under its role's keys, its versions, and that the Timestamp names this very Snapshot."""
+def check(text: str, told: Told) -> None:
+    """Looks at a reply alone: each file under its role's keys, its versions, and that the Timestamp
+    names this very Snapshot."""
     reply, secrets = reply_of(text), {}
     if "signed" in told:
         use(next(iter(told["signed"]["keys"].values())))
     else:
-        secrets = {key_identifier(key): key for role in told.values() for key in map(bytes.fromhex, role["secrets"])}
+        keys = [bytes.fromhex(key) for role in told.values() for key in role["secrets"]]
+        secrets = {key_identifier(key): key for key in keys}
         told = {"signed": {"roles": {name: root_role(role) for name, role in told.items()}}}
-    versions = verify.check_files({"root": told, "versions": {}}, reply, secrets, "director", 0, reply["vehicle"])
-    verify.expect(set(versions.values()) == {reply["version"]}, "the files of the reply are of several versions")
+    trusted = {"root": told, "versions": {}}
+    versions = verify.check_files(trusted, reply, secrets, "director", 0, reply["vehicle"])
+    words = "the files of the reply are of several versions"
+    verify.expect(set(versions.values()) == {reply["version"]}, words)
 
 
-def root_role(role):
+def root_role(role: Told) -> Told:
     """What a Root file says of a role with these secrets."""
-    return {"keyids": [key_identifier(bytes.fromhex(key)) for key in role["secrets"]], "threshold": role["threshold"]}
+    keyids = [key_identifier(bytes.fromhex(key)) for key in role["secrets"]]
+    return {"keyids": keyids, "threshold": role["threshold"]}
 
 
-def given():
+def given() -> Told:
     told = json.load(sys.stdin)
     use(told)
     return told
 
 
-def carried_out(words):
-    if words == ["build"]:
+def parser() -> argparse.ArgumentParser:
+    """The words that are known."""
+    plain = argparse.RawDescriptionHelpFormatter
+    made = argparse.ArgumentParser(description=__doc__, formatter_class=plain)
+    of = made.add_subparsers(dest="word", required=True, metavar="WORD")
+    of.add_parser("build")
+    of.add_parser("line").add_argument("at", type=int, metavar="AT")
+    of.add_parser("send").add_argument("url", metavar="URL")
+    of.add_parser("check").add_argument("secrets", type=Path, metavar="SECRETS")
+    for word in ("trust", "round", "rounds"):
+        one = of.add_parser(word)
+        one.add_argument("url", type=lambda text: text.rstrip("/"), metavar="URL")
+        one.add_argument("vehicle", type=Path, metavar="VEHICLE")
+        if word != "trust":
+            one.add_argument("images", type=Path, nargs="?", metavar="IMAGES")
+    return made
+
+
+def carried_out(asked: argparse.Namespace) -> int:
+    if asked.word == "build":
         print(manifest(given()))
-    elif len(words) == 2 and words[0] == "line":
-        print(canonical({"at": int(words[1]), "body": manifest(given()), "do": "deliver"}))
-    elif len(words) == 2 and words[0] == "send":
-        status, answer = send(words[1], manifest(given()))
+    elif asked.word == "line":
+        print(canonical({"at": asked.at, "body": manifest(given()), "do": "deliver"}))
+    elif asked.word == "send":
+        status, answer = send(asked.url, manifest(given()))
         print(answer if status == 200 else "%d %s" % (status, answer))
         return 0 if status == 200 else 1
-    elif len(words) == 2 and words[0] == "check":
-        check(sys.stdin.read(), json.loads(Path(words[1]).read_text(encoding="ascii")))
+    elif asked.word == "check":
+        check(sys.stdin.read(), json.loads(asked.secrets.read_text(encoding="ascii")))
         print("the reply is signed as it must be")
-    elif len(words) == 3 and words[0] == "trust":
-        trust(words[1].rstrip("/"), Path(words[2]))
+    elif asked.word == "trust":
+        trust(asked.url, asked.vehicle)
         print("trusted: root version 1 of both repositories")
-    elif len(words) in (3, 4) and words[0] in ("round", "rounds"):
-        go = go_round if words[0] == "round" else go_rounds
-        go(words[1].rstrip("/"), Path(words[2]), Path(words[3]) if len(words) == 4 else None)
     else:
-        print(__doc__.strip(), file=sys.stderr)
-        return 2
+        go = go_round if asked.word == "round" else go_rounds
+        go(asked.url, asked.vehicle, asked.images)
     return 0
 
 
-def main(words):
+def main(words: list[str] | None = None) -> int:
+    asked = parser().parse_args(words)
     try:
-        return carried_out(words)
+        return carried_out(asked)
     except (Failed, verify.Refused, OSError) as wrong:
         print("primary: %s" % wrong, file=sys.stderr)
-    except (ValueError, KeyError, TypeError, AttributeError) as wrong:
+    except OF_FORMS as wrong:
         print("primary: that has another form than it must have: %r" % wrong, file=sys.stderr)
     return 1
 
 
 if __name__ == "__main__":
-    sys.exit(main(sys.argv[1:]))
+    sys.exit(main())

@@ -8,11 +8,17 @@ since a Root shows the keys of its roles. A check that fails raises `Refused`. T
 were verified before it stay, and nothing else is trusted that wasn't.
 """
 import hashlib
+from collections.abc import Callable, Container
+from typing import Any
 
 import forms
-from envelopes import has_form, is_signed_by, seconds, shown_keys
+from envelopes import File, has_form, is_signed_by, seconds, shown_keys
 
 ROLES = ("timestamp", "snapshot", "targets")
+# what the vehicle trusts, a file's members, keys by identifier, and what brings a file
+Told = dict[str, Any]
+Keys = dict[str, bytes]
+Fetch = Callable[[str], File | None]
 
 
 class Refused(Exception):
@@ -23,7 +29,7 @@ class Old(Refused):
     """The Director's metadata was good once. A new manifest brings new metadata."""
 
 
-def expect(holds, words, *given, kind=Refused):
+def expect(holds: bool, words: str, *given: Any, kind: type[Exception] = Refused) -> None:
     if not holds:
         raise kind(words % given)
 
@@ -31,7 +37,7 @@ def expect(holds, words, *given, kind=Refused):
 # ---- Roots
 
 
-def check_signed(envelope, root, role, secrets, what):
+def check_signed(envelope: Told, root: Told, role: str, secrets: Keys, what: str) -> None:
     """That enough of the role's keys signed, by this Root. Keys are counted, and not signatures."""
     told, keys = root["roles"][role], secrets | shown_keys(root)
     signers = {it for it in told["keyids"] if it in keys and is_signed_by(envelope, keys[it])}
@@ -39,7 +45,7 @@ def check_signed(envelope, root, role, secrets, what):
     expect(len(signers) >= told["threshold"], words, what, told["threshold"], role)
 
 
-def check_next(trusted, envelope, secrets, repository):
+def check_next(trusted: Told, envelope: File, secrets: Keys, repository: str) -> None:
     """That a Root may come behind the trusted one: of the next version, and signed by enough of
     the old root keys and of its own."""
     before, root = trusted["signed"], envelope["signed"]
@@ -53,11 +59,12 @@ def check_next(trusted, envelope, secrets, repository):
     check_signed(envelope, root, "root", secrets, what)
 
 
-def forgotten(before, root):
+def forgotten(before: Told, root: Told) -> dict[str, int]:
     """The versions that are forgotten with a new Root. Whoever had a role's old keys may have made
-    its versions far too great: those of Timestamp and Snapshot go together, that of Targets alone."""
+    its versions far too great: those of Timestamp and Snapshot go together, that of Targets alone.
+    """
 
-    def differs(role):
+    def differs(role: str) -> bool:
         old, new = (it["signed"]["roles"][role]["keyids"] for it in (before, root))
         return {*old} != {*new}
 
@@ -65,7 +72,7 @@ def forgotten(before, root):
     return found | ({"targets": 0} if differs("targets") else {})
 
 
-def follow(trust, fetch, secrets, repository, now):
+def follow(trust: Told, fetch: Fetch, secrets: Keys, repository: str, now: int) -> None:
     """Fetches each newer Root, and trusts it once it is verified. The latest alone must not have
     expired."""
     while True:
@@ -83,7 +90,7 @@ def follow(trust, fetch, secrets, repository, now):
 # ---- files
 
 
-def check_named(files, role, repository):
+def check_named(files: Told, role: str, repository: str) -> None:
     """That the file before names this one: the Timestamp the Snapshot, by the SHA-256 of its text
     and its version, and the Snapshot Targets, by its version."""
     version = files[role]["signed"]["version"]
@@ -100,7 +107,8 @@ def check_named(files, role, repository):
         expect(listed == version, words, repository)
 
 
-def check_files(trust, files, secrets, repository, now, vehicle=None):
+def check_files(trust: Told, files: Told, secrets: Keys, repository: str, now: int,
+                vehicle: str | None = None) -> dict[str, int]:
     """The versions of a repository's Timestamp, Snapshot and Targets, once they are verified in
     this order. That it has expired is the last that is looked at of a file: only of one that is
     right otherwise it means that a newer one is to be had."""
@@ -120,8 +128,10 @@ def check_files(trust, files, secrets, repository, now, vehicle=None):
     return {role: files[role]["signed"]["version"] for role in ROLES}
 
 
-def check_reply(trust, reply, secrets, vehicle, now):
-    """The versions of the Director's files in a reply. One of an older Root, or expired, is `Old`."""
+def check_reply(trust: Told, reply: Told, secrets: Keys, vehicle: str,
+                now: int) -> dict[str, int]:
+    """The versions of the Director's files in a reply. One of an older Root, or expired, is `Old`.
+    """
     root = trust["root"]["signed"]["version"]
     expect(reply["vehicle"] == vehicle, "the reply is for another vehicle")
     words = "the reply is of Root version %d, which isn't served"
@@ -134,7 +144,8 @@ def check_reply(trust, reply, secrets, vehicle, now):
     return versions
 
 
-def image_repository(trust, fetch, secrets, now):
+def image_repository(trust: Told, fetch: Fetch, secrets: Keys,
+                     now: int) -> tuple[Any, dict[str, int]]:
     """The Image repository's Targets, and the versions of its files. A change of the repository
     between two of these requests mixes files of two versions: so what can't be verified is fetched
     once more, from the Root on."""
@@ -148,24 +159,26 @@ def image_repository(trust, fetch, secrets, now):
         except Refused:
             if not again:
                 raise
+    raise AssertionError("the second try ends it")
 
 
 # ---- targets
 
 
-def second_hash(target):
+def second_hash(target: Told) -> str | None:
     """A target's SHA-512, where it has one of its form."""
     given = target["hashes"].get("sha512")
     return given if forms.is_like("[0-9a-f]{128}", given) else None
 
 
-def image_of(target):
-    """What both repositories have to say alike of an image. The hardware is a list, with an order."""
+def image_of(target: Told) -> list[Any]:
+    """What both repositories have to say alike of an image. The hardware is a list, with order."""
     parts = [target[it] for it in ("file", "length", "hardware", "release")]
     return [*parts, target["hashes"]["sha256"], second_hash(target)]
 
 
-def check_targets(director, image, ecus, replaced=()):
+def check_targets(director: Told, image: Told, ecus: Told,
+                  replaced: Container[str] = ()) -> dict[str, Told]:
     """The images to install, by ECU, once both repositories agree on each and it suits its ECU. An
     ECU that was replaced is named by a reply from before: that is `Old`."""
     known, due = [image_of(one) for one in image["signed"]["targets"]], {}
@@ -184,7 +197,7 @@ def check_targets(director, image, ecus, replaced=()):
     return due
 
 
-def check_image(target, content):
+def check_image(target: Told, content: bytes) -> None:
     """That the bytes are the image that was meant, by each hash that the target has."""
     file, second = target["file"], second_hash(target)
     expect(len(content) == target["length"], "%s has another length", file)
@@ -196,13 +209,13 @@ def check_image(target, content):
 # ---- all of it
 
 
-def verified(told, reply, fetch, secrets, now):
+def verified(told: Told, reply: Told, fetch: Fetch, secrets: Keys, now: int) -> dict[str, Told]:
     """What is to be installed, by ECU. What the vehicle trusts of both repositories is changed with
     it: a Root once it is verified, the versions of files once all of them are."""
     expect(forms.is_reply(reply), "that is no reply")
     director, image = told["director"], told["image"]
     follow(director, fetch, secrets, "director", now)
-    versions, due = check_reply(director, reply, secrets, told["vehicle"], now), {}
+    versions, due = check_reply(director, reply, secrets, told["vehicle"], now), dict[str, Told]()
     # (where nothing is assigned the Standard ends here: 5.4.4.2)
     if reply["targets"]["signed"]["targets"]:
         ecus = {ecu["ecu"]: ecu for ecu in told["ecus"]}

@@ -666,7 +666,7 @@ async function ofRounds(told, compare) {
       };
       let verdict = null, wait = null;
       const now = due.now ?? told.now;
-      latest = Math.max(latest, now);
+      latest = Math.max(latest, Math.min(now, LAST_SECOND));
       Object.assign(world, { exchanged: line.exchanged, now: () => now, takes: (ecu) => !due.fails?.includes(ecu), sleep: async (seconds) => { line.waits.push(seconds); } });
       const go = async () => {
         try {

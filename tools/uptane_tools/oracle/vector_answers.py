@@ -50,24 +50,33 @@ ANSWERS = [
     ("a counter that was used, behind two spaces", 409, told(13, "Stale  7"), "mend", 13),
     ("a report that was used", 409, told(18, "ReportReplayed left"), "report", "left"),
     ("a report that was used, under another name", 409, told(18, "Other left"), "report", "left"),
-    ("a report that was used, without an ECU", 409, told(18, "ReportReplayed"), "mend", 18),
-    ("a body that is too large", 413, told(4, "TooLarge"), "mend", 4),
-    ("a body that is no JSON", 400, told(5, "NotJson"), "mend", 5),
-    ("a body without a canonical text", 400, told(6, "NotCanonical"), "mend", 6),
-    ("a member of another form", 400, told(7, "BadShape counter"), "mend", 7),
-    ("a vehicle that the inventory hasn't", 404, told(10, "UnknownVehicle"), "mend", 10),
-    ("another Primary than the inventory has", 403, told(11, "WrongPrimary"), "mend", 11),
-    ("another key than the inventory has", 403, told(12, "BadManifestSignature"), "mend", 12),
-    ("a report of an ECU that was replaced", 409, told(14, "UnknownEcu left"), "mend", 14),
-    ("the same with another status below 500", 403, told(14, "UnknownEcu left"), "mend", 14),
-    ("two reports of an ECU", 409, told(15, "DuplicateEcu left"), "mend", 15),
-    ("no report of an ECU that was put in", 409, told(16, "MissingEcu left-2"), "mend", 16),
-    ("a report under another key", 403, told(17, "BadReportSignature left"), "mend", 17)]
+    ("a report that was used, without an ECU", 409, told(18, "ReportReplayed"), "mend", 18)]
+# those after which a body has to be put right: status, number, text, and the name
+MENDED = """
+413 4 TooLarge: a body that is too large
+400 5 NotJson: a body that is no JSON
+400 6 NotCanonical: a body without a canonical text
+400 7 BadShape counter: a member of another form
+404 10 UnknownVehicle: a vehicle that the inventory hasn't
+403 11 WrongPrimary: another Primary than the inventory has
+403 12 BadManifestSignature: another key than the inventory has
+409 14 UnknownEcu left: a report of an ECU that was replaced
+403 14 UnknownEcu left: the same with another status below 500
+409 15 DuplicateEcu left: two reports of an ECU
+409 16 MissingEcu left-2: no report of an ECU that was put in
+403 17 BadReportSignature left: a report under another key
+"""
 
 
 def answers() -> Iterator[dict[str, Any]]:
     for name, status, body, then, value in ANSWERS:
         yield {"name": name, "status": status, "body": body, "then": then, "value": value}
+    for line in MENDED.split("\n")[1:-1]:
+        words, name = line.split(": ", 1)
+        code, number, text = words.split(" ", 2)
+        yield {
+            "name": name, "status": int(code), "body": told(int(number), text), "then": "mend",
+            "value": int(number)}
 
 
 # the same of a GET

@@ -5,7 +5,7 @@ sends, waits, installs and trusts then. What it has to do is written by hand, fr
 from collections.abc import Iterable, Iterator
 from typing import Any
 
-from uptane_tools.operate.formats import MOST
+from uptane_tools.operate.formats import LAST_MOMENT, MOST
 from uptane_tools.oracle.vector_answers import told
 from uptane_tools.oracle.vector_chains import INSTALLS, VEHICLE, Chain, members, nothing, target
 from uptane_tools.oracle.vector_fleet import CONTENT, DAY, ECUS, FIRST, NOW, image_of, moment
@@ -194,6 +194,8 @@ def of_counters() -> Rounds:
              [new(counters={"left": 1}), new(raised="left")], "accepted", DAILY)]
     yield "a report's counter that was lost", {}, [
         gone([replayed("left"), found], [new(), new(raised="left")], "accepted", DAILY)]
+    yield "no time is known: twice the counter that was refused", {}, [
+        gone([replayed("left"), found], [new(), new(raised="left")], "accepted", DAILY, now=0)]
     yield "one that was above the clock", {}, [
         gone([replayed("left")] * 3 + [found], [new(), *3 * [new(raised="left")]], "accepted",
              DAILY)]
@@ -292,6 +294,8 @@ def of_verdicts() -> Rounds:
     yield "a clock that goes back: the latest time decides", {}, [
         without(1, now=late),
         gone([found, found], [SAME, new()], "refused", behind(2), trusts=state(0, 0))]
+    yield "a clock past the year 9999: the last second of that year", {}, [
+        gone([found], [new()], "refused", SOON, now=LAST_MOMENT + 1)]
     known = {"trusted": {"director": {"timestamp": 3, "snapshot": 3, "targets": 3}}}
     yield "a restored database comes up to the version that the vehicle keeps", known, [
         refused("update", trusts=state(3, 0)),

@@ -310,10 +310,9 @@ def damaged(made: tuple[Path, str], to: Path, table: str, column: str, row: str,
 
 # What a look-up asks for: a row that was damaged there isn't found, and what it names is unknown or
 # free.
-KEYS = {("role_key", "root"): "the role's other keys sign without it",
-        ("role_key", "repository"): "the role's other keys sign without it",
-        ("role_key", "role"): "the role's other keys sign without it",
-        ("repo_file", "repository"): "the file is unknown",
+OTHERS_SIGN = "the role's other keys sign without it"
+KEYS = {("role_key", "root"): OTHERS_SIGN, ("role_key", "repository"): OTHERS_SIGN,
+        ("role_key", "role"): OTHERS_SIGN, ("repo_file", "repository"): "the file is unknown",
         ("repo_file", "name"): "the file is unknown",
         ("image", "file"): "the image is unknown to a campaign",
         ("campaign", "name"): "the campaign is unknown, and its name is free",

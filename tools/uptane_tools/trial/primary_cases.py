@@ -34,8 +34,8 @@ HERE = trials.TOP / "examples" / "primary"
 NOW = int(time.time())
 DAY = 86400
 # the Primary with short waits
-PRIMARY = ("import sys; sys.path.insert(0, %r); import primary; primary.WAITS = (0.1, 0.1); "
-           "sys.exit(primary.main(sys.argv[1:]))") % str(HERE)
+PYTHON = ["env", "PYTHONPATH=%s" % HERE, sys.executable, "-c"]
+PRIMARY = "import sys, primary; primary.WAITS = (0.1, 0.1); sys.exit(primary.main())"
 ECUS = [("gw", "GW"), ("left", "BR"), ("right", "BR")]
 CONTENT = {
     name: name.encode() for name in ("gateway-1.bin", "gateway-2.bin", "brake-1.bin", "brake-2.bin")
@@ -45,7 +45,7 @@ INSTALLED = [
     "gw installed gateway-2.bin", "left installed brake-2.bin", "right installed brake-2.bin"]
 # the small Primaries: how a round of each is begun
 SMALL = {
-    "Python": [sys.executable, "-c", PRIMARY], "JavaScript": [
+    "Python": [*PYTHON, PRIMARY], "JavaScript": [
         "node", str(trials.TOP / "examples" / "primary_node" / "primary.mjs")]}
 
 
@@ -314,7 +314,7 @@ def locked(program: str | Path, own: Path, small: str) -> trials.Cases:
 # the small Primaries, with a clock that is eight days ahead
 AHEAD = {
     "Python": [
-        sys.executable, "-c",
+        *PYTHON,
         "import time; now = time.time; time.time = lambda: now() + 8 * 86400; " + PRIMARY],
     "JavaScript": [
         "node", "--import",
@@ -416,7 +416,7 @@ def words() -> trials.Cases:
              (["check", "nowhere"], http_cases.REPLY, 1),
              (["round", "http://127.0.0.1:1", "nowhere"], b"", 1), (["walk"], b"", 2)]
     for given, text, status in tried:
-        ran = subprocess.run([sys.executable, "-c", PRIMARY, *given], input=text,
+        ran = subprocess.run([*PYTHON, PRIMARY, *given], input=text,
                              capture_output=True, check=False, timeout=http_cases.PATIENCE)
         told = ran.stderr.decode("ascii")
         yield "the words " + given[0], ran.returncode == status and "Traceback" not in told and (

@@ -24,13 +24,12 @@ from uptane_tools.trial import http_cases, trials
 
 LABEL = reference.LABEL.encode()
 # the reference under the name of a program, without the line on standard error that says what it is
-WITHOUT_LABEL = """#!%s
+WITHOUT_LABEL = """#!/usr/bin/env -S PYTHONPATH=%s %s
 import sys
-sys.path.insert(0, %r)
 from uptane_tools.oracle import reference
 reference.LABEL = ""
 sys.exit(reference.main(sys.argv[1:]))
-""" % (sys.executable, str(trials.TOP / "tools"))
+""" % (trials.TOP / "tools", sys.executable)
 
 
 def ran(*words: str, given: bytes = b"") -> tuple[int, bytes, bytes]:

@@ -105,7 +105,7 @@ class Rounds:
     def is_well(self, given: dict[str, Any]) -> bool:
         """Whether a round goes as it has to."""
         self.now = given.get("now", self.told["now"])
-        self.latest = max(self.latest, self.now)
+        self.latest = max(self.latest, min(self.now, self.small.primary.LAST_SECOND))
         primary, line, verdicts = self.small.primary, Line(self.told, given), []
         replace(self.known, given.get("replaced", {}))
         for name, other in given.get("replaced", {}).items():
