@@ -1,5 +1,5 @@
 -- What a command comes to within a session, and what its end makes of it.
-use Rattle.std.proofs.Common.{◌≡◌, ◌⊎◌, Bool, true, false, List, [], ℕ, Option, None, Result, Ok, Err, IsTrue, inl, inr, refl, sym, ap, ◌∙◌, subst, arith}
+use Rattle.std.proofs.Common.{◌≡◌, ◌⊎◌, Bool, true, false, List, ℕ, Option, None, Result, Ok, Err, IsTrue, inl, inr, refl, sym, ap, ◌∙◌, subst, arith}
 use Rattle.std.specs.Prelude.{◌||◌, ⊤, IfErr, IfSome, MatchBool}
 use Rattle.std.specs.Borrow.{MutBor}
 use Rattle.sqlite_disk.specs.Disk.{MoreFaults}
@@ -58,10 +58,6 @@ told_fault fault.Store = refl
 store_told : (f : StoreFault) → refusal_told f ≡ Store → f ≡ fault.Store
 store_told fault.Memory is = cc
 store_told fault.Store is = refl
-
--- some rules, for what holds under any
-pub some_rules : Rules
-some_rules = record { method = []; secret_fits = λ _. false; public_fits = λ _. false; public_of = λ p. p; shown = λ p. p; tag = λ s m. m; is_valid = λ p m t. false }
 
 -- ---- within a session
 

@@ -1,8 +1,9 @@
 -- Commands that share a session, and what its end makes of them.
 use Rattle.std.proofs.Common.{◌≡◌, inr, ℕ, ◌+◌, ◌<◌, ◌≤◌, List, [], ◌∷◌, ◌++◌, Bool, true, false, Option, Some, None, Result, Ok, Err, length, get_or, take, map, append-nil, append_assoc, refl, sym, ap, ap₂, ◌∙◌, subst, arith}
 use Rattle.std.proofs.lemmas.List.{take_more, take_all}
-use Rattle.std.specs.Prelude.{◌||◌, ⊤, IfSome, IsTrue, MatchBool, if◌then◌else◌, is_ok}
+use Rattle.std.specs.Prelude.{◌||◌, ⊤, IfSome, IsTrue, MatchBool, if◌then◌else◌, is_ok, vec_len, vec_capacity}
 use Rattle.std.specs.Borrow.{MutBor}
+use Rattle.std.specs.Global.{Vec}
 use Rattle.std.specs.List.{AllByRecursion}
 use Rattle.sqlite.specs.Held.{Held, state}
 use Rattle.sqlite.specs.State.{State as Connected, HasCleanDisk}
@@ -175,11 +176,12 @@ module _ (k : Rules) (stays : ServedStaysSound) (s : State) (cs : List (ℕ × C
           subst (λ (x : Answer × Bool). LeavesAll k s (cs ++ c ∷ []) (told ++ x.0 ∷ []) old new next_left (put || x.1)) same
           (same_next (Refused q) fault (due_is k at.next c.0 c.1 ∙ ap (outcome_of at.next) due.0) (λ none. none) due.1 h.memory)
 
-module _ {S : Type 0} (g : Ghosts S) (k : Rules) (held : List Answer) (old : MutBor (Held S)) (kept : Option Catalog) where
-  pub none_so_far : (answers : List Answer) → answers ≡ held → IfClean IsInside (state g old.now) → IsStep g old old → CarriesAll g k [] held answers old old kept kept (Some false)
-  none_so_far answers same inside step = record {
+module _ {S : Type 0} (g : Ghosts S) (k : Rules) (held : Vec Answer) (old : MutBor (Held S)) (kept : Option Catalog) where
+  pub none_so_far : IfClean IsInside (state g old.now) → IsStep g old old → CarriesAll g k [] held held old old kept kept (Some false)
+  none_so_far inside step = record {
     told = [];
-    appended = same ∙ sym (append-nil held);
+    appended = sym (append-nil held.items);
+    room = omega arith;
     outright = tt;
     inside = inside;
     leaves = λ clean s sound seen fits. record {
@@ -195,12 +197,14 @@ module _ {S : Type 0} (g : Ghosts S) (k : Rules) (held : List Answer) (old : Mut
     step = step;
   }
 
-  module _ {cs : List (ℕ × Command)} {answers : List Answer} {mid new : MutBor (Held S)} {left next_left : Option Catalog} {put : Bool} (far : CarriesAll g k cs held answers old mid kept left (Some put)) where
-    pub one_more : ServedStaysSound → (c : ℕ × Command) (r : Result Carried Refusal) (a : Answer) (p : Bool) (more : List Answer) → IsTrue (is_command c.1) → CarriesOn g k (λ s. outcome_due k s c.0 c.1) mid new left next_left r
-        → IfSome (outright k c.0 c.1) (λ q. r ≡ Err q) → told_by r ≡ Some (a, p) → more ≡ answers ++ a ∷ [] → CarriesAll g k (cs ++ c ∷ []) held more old new kept next_left (Some (put || p))
-    one_more stays c r a p more fits one due is pushed = record {
+  module _ {cs : List (ℕ × Command)} {answers : Vec Answer} {mid new : MutBor (Held S)} {left next_left : Option Catalog} {put : Bool} (far : CarriesAll g k cs held answers old mid kept left (Some put)) where
+    pub one_more : ServedStaysSound → (c : ℕ × Command) (r : Result Carried Refusal) (a : Answer) (p : Bool) (more : Vec Answer) → IsTrue (is_command c.1) → CarriesOn g k (λ s. outcome_due k s c.0 c.1) mid new left next_left r
+        → IfSome (outright k c.0 c.1) (λ q. r ≡ Err q) → told_by r ≡ Some (a, p) → more.items ≡ answers.items ++ a ∷ [] → vec_capacity answers ≤ vec_capacity more
+        → CarriesAll g k (cs ++ c ∷ []) held more old new kept next_left (Some (put || p))
+    one_more stays c r a p more fits one due is pushed grown = record {
       told = far.told ++ a ∷ [];
-      appended = pushed ∙ ap (λ (items : List Answer). items ++ a ∷ []) far.appended ∙ append_assoc held far.told (a ∷ []);
+      appended = pushed ∙ ap (λ (items : List Answer). items ++ a ∷ []) far.appended ∙ append_assoc held.items far.told (a ∷ []);
+      room = omega (arith, far.room, grown);
       outright = outright_next k cs far.told c a far.outright (due_told (outright k c.0 c.1) r a p is due);
       inside = λ clean. one.goes clean (decided r a p is) (far.inside (clean_on g one.step clean));
       leaves = λ clean s sound seen memory.
@@ -215,6 +219,7 @@ module _ {S : Type 0} (g : Ghosts S) (k : Rules) (held : List Answer) (old : Mut
     one_lost all one = record {
       told = far.told;
       appended = far.appended;
+      room = far.room;
       outright = tt;
       inside = tt;
       leaves = λ clean s sound seen memory. tt;
@@ -223,16 +228,16 @@ module _ {S : Type 0} (g : Ghosts S) (k : Rules) (held : List Answer) (old : Mut
     }
 
 -- one more of a list
-pub one_of_list : {S : Type 0} (g : Ghosts S) (k : Rules) (held : List Answer) (old : MutBor (Held S)) (kept : Option Catalog) {answers : List Answer} {mid new : MutBor (Held S)} {left next_left : Option Catalog} {put : Bool}
-    → ServedStaysSound → (cs : List (ℕ × Command)) (i : ℕ) (c : ℕ × Command) (r : Result Carried Refusal) (a : Answer) (p : Bool) (more : List Answer) → i < length cs → c ≡ get_or cs i c → CarriesAll g k (take i cs) held answers old mid kept left (Some put)
-    → IsTrue (is_command c.1) → CarriesOn g k (λ s. outcome_due k s c.0 c.1) mid new left next_left r → IfSome (outright k c.0 c.1) (λ q. r ≡ Err q) → told_by r ≡ Some (a, p) → more ≡ answers ++ a ∷ []
-    → CarriesAll g k (take (i + 1) cs) held more old new kept next_left (Some (put || p))
-one_of_list g k held old kept {new = new} {next_left = next_left} {put} stays cs i c r a p more within there far fits one due is pushed =
+pub one_of_list : {S : Type 0} (g : Ghosts S) (k : Rules) (held : Vec Answer) (old : MutBor (Held S)) (kept : Option Catalog) {answers : Vec Answer} {mid new : MutBor (Held S)} {left next_left : Option Catalog} {put : Bool}
+    → ServedStaysSound → (cs : List (ℕ × Command)) (i : ℕ) (c : ℕ × Command) (r : Result Carried Refusal) (a : Answer) (p : Bool) (more : Vec Answer) → i < length cs → c ≡ get_or cs i c → CarriesAll g k (take i cs) held answers old mid kept left (Some put)
+    → IsTrue (is_command c.1) → CarriesOn g k (λ s. outcome_due k s c.0 c.1) mid new left next_left r → IfSome (outright k c.0 c.1) (λ q. r ≡ Err q) → told_by r ≡ Some (a, p) → more.items ≡ answers.items ++ a ∷ []
+    → vec_capacity answers ≤ vec_capacity more → CarriesAll g k (take (i + 1) cs) held more old new kept next_left (Some (put || p))
+one_of_list g k held old kept {new = new} {next_left = next_left} {put} stays cs i c r a p more within there far fits one due is pushed grown =
     let taken : take (i + 1) cs ≡ take i cs ++ c ∷ [] = take_more cs i c within ∙ ap (λ x. take i cs ++ x ∷ []) (sym there) in
-    subst (λ (xs : List (ℕ × Command)). CarriesAll g k xs held more old new kept next_left (Some (put || p))) (sym taken) (one_more g k held old kept far stays c r a p more fits one due is pushed)
+    subst (λ (xs : List (ℕ × Command)). CarriesAll g k xs held more old new kept next_left (Some (put || p))) (sym taken) (one_more g k held old kept far stays c r a p more fits one due is pushed grown)
 
 -- all of a list
-pub all_carried : {S : Type 0} (g : Ghosts S) (k : Rules) {held answers : List Answer} {old new : MutBor (Held S)} {kept left : Option Catalog} {put : Option Bool} (cs : List (ℕ × Command)) (i : ℕ) → length cs ≤ i
+pub all_carried : {S : Type 0} (g : Ghosts S) (k : Rules) {held answers : Vec Answer} {old new : MutBor (Held S)} {kept left : Option Catalog} {put : Option Bool} (cs : List (ℕ × Command)) (i : ℕ) → length cs ≤ i
     → CarriesAll g k (take i cs) held answers old new kept left put → CarriesAll g k cs held answers old new kept left put
 all_carried g k {held} {answers} {old} {new} {kept} {left} {put} cs i all far = subst (λ (xs : List (ℕ × Command)). CarriesAll g k xs held answers old new kept left put) (take_all i cs all) far
 
@@ -253,7 +258,7 @@ whole_next : {k : Rules} {s : State} {cs : List (ℕ × Command)} {told : List A
     → at.next ≡ after k s (none_lost cs)
 whole_next {k} {s} {cs} {told} due at = (ran_served k s cs told at.next at.served).state ∙ ap (λ (ms : List Sent). after k s ms) (unfailed_sent k cs told due at.unfailed)
 
-pub carried_as_one : {S : Type 0} (g : Ghosts S) (k : Rules) (cs : List (ℕ × Command)) {held answers : List Answer} {old new : MutBor (Held S)} {kept left : Option Catalog} (put : Option Bool)
+pub carried_as_one : {S : Type 0} (g : Ghosts S) (k : Rules) (cs : List (ℕ × Command)) {held answers : Vec Answer} {old new : MutBor (Held S)} {kept left : Option Catalog} (put : Option Bool)
     → CarriesAll g k cs held answers old new kept left put → CarriesOn g k (whole_rule k cs put) old new kept None (as_one put)
 carried_as_one g k cs {old = old} {new} (Some true) all = record {
   leaves = λ clean s sound seen memory.
@@ -323,17 +328,18 @@ module _ {S : Type 0} (g : Ghosts S) (k : Rules) (cs : List (ℕ × Command)) (o
   cleaned empty put out = clean_once k (over g old kept) (over g last None) (λ s. HoldsState k (after k s (none_lost cs))) empty (λ s sound never. crashes put out s sound (λ now. absurd (never now)))
 
   -- a command failed, or the commit did
-  pub undone : EmptyIsSound → (held answers : List Answer) → answers ≡ held → (put : Option Bool) (r : Result Answer Refusal) → CarriesOut k (whole_rule k cs put) (over g old kept) (over g last None) r → is_ok r ≡ false
+  pub undone : EmptyIsSound → (held answers : Vec Answer) → answers.items ≡ held.items → vec_len answers + length cs ≤ vec_capacity answers → (put : Option Bool) (r : Result Answer Refusal) → CarriesOut k (whole_rule k cs put) (over g old kept) (over g last None) r → is_ok r ≡ false
       → IsUndone k cs held answers (over g old kept) (over g last None)
-  undone empty held answers untold put (Ok a) out failed = absurd (let no : true ≡ false = failed in cc)
-  undone empty held answers untold put (Err q) out failed = record {
+  undone empty held answers untold room put (Ok a) out failed = absurd (let no : true ≡ false = failed in cc)
+  undone empty held answers untold room put (Err q) out failed = record {
     untold = untold;
+    room = room;
     shown = λ s sound was clean. ((out.serves s sound was).leaves clean).0;
     crash = crashes put out;
     clean = cleaned empty put out;
   }
 
-  module _ (laws : ListLaws) (empty : EmptyIsSound) (tx mid : MutBor (Held S)) (left : Option Catalog) (viewed : Held S) (same : viewed ≡ old) (begun : tx.now ≡ record viewed { in_transaction = true }) (held answers : List Answer) where
+  module _ (laws : ListLaws) (empty : EmptyIsSound) (tx mid : MutBor (Held S)) (left : Option Catalog) (begun : tx.now ≡ record old { in_transaction = true }) (held answers : Vec Answer) where
     module _ (p : Bool) (all : CarriesAll g k cs held answers tx mid kept left (Some p)) (before : HasCleanDisk (state g last) → HasCleanDisk (state g mid.now))
         (out : CarriesOut k (whole_rule k cs (Some p)) (over g old kept) (over g last None) (Ok (whole_answer p))) where
       one : CarriesOn g k (whole_rule k cs (Some p)) tx mid kept None (as_one (Some p))
@@ -341,8 +347,8 @@ module _ {S : Type 0} (g : Ghosts S) (k : Rules) (cs : List (ℕ × Command)) (o
 
       leaves : (s : State) → IsSound k s → standing.IfClean (ShowsState k s) (over g old kept) → HasCleanDisk (state g last) → LeavesAll k s cs all.told (state g tx.now) (state g mid.now) left p
       leaves s sound was clean =
-          all.leaves (before clean) s sound (sees g k viewed old tx mid last kept None (whole_rule k cs (Some p)) same begun one s sound was (before clean))
-          (was (first g k viewed old tx mid last kept None (whole_rule k cs (Some p)) same begun one (before clean))).memory
+          all.leaves (before clean) s sound (sees g k old old tx mid last kept None (whole_rule k cs (Some p)) refl begun one s sound was (before clean))
+          (was (first g k old old tx mid last kept None (whole_rule k cs (Some p)) refl begun one (before clean))).memory
 
       shown : (s : State) → IsSound k s → standing.IfClean (ShowsState k s) (over g old kept) → HasCleanDisk (state g last) → (next : State) → next ≡ after k s (none_lost cs) → Fits next left → ShowsState k next (over g last left)
       shown s sound was clean next is memory =
@@ -350,7 +356,7 @@ module _ {S : Type 0} (g : Ghosts S) (k : Rules) (cs : List (ℕ × Command)) (o
           let same : it.1.0 ≡ next = sym (ap (λ (o : Result Outcome Refusal). (outcome_of s o).next) it.1.1) ∙ rule_next k cs (Some p) s ∙ sym is in
           record { tables = subst (λ (t : State). KeepsState k t (state g last)) same it.1.2.tables; memory = memory }
 
-      so_far : SoFar k (over g old kept) (over g last left) cs held answers
+      so_far : SoFar k (over g old kept) (over g last left) cs held.items answers.items
       so_far = record {
         given = all.told;
         items = all.appended;
@@ -384,57 +390,43 @@ module _ {S : Type 0} (g : Ghosts S) (k : Rules) (cs : List (ℕ × Command)) (o
               let quiet = subst (λ (b : Bool). MatchBool b (IsTrue (state g mid.now).is_open) ((at.next ≡ s) × AreIdle k s cs (state g tx.now) (state g mid.now))) is at.rows in
               absurd (none_commits k s (sent cs all.told) first_ones rest m (idle_sent k s cs all.told quiet.1.each) made)
 
-      all_called : AreCalled k cs held answers (over g old kept) (over g last left)
-      all_called = called_so_far laws k (over g old kept) (over g last left) cs held answers so_far
+      all_called : AreCalled k cs held.items answers.items (over g old kept) (over g last left)
+      all_called = called_so_far laws k (over g old kept) (over g last left) cs held.items answers.items so_far
 
     -- what was put is committed, or there was nothing to commit
     pub called : (put : Option Bool) (r : Result Answer Refusal) → CarriesAll g k cs held answers tx mid kept left put → EndsCarried (as_one put) (state g mid.now) (state g last) r
-        → CarriesOut k (whole_rule k cs put) (over g old kept) (over g last None) r → is_ok r ≡ true → AreCalled k cs held answers (over g old kept) (over g last left)
+        → CarriesOut k (whole_rule k cs put) (over g old kept) (over g last None) r → is_ok r ≡ true → AreCalled k cs held.items answers.items (over g old kept) (over g last left)
     called (Some p) r all ends out ok =
         all_called p all (clean_before (Some p) (state g mid.now) (state g last) r ends) (subst (λ q. CarriesOut k (whole_rule k cs (Some p)) (over g old kept) (over g last None) q) (ended_ok p (state g mid.now) (state g last) r ends ok) out)
     called None r all ends out ok = absurd (let no : true ≡ false = sym ok ∙ ap is_ok ends.1 in cc)
 
 -- how the session ended
-ended : {S : Type 0} (g : Ghosts S) (k : Rules) (cs : List (ℕ × Command)) (laws : ListLaws) (empty : EmptyIsSound) (viewed old : Held S) (tx mid : MutBor (Held S)) (last : Held S) (kept left : Option Catalog) (held answers : List Answer)
-    (put : Option Bool) (whole : Result Carried Refusal) (r : Result Answer Refusal) → viewed ≡ old → tx.now ≡ record viewed { in_transaction = true } → CarriesAll g k cs held answers tx mid kept left put → whole ≡ as_one put
-    → EndsCarried whole (state g mid.now) (state g last) r → (IsTrue (state g last).is_open → (trees : Trees) → (state g last).may_leave trees → trees ≡ (state g last).committed.trees)
-    → (is_ok r ≡ true → AreCalled k cs held answers (over g old kept) (over g last left))
-    × (is_ok r ≡ false → (behind : List Answer) → behind ≡ held → IsUndone k cs held behind (over g old kept) (over g last None))
-ended g k cs laws empty viewed old tx mid last kept left held answers put whole r same begun all is ends settled =
-    let ends : EndsCarried (as_one put) (state g mid.now) (state g last) r = subst (λ (c : Result Carried Refusal). EndsCarried c (state g mid.now) (state g last) r) is ends in
-    let out = finished g k viewed old tx mid last kept None (whole_rule k cs put) same begun (as_one put) (λ inside. carried_as_one g k cs put all) ends settled in (
-      λ ok. called g k cs old last kept laws empty tx mid left viewed same begun held answers put r all ends out ok,
-      λ failed behind untold. undone g k cs old last kept empty held behind untold put r out failed,
-    )
-
-pub ended_all : {S : Type 0} (g : Ghosts S) (k : Rules) (cs : List (ℕ × Command)) (laws : ListLaws) (empty : EmptyIsSound) (old last : Held S) (kept left : Option Catalog) (held answers : List Answer) (done : Bool)
+pub ended_all : {S : Type 0} (g : Ghosts S) (k : Rules) (cs : List (ℕ × Command)) (laws : ListLaws) (empty : EmptyIsSound) (old last : Held S) (kept left : Option Catalog) (held answers : Vec Answer) (done : Bool)
     → EndsAll g k cs held answers old last kept left done → (IsTrue (state g last).is_open → (trees : Trees) → (state g last).may_leave trees → trees ≡ (state g last).committed.trees)
-    → (done ≡ true → AreCalled k cs held answers (over g old kept) (over g last left))
-    × (done ≡ false → (behind : List Answer) → behind ≡ held → IsUndone k cs held behind (over g old kept) (over g last None))
+    → (done ≡ true → AreCalled k cs held.items answers.items (over g old kept) (over g last left))
+    × (done ≡ false → (behind : Vec Answer) → behind.items ≡ held.items → vec_len behind + length cs ≤ vec_capacity behind → IsUndone k cs held behind (over g old kept) (over g last None))
 ended_all g k cs laws empty old last kept left held answers done it settled =
-    let both = ended g k cs laws empty old old it.tx it.mid last kept left held answers it.put (as_one it.put) it.told refl it.begun it.all refl it.ends settled in (
-      λ done. both.0 (sym it.done_is ∙ done),
-      λ failed. both.1 (sym it.done_is ∙ failed),
+    let out = finished g k old old it.tx it.mid last kept None (whole_rule k cs it.put) refl it.begun (as_one it.put) (λ inside. carried_as_one g k cs it.put it.all) it.ends settled in (
+      λ yes. called g k cs old last kept laws empty it.tx it.mid left it.begun held answers it.put it.told it.all it.ends out (sym it.done_is ∙ yes),
+      λ no behind untold room. undone g k cs old last kept empty held behind untold room it.put it.told out (sym it.done_is ∙ no),
     )
 
 -- ---- one by one behind it
 
-pub called_behind : (k j : Rules) (cs : List (ℕ × Command)) (held between answers : List Answer) (old mid new : Standing) → j ≡ k → IsUndone k cs held between old mid → AreCalled j cs between answers mid new
-    → AreCalled k cs held answers old new
-called_behind k j cs held between answers old mid new scheme undone other =
-    let called : AreCalled k cs between answers mid new = subst (λ (rules : Rules). AreCalled rules cs between answers mid new) scheme other in
-    record {
-      told = called.told;
-      appended = called.appended ∙ ap (λ (items : List Answer). items ++ called.told) undone.untold;
-      outright = called.outright;
-      ran = λ clean s sound was. called.ran clean s sound (undone.shown s sound was);
-      crash = λ s sound was.
-          survives_then old.connection mid.connection new.connection (HoldsState k (after k s (none_lost cs))) _ _
-          (λ clean trees holds. (
-            after k s (none_lost cs),
-            ([], sent cs called.told, [], sym (append-nil (sent cs called.told)), ap (λ (ms : List Sent). after k s ms) (sym (carried_all k cs called.told called.outright))),
-            holds,
-          ))
-          (λ clean trees it. it) (undone.crash s sound was) (called.crash s sound (undone.shown s sound was));
-      lasts = λ s sound was. called.lasts s sound (undone.shown s sound was);
-    }
+pub called_behind : (k : Rules) (cs : List (ℕ × Command)) (held between : Vec Answer) (answers : List Answer) (old mid new : Standing) → IsUndone k cs held between old mid → AreCalled k cs between.items answers mid new
+    → AreCalled k cs held.items answers old new
+called_behind k cs held between answers old mid new undone called = record {
+  told = called.told;
+  appended = called.appended ∙ ap (λ (items : List Answer). items ++ called.told) undone.untold;
+  outright = called.outright;
+  ran = λ clean s sound was. called.ran clean s sound (undone.shown s sound was);
+  crash = λ s sound was.
+      survives_then old.connection mid.connection new.connection (HoldsState k (after k s (none_lost cs))) _ _
+      (λ clean trees holds. (
+        after k s (none_lost cs),
+        ([], sent cs called.told, [], sym (append-nil (sent cs called.told)), ap (λ (ms : List Sent). after k s ms) (sym (carried_all k cs called.told called.outright))),
+        holds,
+      ))
+      (λ clean trees it. it) (undone.crash s sound was) (called.crash s sound (undone.shown s sound was));
+  lasts = λ s sound was. called.lasts s sound (undone.shown s sound was);
+}

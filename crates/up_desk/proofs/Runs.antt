@@ -332,12 +332,6 @@ pub chosen_ok : {T E A : Type 0} (r : Result T E) (x : T) (new there else_there 
 chosen_ok (Ok y) x new there other h is = is
 chosen_ok (Err e) x new there other h is = cc
 
--- what holds of each command holds of the one at hand
-pub each_or : {A : Type 0} (P : A → Type 0) (xs : List A) (i : ℕ) (x : A) → AllByRecursion P xs → i < length xs → x ≡ get_or xs i x → P x
-each_or P [] i x all within is = absurd (omega arith)
-each_or P (y ∷ xs) zero x all within is = subst P (sym is) all.0
-each_or P (y ∷ xs) (suc i) x all within is = each_or P xs i x all.1 (omega arith) is
-
 -- ---- the laws of a list
 
 -- the laws of the machine that tell what a list of calls comes to

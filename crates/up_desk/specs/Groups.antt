@@ -1,6 +1,7 @@
 -- Commands that share a session, and its commit.
-use Rattle.std.specs.Prelude.{◌≡◌, ◌++◌, ℕ, Bool, true, false, if◌then◌else◌, List, map, Option, Some, None, IfSome, OnSome, Result, Ok, Err, IsTrue, MatchBool, is_ok}
+use Rattle.std.specs.Prelude.{◌≡◌, ◌+◌, ◌≤◌, ◌++◌, ℕ, Bool, true, false, if◌then◌else◌, List, map, length, vec_len, vec_capacity, Option, Some, None, IfSome, OnSome, Result, Ok, Err, IsTrue, MatchBool, is_ok}
 use Rattle.std.specs.Borrow.{MutBor}
+use Rattle.std.specs.Global.{Vec}
 use Rattle.std.specs.List.{AllByRecursion}
 use Rattle.sqlite.specs.Held.{Held, state}
 use Rattle.sqlite.specs.State.{State as Connected, HasCleanDisk}
@@ -11,6 +12,7 @@ use Rattle.up_sign.specs.Schemes.{Rules}
 use Rattle.up_machine.specs.declared.answer.Answer.{Answer}
 use Rattle.up_machine.specs.declared.answer.Answer.TheVariants.{Already, Done, Refused}
 use Rattle.up_machine.specs.declared.command.Command.{Command}
+use Rattle.up_machine.specs.Commands.{opens_running}
 use Rattle.up_machine.specs.Repeats.{Sent, after, serve}
 use Rattle.up_machine.specs.Sound.{IsSound}
 use Rattle.up_machine.specs.State.{State}
@@ -28,6 +30,18 @@ use Rattle.up_desk.specs.declared.carried.Carried.TheVariants.{Put, Unchanged}
 use Rattle.up_desk.specs.Carrying.{EndsCarried}
 use Rattle.up_desk.specs.Runs.{AreCalled, AreOutright, ServesEach, timed}
 use Rattle.up_desk.specs.Serving.{IsCommit, is_failed}
+
+-- ---- what they need
+
+-- a campaign that is opened is running, and there is room for an answer to each command
+pub record CanAnswer (cs : List (ℕ × Command)) (answers : Vec Answer) : Type 0 where
+  pub running : AllByRecursion (λ c. IsTrue (opens_running c.1)) cs
+  pub room : vec_len answers + length cs ≤ vec_capacity answers
+
+-- and what is kept in memory can be used
+pub record CanRun (k : Rules) (cs : List (ℕ × Command)) (kept : Option Catalog) (answers : Vec Answer) : Type 0 where
+  pub usable : IfSome kept (CanDecide k)
+  pub asked : CanAnswer cs answers
 
 -- ---- within a session
 
@@ -59,10 +73,11 @@ pub record LeavesAll (k : Rules) (s : State) (cs : List (ℕ × Command)) (told 
   pub rows : MatchBool put (IsTrue new.is_open) ((next ≡ s) × AreIdle k s cs old new)
 
 -- commands one after another, of which the answers are appended; it is told whether any rows were put, or none where a command failed
-pub record CarriesAll {S : Type 0} (g : Ghosts S) (k : Rules) (cs : List (ℕ × Command)) (held answers : List Answer) (old new : MutBor (Held S)) (kept left : Option Catalog)
+pub record CarriesAll {S : Type 0} (g : Ghosts S) (k : Rules) (cs : List (ℕ × Command)) (held answers : Vec Answer) (old new : MutBor (Held S)) (kept left : Option Catalog)
     (put : Option Bool) : Type 0 where
   pub told : List Answer
-  pub appended : answers ≡ held ++ told
+  pub appended : answers.items ≡ held.items ++ told
+  pub room : vec_capacity held ≤ vec_capacity answers
   pub outright : OnSome put (AreOutright k cs told)
   pub inside : OnSome put (stands.IfClean IsInside (state g new.now))
   pub leaves : HasCleanDisk (state g new.now) → (s : State) → IsSound k s → SeesState k s (state g old.now) → Fits s kept
@@ -79,7 +94,7 @@ as_one (Some false) = Ok (Unchanged Already)
 as_one None = Err Memory
 
 -- so they were carried out in one session, and this is how it ended
-pub record EndsAll {S : Type 0} (g : Ghosts S) (k : Rules) (cs : List (ℕ × Command)) (held answers : List Answer) (old last : Held S) (kept left : Option Catalog) (done : Bool) : Type 0 where
+pub record EndsAll {S : Type 0} (g : Ghosts S) (k : Rules) (cs : List (ℕ × Command)) (held answers : Vec Answer) (old last : Held S) (kept left : Option Catalog) (done : Bool) : Type 0 where
   pub tx : MutBor (Held S)
   pub mid : MutBor (Held S)
   pub put : Option Bool
@@ -93,14 +108,15 @@ pub record EndsAll {S : Type 0} (g : Ghosts S) (k : Rules) (cs : List (ℕ × Co
 abbrev pub none_lost : List (ℕ × Command) → List Sent
 none_lost cs = map (λ c. record { item = timed c; lost = false }) cs
 
--- The tables show what they showed, and nothing is kept in memory. A crash leaves what it could leave before, or the state behind all commands:
--- where their commit failed.
-pub record IsUndone (k : Rules) (cs : List (ℕ × Command)) (held answers : List Answer) (old new : Standing) : Type 0 where
-  pub untold : answers ≡ held
+-- Nothing is answered, and there is room for the answers as before. The tables show what they showed, and nothing is kept in memory. A crash
+-- leaves what it could leave before, or the state behind all commands: where their commit failed.
+pub record IsUndone (k : Rules) (cs : List (ℕ × Command)) (held answers : Vec Answer) (old new : Standing) : Type 0 where
+  pub untold : answers.items ≡ held.items
+  pub room : vec_len answers + length cs ≤ vec_capacity answers
   pub shown : (s : State) → IsSound k s → IfClean (ShowsState k s) old → IfClean (ShowsState k s) new
   pub crash : (s : State) → IsSound k s → IfClean (ShowsState k s) old → Survives old new (HoldsState k (after k s (none_lost cs)))
   pub clean : standing.HasCleanDisk new → standing.HasCleanDisk old
 
 -- all of them are called, or all of it is undone
-abbrev pub AreCalledOrUndone : Rules → List (ℕ × Command) → List Answer → List Answer → Standing → Standing → Bool → Type 0
-AreCalledOrUndone k cs held answers old new done = MatchBool done (AreCalled k cs held answers old new) (IsUndone k cs held answers old new)
+abbrev pub AreCalledOrUndone : Rules → List (ℕ × Command) → Vec Answer → Vec Answer → Standing → Standing → Bool → Type 0
+AreCalledOrUndone k cs held answers old new done = MatchBool done (AreCalled k cs held.items answers.items old new) (IsUndone k cs held answers old new)

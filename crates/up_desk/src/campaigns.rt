@@ -8,7 +8,6 @@ ghost use Rattle.up_desk.specs.Carrying.{CarriesIn};
 ghost use Rattle.up_desk.specs.Deciding.{DecidesClose, DecidesOpen};
 ghost use Rattle.up_desk.specs.Gathered.{AreOpeningRows};
 ghost use Rattle.up_records.specs.Sessions.{FindsIn};
-ghost use Rattle.up_tables.specs.Statements.{IsStep, WhereInside};
 
 use crate::carried::{Carried, put_of};
 use crate::command_moment::CommandMoment;
@@ -48,9 +47,8 @@ pub fn open<D: Alter>(
     at: CommandMoment,
     campaign: &Campaign,
 ) -> Result<Carried, Refusal>
-    ensures carries { (k : Rules) → CarriesIn D.Store k (λ s. decide_open_in s at campaign.now)
+    ensures { (k : Rules) → CarriesIn D.Store k (λ s. decide_open_in s at campaign.now)
         tx.old.conn tx.new.conn catalog.old catalog.new result }
-    ensures step { WhereInside D.Store tx.old.conn (IsStep D.Store tx.old.conn tx.new.conn) }
 {
     campaigns_are_written();
     match decide_opening(tx, alloc, at, campaign) {
@@ -70,8 +68,7 @@ fn decide_opening<D: Alter>(
     at: CommandMoment,
     campaign: &Campaign,
 ) -> Result<Decision<Campaign>, Refusal>
-    ensures decided { (k : Rules) → DecidesOpen D.Store k at campaign.now tx.old.conn tx.new.conn result }
-    ensures step { WhereInside D.Store tx.old.conn (IsStep D.Store tx.old.conn tx.new.conn) }
+    ensures { (k : Rules) → DecidesOpen D.Store k at campaign.now tx.old.conn tx.new.conn result }
 {
     match read_opening(tx, alloc, campaign) {
         Ok(rows) => decide_open(
@@ -144,9 +141,8 @@ pub fn close<D: Alter>(
     at: CommandMoment,
     name: &Ident,
 ) -> Result<Carried, Refusal>
-    ensures carries { (k : Rules) → CarriesIn D.Store k (λ s. decide_close_in s at name.now)
+    ensures { (k : Rules) → CarriesIn D.Store k (λ s. decide_close_in s at name.now)
         tx.old.conn tx.new.conn catalog.old catalog.new result }
-    ensures step { WhereInside D.Store tx.old.conn (IsStep D.Store tx.old.conn tx.new.conn) }
 {
     campaigns_are_written();
     match decide_closing(tx, alloc, at, name) {
@@ -166,8 +162,7 @@ fn decide_closing<D: Alter>(
     at: CommandMoment,
     name: &Ident,
 ) -> Result<Decision<Campaign>, Refusal>
-    ensures decided { (k : Rules) → DecidesClose D.Store k at name.now tx.old.conn tx.new.conn result }
-    ensures step { WhereInside D.Store tx.old.conn (IsStep D.Store tx.old.conn tx.new.conn) }
+    ensures { (k : Rules) → DecidesClose D.Store k at name.now tx.old.conn tx.new.conn result }
 {
     let founded = match find_whether_founded(tx, alloc) {
         Ok(founded) => founded,

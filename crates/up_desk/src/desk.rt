@@ -1,5 +1,5 @@
 //! The two repositories under one scheme.
-ghost use Rattle.std.specs.Prelude.{◌≡◌, ◌+◌, ◌<◌, ◌≤◌, length, vec_capacity, vec_len, OnOk, OnErr, IsTrue, MatchBool, ⊤};
+ghost use Rattle.std.specs.Prelude.{◌≡◌, ◌+◌, ◌<◌, length, vec_capacity, vec_len, OnOk, OnErr, IsTrue};
 ghost use Rattle.std.specs.List.{AllByRecursion};
 ghost use Rattle.up_machine.specs.Commands.{opens_running};
 ghost use Rattle.up_machine.specs.Reads.{ecus_of as ecus_in, version_of as version_in, installed as installed_in};
@@ -7,7 +7,7 @@ ghost use Rattle.up_machine.specs.Reads.{assigned_to};
 ghost use Rattle.up_machine.specs.Rows.{vehicle_rows};
 ghost use Rattle.up_desk.specs.Calls.{IsCalled};
 ghost use Rattle.up_desk.specs.Desks.{Views};
-ghost use Rattle.up_desk.specs.Groups.{AreCalledOrUndone};
+ghost use Rattle.up_desk.specs.Groups.{CanAnswer};
 ghost use Rattle.up_desk.specs.Runs.{AreCalled};
 ghost use Rattle.up_records.specs.Standing.{bare, state};
 
@@ -128,7 +128,7 @@ impl<K: Scheme, D: Alter> Desk<K, D> {
             self.run_apart(alloc, commands, answers);
             return Ok(());
         }
-        let together = self.run_together(alloc, commands, answers);
+        let together = run_group(&mut self.records, alloc, &self.scheme, commands, answers);
         if together {
             return Ok(());
         }
@@ -136,27 +136,9 @@ impl<K: Scheme, D: Alter> Desk<K, D> {
         Ok(())
     }
 
-    /// Answers commands in one session with one commit, or all of it is undone.
-    fn run_together(
-        &mut self,
-        alloc: Global,
-        commands: &[(u64, Command)],
-        answers: &mut Vec<Answer>,
-    ) -> bool
-        requires running { AllByRecursion (λ c. IsTrue (opens_running c.1)) commands.now }
-        requires room { vec_len answers.old + length commands.now ≤ vec_capacity answers.old }
-        ensures ends { AreCalledOrUndone (K.rules self.old.scheme) commands.now answers.old.items answers.new.items
-            (state D.Store self.old.store) (state D.Store self.new.store) result }
-        ensures room { MatchBool result ⊤ (vec_len answers.new + length commands.now ≤ vec_capacity answers.new) }
-        ensures scheme { self.new.scheme ≡ self.old.scheme }
-    {
-        run_group(&mut self.records, alloc, &self.scheme, commands, answers)
-    }
-
     /// Answers commands each in its own session.
     fn run_apart(&mut self, alloc: Global, commands: &[(u64, Command)], answers: &mut Vec<Answer>)
-        requires running { AllByRecursion (λ c. IsTrue (opens_running c.1)) commands.now }
-        requires room { vec_len answers.old + length commands.now ≤ vec_capacity answers.old }
+        requires { CanAnswer commands.now answers.old }
         ensures ran { AreCalled (K.rules self.old.scheme) commands.now answers.old.items answers.new.items
             (state D.Store self.old.store) (state D.Store self.new.store) }
         ensures scheme { self.new.scheme ≡ self.old.scheme }

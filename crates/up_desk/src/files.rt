@@ -4,7 +4,6 @@ ghost use Rattle.up_machine.specs.Repositories.{decide_fetch as decide_fetch_in}
 ghost use Rattle.up_desk.specs.Carrying.{CarriesIn};
 ghost use Rattle.up_desk.specs.Deciding.{DecidesFile};
 ghost use Rattle.up_records.specs.declared.catalog.Catalog.{Catalog};
-ghost use Rattle.up_tables.specs.Statements.{IsStep, WhereInside};
 ghost use Rattle.std.specs.Prelude.{Option};
 
 use crate::carried::Carried;
@@ -29,9 +28,8 @@ pub fn fetch<D: Alter>(
     repository: Repository,
     name: &FileName,
 ) -> Result<Carried, Refusal>
-    ensures carries { (k : Rules) (kept : Option Catalog) → CarriesIn D.Store k
+    ensures { (k : Rules) (kept : Option Catalog) → CarriesIn D.Store k
         (λ s. decide_fetch_in k s at repository name.now) tx.old.conn tx.new.conn kept kept result }
-    ensures step { WhereInside D.Store tx.old.conn (IsStep D.Store tx.old.conn tx.new.conn) }
 {
     match read_file(tx, alloc, at, repository, name) {
         Ok(text) => Ok(Carried::Unchanged(Answer::File(text))),
@@ -48,8 +46,7 @@ fn read_file<D: Alter>(
     repository: Repository,
     name: &FileName,
 ) -> Result<Text, Refusal>
-    ensures decided { (k : Rules) → DecidesFile D.Store k at repository name.now tx.old.conn tx.new.conn result }
-    ensures step { WhereInside D.Store tx.old.conn (IsStep D.Store tx.old.conn tx.new.conn) }
+    ensures { (k : Rules) → DecidesFile D.Store k at repository name.now tx.old.conn tx.new.conn result }
 {
     rows_are_found();
     match find_file(tx, alloc, repository, name) {

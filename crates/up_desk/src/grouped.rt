@@ -1,13 +1,11 @@
 //! Commands that share a session, and its commit.
-ghost use Rattle.std.specs.Prelude.{◌≡◌, ◌+◌, ◌≤◌, ◌||◌, length, vec_capacity, vec_len, is_ok, Err, IfSome, IsTrue, MatchBool, ⊤};
-ghost use Rattle.std.specs.List.{AllByRecursion};
+ghost use Rattle.std.specs.Prelude.{◌≡◌, ◌||◌, is_ok, Err, IfSome};
 ghost use Rattle.sqlite.specs.Held.{state as held_state};
-ghost use Rattle.up_machine.specs.Commands.{opens_running};
 ghost use Rattle.up_tables.specs.Stands.{IfClean, IsInside};
 ghost use Rattle.up_records.specs.Catalogs.{CanDecide};
-ghost use Rattle.up_records.specs.Standing.{CanUse, over, state};
+ghost use Rattle.up_records.specs.Standing.{CanUse, state};
 ghost use Rattle.up_desk.specs.Carrying.{CarriesIn};
-ghost use Rattle.up_desk.specs.Groups.{AreCalledOrUndone, CarriesAll, EndsAll, as_one as one_of, told_by as told_of};
+ghost use Rattle.up_desk.specs.Groups.{AreCalledOrUndone, CanRun, CarriesAll, EndsAll, as_one as one_of, told_by as told_of};
 ghost use Rattle.up_desk.specs.Serving.{outcome_due, outright as outright_of};
 
 use crate::carried::{Carried, finish};
@@ -36,15 +34,17 @@ pub fn run_group<K: Scheme, D: Alter>(
     commands: &[(u64, Command)],
     answers: &mut Vec<Answer>,
 ) -> bool
-    requires usable { CanUse (K.rules scheme.now) (state D.Store records.old) }
-    requires running { AllByRecursion (λ c. IsTrue (opens_running c.1)) commands.now }
-    requires room { vec_len answers.old + length commands.now ≤ vec_capacity answers.old }
-    ensures ends { AreCalledOrUndone (K.rules scheme.now) commands.now answers.old.items answers.new.items
+    requires { CanRun (K.rules scheme.now) commands.now records.old.catalog answers.old }
+    ensures ends { AreCalledOrUndone (K.rules scheme.now) commands.now answers.old answers.new
         (state D.Store records.old) (state D.Store records.new) result }
     ensures usable { CanUse (K.rules scheme.now) (state D.Store records.new) }
-    ensures room { MatchBool result ⊤ (vec_len answers.new + length commands.now ≤ vec_capacity answers.new) }
 {
-    run_over(
+    states_stay_sound();
+    repeats_change_nothing();
+    kept_replies_stay();
+    vehicles_stand_apart();
+    let held = answers.as_slice().len();
+    let done = commit_all(
         &mut records.store,
         &mut records.catalog,
         &mut records.keys,
@@ -52,37 +52,11 @@ pub fn run_group<K: Scheme, D: Alter>(
         scheme,
         commands,
         answers,
-    )
-}
-
-/// So over a store and what is kept of it.
-fn run_over<K: Scheme, D: Alter>(
-    store: &mut Store<D>,
-    catalog: &mut Option<Catalog>,
-    keys: &mut KeyCache,
-    alloc: Global,
-    scheme: &K,
-    commands: &[(u64, Command)],
-    answers: &mut Vec<Answer>,
-) -> bool
-    requires usable { IfSome catalog.old (CanDecide (K.rules scheme.now)) }
-    requires running { AllByRecursion (λ c. IsTrue (opens_running c.1)) commands.now }
-    requires room { vec_len answers.old + length commands.now ≤ vec_capacity answers.old }
-    ensures ends { AreCalledOrUndone (K.rules scheme.now) commands.now answers.old.items answers.new.items
-        (over D.Store store.old catalog.old) (over D.Store store.new catalog.new) result }
-    ensures usable { IfSome catalog.new (CanDecide (K.rules scheme.now)) }
-    ensures room { MatchBool result ⊤ (vec_len answers.new + length commands.now ≤ vec_capacity answers.new) }
-{
-    states_stay_sound();
-    repeats_change_nothing();
-    kept_replies_stay();
-    vehicles_stand_apart();
-    let held = answers.as_slice().len();
-    let done = commit_all(store, catalog, keys, alloc, scheme, commands, answers);
+    );
     if done {
         return true;
     }
-    forget(catalog); // It may be of what was undone.
+    forget(&mut records.catalog); // It may be of what was undone.
     answers.truncate(held);
     false
 }
@@ -97,12 +71,9 @@ fn commit_all<K: Scheme, D: Alter>(
     commands: &[(u64, Command)],
     answers: &mut Vec<Answer>,
 ) -> bool
-    requires usable { IfSome catalog.old (CanDecide (K.rules scheme.now)) }
-    requires running { AllByRecursion (λ c. IsTrue (opens_running c.1)) commands.now }
-    requires room { vec_len answers.old + length commands.now ≤ vec_capacity answers.old }
-    ensures ends { EndsAll D.Store (K.rules scheme.now) commands.now answers.old.items answers.new.items store.old store.new
+    requires { CanRun (K.rules scheme.now) commands.now catalog.old answers.old }
+    ensures { EndsAll D.Store (K.rules scheme.now) commands.now answers.old answers.new store.old store.new
         catalog.old catalog.new result }
-    ensures room { vec_capacity answers.old ≤ vec_capacity answers.new }
 {
     let mut tx = store.conn.transaction();
     let put = carry_each(&mut tx, catalog, keys, alloc, scheme, commands, answers);
@@ -126,12 +97,9 @@ fn carry_each<K: Scheme, D: Alter>(
     answers: &mut Vec<Answer>,
 ) -> Option<bool>
     requires inside { IfClean IsInside (held_state D.Store tx.old.conn.now) }
-    requires usable { IfSome catalog.old (CanDecide (K.rules scheme.now)) }
-    requires running { AllByRecursion (λ c. IsTrue (opens_running c.1)) commands.now }
-    requires room { vec_len answers.old + length commands.now ≤ vec_capacity answers.old }
-    ensures carries { CarriesAll D.Store (K.rules scheme.now) commands.now answers.old.items answers.new.items
+    requires run { CanRun (K.rules scheme.now) commands.now catalog.old answers.old }
+    ensures { CarriesAll D.Store (K.rules scheme.now) commands.now answers.old answers.new
         tx.old.conn tx.new.conn catalog.old catalog.new result }
-    ensures room { vec_capacity answers.old ≤ vec_capacity answers.new }
 {
     repeats_change_nothing();
     let mut put = false;

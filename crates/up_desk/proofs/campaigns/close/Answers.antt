@@ -7,26 +7,23 @@ use Rattle.up_store.specs.Fitting.{IsClosing}
 use Rattle.up_store.specs.Writes.{close_writes}
 use Rattle.up_store.proofs.Ended.{of_put}
 use Rattle.up_records.proofs.Fitting.{closing_fits}
-use Rattle.up_desk.proofs.Carrying.{put_on, refused_on, some_rules, unchanged_on}
+use Rattle.up_desk.proofs.Carrying.{put_on, refused_on, unchanged_on}
 use Rattle.up_desk.proofs.Decided.{when_closed, when_closing}
 use Rattle.up_desk.proofs.campaigns.close.Goals as goal
 
-pub returns-in-Ok-Already-clause-carries : goal.returns-in-Ok-Already-clause-carries
-returns-in-Ok-Already-clause-carries g c k inside =
-    unchanged_on g.D.Store k c.args.catalog.now Already (c.in-Ok-Already.ensures.decided k inside) refl (λ s commit. commit)
+pub returns-in-Ok-Already : goal.returns-in-Ok-Already
+returns-in-Ok-Already g c k inside =
+    unchanged_on g.D.Store k c.args.catalog.now Already (c.in-Ok-Already.ensures k inside) refl (λ s commit. commit)
     (λ s gives. when_closed s c.args.name.now c.in-Ok-Already.field-0 _ c.in-Ok-Already.field-0-is gives)
 
-pub returns-in-Ok-New-clause-carries : goal.returns-in-Ok-New-clause-carries
-returns-in-Ok-New-clause-carries g c k inside =
+pub returns-in-Ok-New : goal.returns-in-Ok-New
+returns-in-Ok-New g c k inside =
     let row = c.in-Ok-New.row in
-    put_on g.D.Store k c.args.catalog.now (close_writes row) (λ _. ⊤) (IsClosing row) (λ rows. with_campaign_row rows row) Done (c.in-Ok-New.ensures.decided k inside) refl c.forget.ensures
+    put_on g.D.Store k c.args.catalog.now (close_writes row) (λ _. ⊤) (IsClosing row) (λ rows. with_campaign_row rows row) Done (c.in-Ok-New.ensures k inside) refl c.forget.ensures
     (λ s sound gives.
     let it = when_closing s c.args.name.now c.in-Ok-New.field-0 row (decide_close s c.args.at c.args.name.now) c.in-Ok-New.field-0-is gives in
     record { next = with_campaign s row; computed_is = it.decided; commit = tt; write = closing_fits k s c.args.name.now row it.was sound c.campaigns_are_written.ensures.campaigns it.there it.is })
     c.put_closed.result c.put_of.ensures inside (λ within. of_put g.D.Store (c.put_closed.ensures within)) (λ rows lists fits. tt)
 
-pub returns-in-Ok-New-clause-step : goal.returns-in-Ok-New-clause-step
-returns-in-Ok-New-clause-step g c inside = (returns-in-Ok-New-clause-carries g c some_rules inside).step
-
-pub returns-in-Err-clause-carries : goal.returns-in-Err-clause-carries
-returns-in-Err-clause-carries g c k inside = refused_on g.D.Store k c.args.catalog.now (c.in-Err.ensures.decided k inside)
+pub returns-in-Err : goal.returns-in-Err
+returns-in-Err g c k inside = refused_on g.D.Store k c.args.catalog.now (c.in-Err.ensures k inside)

@@ -7,8 +7,8 @@ use Rattle.up_records.proofs.Sessions.{decides_on, fails_on, none_on, then_on}
 use Rattle.up_desk.proofs.LookedUp.{images_known}
 use Rattle.up_desk.proofs.campaigns.decide_opening.Goals as goal
 
-pub returns-in-Ok-clause-decided : goal.returns-in-Ok-clause-decided
-returns-in-Ok-clause-decided g c k inside =
+pub returns-in-Ok : goal.returns-in-Ok
+returns-in-Ok g c k inside =
     decides_on g.D.Store (then_on g.D.Store (none_on g.D.Store inside) c.in-Ok.ensures) k tt c.decide_open.result (λ s. never_open s c.args.at c.args.campaign.now) (λ s r h. h) (λ s sound _ found.
     let rows = found.1 in
     subst (λ (at : ℕ). GivesDecision (λ (r : CampaignData). r ≡ c.args.campaign.now) s (with_campaign s c.args.campaign.now) c.decide_open.result (decide_open s at c.args.campaign.now)) c.moment.ensures.value
@@ -17,11 +17,5 @@ returns-in-Ok-clause-decided g c k inside =
       of_images = images_known s.images _ c.args.campaign.now.items rows.images;
     })))
 
-pub returns-in-Err-clause-decided : goal.returns-in-Err-clause-decided
-returns-in-Err-clause-decided g c k inside = fails_on g.D.Store (none_on g.D.Store inside) k tt c.refusal_of.ensures c.in-Err.ensures
-
-pub returns-in-Ok-clause-step : goal.returns-in-Ok-clause-step
-returns-in-Ok-clause-step g c inside = (c.in-Ok.ensures inside).step
-
-pub returns-in-Err-clause-step : goal.returns-in-Err-clause-step
-returns-in-Err-clause-step g c inside = (c.in-Err.ensures inside).step
+pub returns-in-Err : goal.returns-in-Err
+returns-in-Err g c k inside = fails_on g.D.Store (none_on g.D.Store inside) k tt c.refusal_of.ensures c.in-Err.ensures

@@ -21,13 +21,13 @@ pub returns-in-ReplaceEcu : goal.returns-in-ReplaceEcu
 returns-in-ReplaceEcu g c = of_carried g.D.Store c.args.at c.args.command.now (ReplaceEcu c.in-ReplaceEcu.new) c.in-ReplaceEcu.is c.replace_ecu.ensures
 
 pub returns-in-OpenCampaign : goal.returns-in-OpenCampaign
-returns-in-OpenCampaign g c = of_carried g.D.Store c.args.at c.args.command.now (OpenCampaign c.in-OpenCampaign.campaign) c.in-OpenCampaign.is (c.open.ensures.carries (g.K.Scheme.rules c.args.scheme.now))
+returns-in-OpenCampaign g c = of_carried g.D.Store c.args.at c.args.command.now (OpenCampaign c.in-OpenCampaign.campaign) c.in-OpenCampaign.is (c.open.ensures (g.K.Scheme.rules c.args.scheme.now))
 
 pub returns-in-CloseCampaign : goal.returns-in-CloseCampaign
-returns-in-CloseCampaign g c = of_carried g.D.Store c.args.at c.args.command.now (CloseCampaign c.in-CloseCampaign.name) c.in-CloseCampaign.is (c.close.ensures.carries (g.K.Scheme.rules c.args.scheme.now))
+returns-in-CloseCampaign g c = of_carried g.D.Store c.args.at c.args.command.now (CloseCampaign c.in-CloseCampaign.name) c.in-CloseCampaign.is (c.close.ensures (g.K.Scheme.rules c.args.scheme.now))
 
 pub returns-in-Fetch : goal.returns-in-Fetch
-returns-in-Fetch g c = of_carried g.D.Store c.args.at c.args.command.now (Fetch c.in-Fetch.repository c.in-Fetch.name) c.in-Fetch.is (c.fetch.ensures.carries (g.K.Scheme.rules c.args.scheme.now) c.args.catalog.now)
+returns-in-Fetch g c = of_carried g.D.Store c.args.at c.args.command.now (Fetch c.in-Fetch.repository c.in-Fetch.name) c.in-Fetch.is (c.fetch.ensures (g.K.Scheme.rules c.args.scheme.now) c.args.catalog.now)
 
 pub returns-in-Deliver : goal.returns-in-Deliver
 returns-in-Deliver g c = of_carried g.D.Store c.args.at c.args.command.now (Deliver c.in-Deliver.body) c.in-Deliver.is c.deliver.ensures

@@ -11,13 +11,13 @@ pub carry_each-put-requires-clause-inside : goal.carry_each-put-requires-clause-
 carry_each-put-requires-clause-inside g c =
     within g.D.Store c.args.store.now (subst (λ (h : Held _). c.transaction-tx.result.conn.now ≡ record h { in_transaction = true }) c.store.view_is c.transaction-tx.ensures.begun)
 
-pub returns-clause-ends : goal.returns-clause-ends
-returns-clause-ends g c = record {
+pub returns : goal.returns
+returns g c = record {
   tx = c.transaction-tx.result.conn;
   mid = c.carry_each-put.new.tx.conn;
   put = c.carry_each-put.result;
   begun = subst (λ (h : Held _). c.transaction-tx.result.conn.now ≡ record h { in_transaction = true }) c.store.view_is c.transaction-tx.ensures.begun;
-  all = c.carry_each-put.ensures.carries;
+  all = c.carry_each-put.ensures;
   told = c.finish.result;
   ends = subst (λ (r : Result Carried Refusal). EndsCarried r (state g.D.Store c.carry_each-put.new.tx.conn.now) (state g.D.Store c.finish.new.tx.0) c.finish.result) c.as_one.ensures c.finish.ensures.ends;
   done_is = c.is_done.ensures;
