@@ -265,6 +265,16 @@ def of_verdicts() -> Rounds:
         again(),
         well()]
     old, found = comes("expired"), comes("nothing")
+    yield "an old reply behind a refused one: the attack is told still", {}, [
+        refused(),
+        gone([old, found], [new(True), new(True)], "accepted", DAILY),
+        well()]
+    mended = refusal(403, 12, "BadManifestSignature")
+    yield "a round without a verdict behind a refused reply: the attack is told still", {}, [
+        refused(),
+        gone([mended], [new(True)], None, behind(2)),
+        well(attack=True),
+        well()]
     yield "a stop behind a refused reply: the attack is told still", {}, [
         refused(),
         gone([STOP], [new(True)], "stopped", None),
