@@ -329,6 +329,12 @@ def of_files() -> Rounds:
         gone([got], [new()], None, SOON, gets={ROOT: [refusal(400, 29, "UnknownFile")]}, fetched={
             ROOT: 1}),
         again()]
+    much = {"bytes": LARGEST + 1}
+    for name, one in (("a file of more bytes than are read: an attack", comes("root 2")),
+                      ("29 with more bytes than are read: an attack too", NO_FILE)):
+        yield name, {}, [
+            refused("nothing", gets={ROOT: [one | much]}, fetched={ROOT: 1}, trusts=state(0, 0)),
+            well(attack=True)]
     twice = {ROOT: 1} | dict.fromkeys(OF_IMAGES, 2)
     yield "the Image repository changes between two requests", {}, [
         updated(gets={TARGETS: [comes("other targets"), comes("targets")]}, fetched=twice)]
@@ -340,6 +346,8 @@ def of_files() -> Rounds:
         well(attack=True)]
     yield "its Timestamp is missing: the others are fetched all the same", {}, [
         refused("update", gets={"image/timestamp.json": [NO_FILE]}, fetched=twice)]
+    yield "its Timestamp has more bytes than are read: the others are fetched all the same", {}, [
+        refused("update", gets={"image/timestamp.json": [body(200, "", **much)]}, fetched=twice)]
     yield "its new Root is wrong: none of its files is fetched", {}, [
         refused("update", gets={"image/2.root.json": [comes("root 2")]}, fetched={
             ROOT: 1, "image/2.root.json": 2})]
