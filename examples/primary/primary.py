@@ -281,9 +281,10 @@ def answered(told: Told, url: str, save: Callable[[], None]) -> dict[str, Told]:
 def skip(told: Told, name: str, now: int) -> None:
     """The ECU has lost its counter, and the refusal doesn't say what the last one was. Counters may
     skip: so the next one is the time in seconds, or twice what was refused, which comes above any
-    other in a few tries. One that can't be signed isn't kept."""
+    other in a few tries. One that can't be signed isn't kept, nor the report that was refused."""
     for ecu in told["ecus"]:
         if ecu["ecu"] == name:
+            ecu["last"] = {}
             ecu["counter"] = raised(max(2 * ecu["counter"], now, 1)) - 1
 
 

@@ -471,8 +471,14 @@ async function answered(vehicle, url, save) {
     }
     vehicle.pending = null;
     if (what === 'counter') vehicle.counter = Math.max(vehicle.counter, raised(value + 1) - 1);
-    // (no one says what an ECU's last counter was: the next is the time, or twice what was refused, which comes above any other in a few tries)
-    else if (what === 'report') vehicle.ecus.filter((it) => it.ecu === value).forEach((it) => { it.counter = raised(Math.max(2 * it.counter, now, 1)) - 1; });
+    // (no one says what an ECU's last counter was: the next is the time, or twice what was refused, which comes above any other in a few tries;
+    // what was refused is never sent again)
+    else if (what === 'report') {
+      for (const it of vehicle.ecus.filter((one) => one.ecu === value)) {
+        it.last = {};
+        it.counter = raised(Math.max(2 * it.counter, now, 1)) - 1;
+      }
+    }
     else if (what === 'mend') throw new Failed(`${status} ${text}`);
   }
   throw new Failed('the service goes on refusing the counters');

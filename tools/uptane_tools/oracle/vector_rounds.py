@@ -202,6 +202,9 @@ def of_counters() -> Rounds:
     yield "twice the counter would be too much", {"counters": {"left": MOST // 2 + 1}}, [
         gone([replayed("left")], [new()], None, SOON),
         gone([found], [new(fresh="left")], "accepted", DAILY)]
+    yield "a report with the last counter is refused 18: it is never sent again", last, [
+        gone([replayed("left")], [new()], None, SOON),
+        gone([], [], None, behind(2))]
     raised = [new(raised="left"), new(raised="right")]
     answers = [replayed("left"), replayed("right"), stale(70)]
     sent = [*raised, new(above=70)]
