@@ -219,6 +219,10 @@ def of_counters() -> Rounds:
         gone(2 * answers + [stale(99), replayed("gw")],
              [new(), *sent, *sent, new(above=99)], None, SOON),
         gone([found], [new(raised="gw")], "accepted", DAILY)]
+    yield "the eighth manifest's reply is old: none follows in the round", {}, [
+        gone(2 * answers + [stale(99), comes("expired"), found],
+             [new(), *sent, *sent, new(above=99)], None, SOON),
+        well()]
     yield "a kept body is the first of eight that are refused", {}, [
         without(1),
         gone(2 * answers + [stale(99), stale(999)],
