@@ -754,7 +754,7 @@ function sentAs(body, due, last, { has, own, now, latest }) {
     return isCounter && isRaised && (attack !== '') === (name === own && due.attack) && canonical(image) === canonical(has[name]);
   };
   const isAll = signed.reports.length === Object.keys(has).length && Object.entries(reports).every(isReport);
-  const is = isAll && signed.counter > Math.max(last.counter, due.above ?? 0) && signed.counter < MOST;
+  const is = isAll && signed.counter > Math.max(last.counter, due.above ?? 0) && signed.counter < (due.below ?? MOST);
   const counters = Object.fromEntries(Object.entries(reports).map(([name, it]) => [name, it.signed.counter]));
   return [is ? due : body, { body, counter: signed.counter, counters, reports }];
 }

@@ -178,7 +178,7 @@ def of_counters() -> Rounds:
     for name, number in (("the one before the greatest", MOST - 1), ("the greatest counter", MOST)):
         yield "13 names %s: no counter is left" % name, {}, [
             gone([stale(number)], [new()], None, SOON),
-            well()]
+            gone([found], [new(below=MOST // 2)], "accepted", DAILY, trusts=state(1, 0))]
     yield "a manifest's counter is the one before the greatest", {"counter": MOST - 1}, [
         gone([], [], None, SOON)]
     yield "a report's counter is the one before the greatest", {"counters": {"left": MOST - 1}}, [
