@@ -246,6 +246,10 @@ def of_mending() -> Rounds:
         without(1),
         gone([refusal(409, 18, "ReportReplayed left"),
               comes("nothing")], [SAME, new()], "accepted", DAILY, **put)]
+    yield "18 names an ECU that hasn't reported yet, and no time is known: 1", {}, [
+        without(1, now=0),
+        gone([refusal(409, 18, "ReportReplayed left-2"), comes("nothing")],
+             [SAME, new(counters={"left-2": 1})], "accepted", DAILY, now=0, **put)]
     yield "18 names an ECU that never was the vehicle's", {}, [
         gone([refusal(409, 18, "ReportReplayed other"),
               comes("nothing")], [new(), new()], "accepted", DAILY)]
