@@ -181,10 +181,14 @@ def send(url: str, body: str) -> tuple[int, str]:
 
 
 def fetcher(url: str) -> verify.Fetch:
-    """Fetches a file of a repository; none where there is none of that name."""
+    """Fetches a file of a repository; none where there is none of that name. One that is too large
+    has another form, which is looked at in its turn."""
 
     def fetch(name: str) -> File | None:
-        status, text = asked("%s/%s" % (url, name))
+        try:
+            status, text = asked("%s/%s" % (url, name))
+        except verify.Refused:
+            return File("{}")
         what = of_get(status, text)
         if what == "end":
             raise Failed("%s: %d %s" % (name, status, text[:200]))
@@ -277,9 +281,10 @@ def answered(told: Told, url: str, save: Callable[[], None]) -> dict[str, Told]:
 def skip(told: Told, name: str, now: int) -> None:
     """The ECU has lost its counter, and the refusal doesn't say what the last one was. Counters may
     skip: so the next one is the time in seconds, or twice what was refused, which comes above any
-    other in a few tries. One that can't be signed isn't kept."""
+    other in a few tries. One that can't be signed isn't kept, nor the report that was refused."""
     for ecu in told["ecus"]:
         if ecu["ecu"] == name:
+            ecu["last"] = {}
             ecu["counter"] = raised(max(2 * ecu["counter"], now, 1)) - 1
 
 
@@ -408,7 +413,7 @@ def trust(url: str, path: Path) -> None:
     told, fetch = json.loads(path.read_text(encoding="ascii")), fetcher(url)
     for repository in ("director", "image"):
         root = fetch(repository + "/1.root.json")
-        verify.expect(root is not None, "%s has no 1.root.json", repository)
+        verify.expect(bool(root), "%s has no 1.root.json", repository)
         told[repository] = {"root": root, "versions": {}}
     write(path, told)
 

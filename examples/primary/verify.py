@@ -48,9 +48,10 @@ def check_signed(envelope: Told, root: Told, role: str, secrets: Keys, what: str
 def check_next(trusted: Told, envelope: File, secrets: Keys, repository: str) -> None:
     """That a Root may come behind the trusted one: of the next version, and signed by enough of
     the old root keys and of its own."""
-    before, root = trusted["signed"], envelope["signed"]
+    before = trusted["signed"]
     what = "%s root %d" % (repository, before["version"] + 1)
     expect(forms.fits(envelope, "root"), "%s is no Root", what)
+    root = envelope["signed"]
     expect(root["repository"] == repository, "%s is of the other repository", what)
     expect(root["version"] == before["version"] + 1, "%s has the version %d", what, root["version"])
     shown = [has_form(key, name, secrets) for name, key in root["keys"].items()]

@@ -436,8 +436,14 @@ async function asked(url, body) {
   throw new Failed(`no answer from ${url}`);
 }
 
+// A file that is too large has another form, which is looked at in its turn.
 const fetcher = (url) => async (name) => {
-  const { status, text } = await asked(`${url}/${name}`), what = ofGet(status, text);
+  let came;
+  try { came = await asked(`${url}/${name}`); } catch (wrong) {
+    if (wrong instanceof Refused) return fileOf('{}');
+    throw wrong;
+  }
+  const { status, text } = came, what = ofGet(status, text);
   if (what === 'end') throw new Failed(`${name}: ${status} ${text.slice(0, 200)}`);
   return what === 'read' ? fileOf(text) : null;
 };
@@ -465,8 +471,14 @@ async function answered(vehicle, url, save) {
     }
     vehicle.pending = null;
     if (what === 'counter') vehicle.counter = Math.max(vehicle.counter, raised(value + 1) - 1);
-    // (no one says what an ECU's last counter was: the next is the time, or twice what was refused, which comes above any other in a few tries)
-    else if (what === 'report') vehicle.ecus.filter((it) => it.ecu === value).forEach((it) => { it.counter = raised(Math.max(2 * it.counter, now, 1)) - 1; });
+    // (no one says what an ECU's last counter was: the next is the time, or twice what was refused, which comes above any other in a few tries;
+    // what was refused is never sent again)
+    else if (what === 'report') {
+      for (const it of vehicle.ecus.filter((one) => one.ecu === value)) {
+        it.last = {};
+        it.counter = raised(Math.max(2 * it.counter, now, 1)) - 1;
+      }
+    }
     else if (what === 'mend') throw new Failed(`${status} ${text}`);
   }
   throw new Failed('the service goes on refusing the counters');
@@ -563,7 +575,7 @@ async function trust(url, path) {
   const vehicle = read(readFileSync(path, 'ascii')), fetched = fetcher(url);
   for (const repository of ['director', 'image']) {
     const root = await fetched(`${repository}/1.root.json`);
-    expect(root, `${repository} has no 1.root.json`);
+    expect(root?.signed, `${repository} has no 1.root.json`);
     vehicle[repository] = { root, versions: {} };
   }
   write(path, vehicle);
@@ -742,7 +754,7 @@ function sentAs(body, due, last, { has, own, now, latest }) {
     return isCounter && isRaised && (attack !== '') === (name === own && due.attack) && canonical(image) === canonical(has[name]);
   };
   const isAll = signed.reports.length === Object.keys(has).length && Object.entries(reports).every(isReport);
-  const is = isAll && signed.counter > Math.max(last.counter, due.above ?? 0) && signed.counter < MOST;
+  const is = isAll && signed.counter > Math.max(last.counter, due.above ?? 0) && signed.counter < (due.below ?? MOST);
   const counters = Object.fromEntries(Object.entries(reports).map(([name, it]) => [name, it.signed.counter]));
   return [is ? due : body, { body, counter: signed.counter, counters, reports }];
 }

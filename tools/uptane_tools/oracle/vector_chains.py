@@ -408,6 +408,8 @@ def of_root_keys(it: Chain) -> Cases:
     def listed(**more: int) -> Callable[..., Any]:
         return lambda signed: signed["roles"]["targets"].update(more)
 
+    yield "arbitrary software", "a Root that is an empty object", no, {
+        "director/2.root.json": "{}"} | told, {}
     yield "arbitrary software", "a Root with a key of no role", no, it.root(of_no_role,
                                                                             roots) | told, {}
     yield "arbitrary software", "a Root that lists a key which it hasn't", no, it.root(

@@ -178,7 +178,7 @@ def of_counters() -> Rounds:
     for name, number in (("the one before the greatest", MOST - 1), ("the greatest counter", MOST)):
         yield "13 names %s: no counter is left" % name, {}, [
             gone([stale(number)], [new()], None, SOON),
-            well()]
+            gone([found], [new(below=MOST // 2)], "accepted", DAILY, trusts=state(1, 0))]
     yield "a manifest's counter is the one before the greatest", {"counter": MOST - 1}, [
         gone([], [], None, SOON)]
     yield "a report's counter is the one before the greatest", {"counters": {"left": MOST - 1}}, [
@@ -202,6 +202,9 @@ def of_counters() -> Rounds:
     yield "twice the counter would be too much", {"counters": {"left": MOST // 2 + 1}}, [
         gone([replayed("left")], [new()], None, SOON),
         gone([found], [new(fresh="left")], "accepted", DAILY)]
+    yield "a report with the last counter is refused 18: it is never sent again", last, [
+        gone([replayed("left")], [new()], None, SOON),
+        gone([], [], None, behind(2))]
     raised = [new(raised="left"), new(raised="right")]
     answers = [replayed("left"), replayed("right"), stale(70)]
     sent = [*raised, new(above=70)]
@@ -216,6 +219,10 @@ def of_counters() -> Rounds:
         gone(2 * answers + [stale(99), replayed("gw")],
              [new(), *sent, *sent, new(above=99)], None, SOON),
         gone([found], [new(raised="gw")], "accepted", DAILY)]
+    yield "the eighth manifest's reply is old: none follows in the round", {}, [
+        gone(2 * answers + [stale(99), comes("expired"), found],
+             [new(), *sent, *sent, new(above=99)], None, SOON),
+        well()]
     yield "a kept body is the first of eight that are refused", {}, [
         without(1),
         gone(2 * answers + [stale(99), stale(999)],
@@ -239,6 +246,10 @@ def of_mending() -> Rounds:
         without(1),
         gone([refusal(409, 18, "ReportReplayed left"),
               comes("nothing")], [SAME, new()], "accepted", DAILY, **put)]
+    yield "18 names an ECU that hasn't reported yet, and no time is known: 1", {}, [
+        without(1, now=0),
+        gone([refusal(409, 18, "ReportReplayed left-2"), comes("nothing")],
+             [SAME, new(counters={"left-2": 1})], "accepted", DAILY, now=0, **put)]
     yield "18 names an ECU that never was the vehicle's", {}, [
         gone([refusal(409, 18, "ReportReplayed other"),
               comes("nothing")], [new(), new()], "accepted", DAILY)]
@@ -265,6 +276,16 @@ def of_verdicts() -> Rounds:
         again(),
         well()]
     old, found = comes("expired"), comes("nothing")
+    yield "an old reply behind a refused one: the attack is told still", {}, [
+        refused(),
+        gone([old, found], [new(True), new(True)], "accepted", DAILY),
+        well()]
+    mended = refusal(403, 12, "BadManifestSignature")
+    yield "a round without a verdict behind a refused reply: the attack is told still", {}, [
+        refused(),
+        gone([mended], [new(True)], None, behind(2)),
+        well(attack=True),
+        well()]
     yield "a stop behind a refused reply: the attack is told still", {}, [
         refused(),
         gone([STOP], [new(True)], "stopped", None),
@@ -319,6 +340,12 @@ def of_files() -> Rounds:
         gone([got], [new()], None, SOON, gets={ROOT: [refusal(400, 29, "UnknownFile")]}, fetched={
             ROOT: 1}),
         again()]
+    much = {"bytes": LARGEST + 1}
+    for name, one in (("a file of more bytes than are read: an attack", comes("root 2")),
+                      ("29 with more bytes than are read: an attack too", NO_FILE)):
+        yield name, {}, [
+            refused("nothing", gets={ROOT: [one | much]}, fetched={ROOT: 1}, trusts=state(0, 0)),
+            well(attack=True)]
     twice = {ROOT: 1} | dict.fromkeys(OF_IMAGES, 2)
     yield "the Image repository changes between two requests", {}, [
         updated(gets={TARGETS: [comes("other targets"), comes("targets")]}, fetched=twice)]
@@ -330,6 +357,8 @@ def of_files() -> Rounds:
         well(attack=True)]
     yield "its Timestamp is missing: the others are fetched all the same", {}, [
         refused("update", gets={"image/timestamp.json": [NO_FILE]}, fetched=twice)]
+    yield "its Timestamp has more bytes than are read: the others are fetched all the same", {}, [
+        refused("update", gets={"image/timestamp.json": [body(200, "", **much)]}, fetched=twice)]
     yield "its new Root is wrong: none of its files is fetched", {}, [
         refused("update", gets={"image/2.root.json": [comes("root 2")]}, fetched={
             ROOT: 1, "image/2.root.json": 2})]

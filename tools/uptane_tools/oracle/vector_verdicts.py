@@ -127,6 +127,9 @@ def of_trusted_roots(it: Chain) -> Cases:
     shown = of_key(spare, lambda name, it: (name, it | {"method": OTHER_METHOD}))
     name = "the trusted Root has a key of another method, and enough others sign"
     yield "none", name, YES, it.root(shown, roots, number=1), {}
+    change = of_key(FIRST["director"]["timestamp"]["keys"][0], lambda _, it: (64 * "0", it))
+    name = "the trusted Root has the Timestamp's key under another name: it counts for no signature"
+    yield "too few signatures", name, NO, it.root(change, roots, number=1), {}
     own = it.root(members(version=64), roots, number=1)
     made = json.loads(own["director/1.root.json"])
     newer = {"director/65.root.json": canonical(resigned(made, members(version=65), roots))}

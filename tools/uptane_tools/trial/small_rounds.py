@@ -179,7 +179,8 @@ class Rounds:
         """Whether a body is a new manifest, with right counters, images and attacks."""
         signed, own = json.loads(text)["signed"], self.known["primary"]
         reports = {it["signed"]["ecu"]: it for it in signed["reports"]}
-        if not max(self.last[0], due.get("above", 0)) < signed["counter"] < MOST:
+        least, most = max(self.last[0], due.get("above", 0)), due.get("below", MOST)
+        if not least < signed["counter"] < most:
             return False
         well = reports.keys() == installed.keys() and len(signed["reports"]) == len(reports)
         for name, envelope in reports.items():
