@@ -1,8 +1,12 @@
 //! The laws of what ships. Each function is empty but for laws that it calls: its contract is a theorem.
+ghost use Rattle.up_shipped.specs.Connections.{ConnectionsAreRuns};
 ghost use Rattle.up_shipped.specs.Shipped.{ScriptsAreRuns, StreamsAreRuns};
 
 use sqlite::Alter;
-use up_machine::laws::{kept_replies_stay, repeats_change_nothing, vehicles_stand_apart};
+use up_http::laws::conversations_keep_order;
+use up_machine::laws::{
+    kept_replies_stay, refusals_change_nothing, repeats_change_nothing, vehicles_stand_apart,
+};
 use up_sign::scheme::Scheme;
 
 /// Every script is a run of the plain machine, from the bytes that come to those that are written. The commands that its lines ask, in
@@ -25,4 +29,19 @@ pub fn streams_are_runs<K: Scheme, D: Alter>()
     repeats_change_nothing();
     kept_replies_stay();
     vehicles_stand_apart();
+}
+
+/// Many connections over one desk are one run of the plain machine, however what happens on them is interleaved: the commands that
+/// their requests ask, in the order of their answers, each at its connection's moment, with these answers. Each connection has its
+/// own requests, in their order, and the answers to them, byte for byte; the tables show the state behind them, and what was answered
+/// outlasts a crash. It is said of what a desk may answer by `serve_stream`'s contract. A connection on which nothing more happens
+/// is one that was closed: its last answer may be one that couldn't be told for want of memory.
+pub fn connections_are_runs<K: Scheme, D: Alter>()
+    ensures { ConnectionsAreRuns (K.rules) D.Store }
+{
+    repeats_change_nothing();
+    kept_replies_stay();
+    vehicles_stand_apart();
+    refusals_change_nothing();
+    conversations_keep_order();
 }
