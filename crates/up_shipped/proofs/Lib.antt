@@ -3,3 +3,4 @@ pub mod Items
 pub mod Shipped
 pub mod FromNothing
 pub mod Connections
+pub mod Responses

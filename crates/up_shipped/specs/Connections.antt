@@ -29,8 +29,8 @@ connections_ask at = record {
   tell = λ asked. (requests_ask (at asked.number)).tell asked.request;
 }
 
--- Connections over a desk, from a state that the tables showed: each has its own requests and the answers to them, in their order; and all that
--- they ask, in the order of the answers, with these answers, is one run of the plain machine, and was shipped.
+-- Connections over a desk, from a state that the tables showed. Each has its own requests and the answers to them, in their order. All that they
+-- ask, in the order of the answers, is one run of the plain machine; the tables show the state behind it, and what was answered outlasts a crash.
 pub record AreOneRun {K D : Type 0} (rules : K → Rules) (g : Ghosts D) (at : ℕ → ℕ) (s : State) (xs : List On) (first now : DeskView K D) (new : Lines) : Type 0 where
   pub apart : AreApart (λ n. Responses rules g (at n)) first xs now new
   pub shipped : IsShipped (connection_service (rules first.scheme) at) (connections_ask at) s (map (λ a. a.asked) apart.answered) (map (λ a. a.text) apart.answered) None
