@@ -152,7 +152,7 @@ framed_fits at before head after rest next (Ok stated) h = by_size (nat_le (size
     by_size true h = λ c is. requested at (request_route head stated) (take (size_of stated) after) c (ap (λ (n : Next). requested_at at n.what) (sym h.0) ∙ is)
     by_size false h = fixed_fits at next BadRequest (ap (λ (n : Next). n.what) h)
 
-first_fits : (at before : ℕ) (bytes rest : List ℕ) (next : Next) → First before bytes next rest → Fits (requests_ask at) next
+pub first_fits : (at before : ℕ) (bytes rest : List ℕ) (next : Next) → First before bytes next rest → Fits (requests_ask at) next
 first_fits at before bytes rest next (inl bad) = fixed_fits at next BadRequest (ap (λ (n : Next). n.what) bad.1)
 first_fits at before bytes rest next (inr it) = framed_fits at before it.0 it.1 rest next (framing it.0) it.3
 

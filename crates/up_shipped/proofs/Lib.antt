@@ -2,3 +2,5 @@ pub mod Fitting
 pub mod Items
 pub mod Shipped
 pub mod FromNothing
+pub mod Connections
+pub mod Responses

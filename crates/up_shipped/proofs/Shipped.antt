@@ -115,7 +115,7 @@ scripts {K} {D} laws rules g had has first now result runs clean s sound was = r
 
 -- ---- streams
 
-requests_agree : (k : Rules) (at : ℕ) → Agrees (request_service k at) (requests_ask at)
+pub requests_agree : (k : Rules) (at : ℕ) → Agrees (request_service k at) (requests_ask at)
 unfolding answer_response
 requests_agree k at = record {
   tells = λ next r. refl;

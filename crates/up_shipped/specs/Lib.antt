@@ -1,3 +1,4 @@
 pub mod Items
 pub mod Shipped
 pub mod FromNothing
+pub mod Connections

@@ -1,8 +1,15 @@
 //! The laws of what ships. Each function is empty but for laws that it calls: its contract is a theorem.
+ghost use Rattle.up_connections.specs.Interleaved.{Numbered};
+ghost use Rattle.up_service.specs.Runs.{ReopenedLast};
+ghost use Rattle.up_shipped.specs.Connections.{ConnectionsAreRuns};
 ghost use Rattle.up_shipped.specs.Shipped.{ScriptsAreRuns, StreamsAreRuns};
 
 use sqlite::Alter;
-use up_machine::laws::{kept_replies_stay, repeats_change_nothing, vehicles_stand_apart};
+use sqlite_disk::Disk;
+use up_http::laws::conversations_keep_order;
+use up_machine::laws::{
+    kept_replies_stay, refusals_change_nothing, repeats_change_nothing, vehicles_stand_apart,
+};
 use up_sign::scheme::Scheme;
 
 /// Every script is a run of the plain machine, from the bytes that come to those that are written. The commands that its lines ask, in
@@ -26,3 +33,25 @@ pub fn streams_are_runs<K: Scheme, D: Alter>()
     kept_replies_stay();
     vehicles_stand_apart();
 }
+
+/// Many connections over one desk are one run of the plain machine, however what happens on them is interleaved: the commands that
+/// their requests ask, in the order of their answers, each at its connection's moment, with these answers. Each connection has its
+/// own requests, in their order, and the answers to them, byte for byte. The tables show the state behind them, and what was answered
+/// outlasts a crash. What happens on a connection is what the contracts of its calls say, and that of `answer_at_desk`. One on which
+/// nothing more happens may be one that was closed behind an answer that couldn't be told.
+pub fn connections_are_runs<K: Scheme, D: Alter>()
+    ensures { ConnectionsAreRuns (K.rules) D.Store }
+{
+    repeats_change_nothing();
+    kept_replies_stay();
+    vehicles_stand_apart();
+    refusals_change_nothing();
+    conversations_keep_order();
+}
+
+/// What an open finds behind the answers of many connections, where the program stopped and the files are opened again as a crash left
+/// them: behind each reply to a new manifest the state behind that request, or what one of those that were answered after it makes
+/// from there on.
+pub fn reopened_connections_outlast_crashes<D: Disk>()
+    ensures { ReopenedLast Numbered D.Disk }
+{}

@@ -1,5 +1,6 @@
-//! What the program does with whole scripts and streams, from the bytes that come to the bytes that are written.
+//! Whole scripts, streams and connections: from the bytes that come to the bytes that are written.
 #![tactic(auto)]
 
+pub mod answering;
 pub mod fresh;
 pub mod laws;
