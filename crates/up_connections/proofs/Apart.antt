@@ -8,7 +8,7 @@ use Rattle.up_http.specs.Talks.{Event, Came, Ended, Told, Wrote, Happens, Happen
 use Rattle.up_http.specs.declared.asked.Next.{Next}
 use Rattle.up_http.proofs.TalkLaws.{reads}
 use Rattle.up_connections.specs.Lines.{Line, HappensTo, fresh}
-use Rattle.up_connections.specs.Interleaved.{On, Lines, HappensOn, AllHappen, Answered, GivesEach, AreApart, answered_of, events_of}
+use Rattle.up_connections.specs.Interleaved.{On, Lines, HappensOn, AllHappen, Answered, GivesEach, AreApart, answered_of, answers_in, events_of}
 
 -- a request waits where the conversation says so
 abbrev IsTrueTo : Line → Type 0
@@ -168,9 +168,26 @@ module _ {S : Type 0} (gives : ℕ → Gives S) where
           let rest_met = all_met xs mid lines now new rest in
           then_on ∙ ap (map (λ a. a.text)) (sym (met_others s (old x.number) x.event mid (lines x.number) x.number n here.here rest_met is))
 
+  -- the answers, in the order in which they were given
+  told_on : (s : S) (old : Line) (e : Event) (mid : S) (new : Line) (n : ℕ) (h : HappensTo (gives n) s old e mid new)
+      → map {B = ℕ × List ℕ} (λ text. (n, text)) (answered_at e) ≡ map {B = ℕ × List ℕ} (λ a. (a.asked.number, a.text)) (met s old e mid new n h)
+  told_on s old (Came piece taken next) mid new n h = refl
+  told_on s old (Ended next) mid new n h = refl
+  told_on s old (Told text) mid new n h = refl
+  told_on s old (Wrote bytes) mid new n h = refl
+
+  in_order_of : (xs : List On) (s : S) (old : Lines) (now : S) (new : Lines) (h : AllHappen gives s old xs now new)
+      → answers_in xs ≡ map {B = ℕ × List ℕ} (λ a. (a.asked.number, a.text)) (all_met xs s old now new h)
+  in_order_of [] s old now new h = refl
+  in_order_of (x ∷ xs) s old now new (mid, lines, here, rest) =
+      ap (λ l. l ++ answers_in xs) (told_on s (old x.number) x.event mid (lines x.number) x.number here.here)
+      ∙ ap (λ l. map {B = ℕ × List ℕ} (λ a. (a.asked.number, a.text)) (met s (old x.number) x.event mid (lines x.number) x.number here.here) ++ l) (in_order_of xs mid lines now new rest)
+      ∙ sym (map_met {B = ℕ × List ℕ} (λ a. (a.asked.number, a.text)) s (old x.number) x.event mid (lines x.number) x.number here.here (all_met xs mid lines now new rest))
+
   pub apart : ConversationsKeepOrder → (s now : S) (xs : List On) (new : Lines) → AllHappen gives s (λ n. fresh) xs now new → AreApart gives s xs now new
   apart keeps s now xs new h = record {
     answered = all_met xs s (λ n. fresh) now new h;
+    in_order = in_order_of xs s (λ n. fresh) now new h;
     run = all_run xs s (λ n. fresh) now new h;
     requests = requests_of xs s (λ n. fresh) now new h (λ n. refl);
     answers = texts_of xs s (λ n. fresh) now new h;

@@ -49,11 +49,16 @@ abbrev pub answered_of : ℕ → List Answered → List Answered
 answered_of n [] = []
 answered_of n (a ∷ more) = if a.asked.number == n then a ∷ answered_of n more else answered_of n more
 
--- However what happens on many connections is interleaved, one run over the state answers all requests, in some order. In it each connection
--- has its own, in their order, and the answers that it writes are those of the run.
+-- the answers that were given, each with the number of its connection
+abbrev pub answers_in : List On → List (ℕ × List ℕ)
+answers_in xs = flat_map (λ x. map (λ text. (x.number, text)) (answered_at x.event)) xs
+
+-- However what happens on many connections is interleaved, one run over the state answers all requests, in the order of the answers. In it each
+-- connection has its own, in their order, and the answers that it writes are those of the run.
 pub record AreApart {S : Type 0} (gives : ℕ → Gives S) (s : S) (xs : List On) (now : S) (new : Lines) : Type 0 where
-  -- the requests in the order in which they were answered
+  -- the requests, in the order in which they were answered
   pub answered : List Answered
+  pub in_order : answers_in xs ≡ map (λ a. (a.asked.number, a.text)) answered
   pub run : Run (GivesEach gives) s (map (λ a. a.asked) answered) (map (λ a. a.text) answered) now
   -- each connection's are the requests that it gave, but for the last while that waits
   pub requests : (n : ℕ) → flat_map asked_at (events_of n xs) ≡ map (λ a. a.asked.request) (answered_of n answered) ++ listed (new n).asks
