@@ -2,8 +2,7 @@
 use Rattle.std.proofs.Common.{◌≡◌, ℕ, List, [], ◌∷◌, ◌++◌, refl, subst}
 use Rattle.up_lines.specs.Runs.{Run}
 use Rattle.up_http.specs.Serving.{Gives}
-use Rattle.up_http.specs.Talks.{Told}
-use Rattle.up_connections.specs.Lines.{Line, HappensTo, IsUntold}
+use Rattle.up_http.specs.declared.asked.Next.{Next}
 use Rattle.up_sockets.specs.Served.{Met, IsServed, gives_met}
 
 module _ {S : Type 0} (gives : ℕ → Gives S) where
@@ -20,8 +19,5 @@ module _ {S : Type 0} (gives : ℕ → Gives S) where
   pub served_then : (old mid new : S) → IsServed gives old mid → IsServed gives mid new → IsServed gives old new
   served_then old mid new p q = (p.0 ++ q.0, p.1 ++ q.1, join old mid new p.0 q.0 p.1 q.1 p.2 q.2)
 
-  pub served_told : (at : ℕ) (old new : S) (was is : Line) (text : List ℕ) → HappensTo (gives at) old was (Told text) new is → IsServed gives old new
-  served_told at old new was is text h = (record { at = at; request = h.0 } ∷ [], text ∷ [], (new, h.4, refl))
-
-  pub served_untold : (at : ℕ) (old new : S) (was : Line) → IsUntold (gives at) old was new → IsServed gives old new
-  served_untold at old new was h = (record { at = at; request = h.0 } ∷ [], h.1 ∷ [], (new, h.3, refl))
+  pub served_one : (at : ℕ) (old new : S) (next : Next) (text : List ℕ) → gives at old next text new → IsServed gives old new
+  served_one at old new next text given = (record { at = at; request = next } ∷ [], text ∷ [], (new, given, refl))
