@@ -10,7 +10,7 @@ use std::alloc::Global;
 use std::io;
 use std::io::ErrorKind;
 use std::time::{Duration, SystemTime};
-use up_connections::hub::Hub;
+use up_connections::hub::{Client, Hub};
 use up_lines::fault::ScriptCause;
 use up_program::times::seconds;
 
@@ -57,45 +57,36 @@ impl Clients {
         self.calls && self.hub.accepted < u64::from(self.count)
     }
 
-    /// Since when the one was silent that was so the longest; `now` where none is open.
-    fn silent_since(&self, now: u64) -> u64 {
-        let mut since = now;
-        for client in self.hub.clients.iter() {
-            if client.patience.moved < since {
-                since = client.patience.moved;
-            }
-        }
-        since
-    }
-
     /// Whether there is a place, or one that was silent for half a second may give its own.
     fn has_place(&self, now: u64) -> bool {
-        self.hub.has_room() || now.saturating_sub(self.silent_since(now)) >= LEAST_SILENCE
+        self.hub.has_room()
+            || now.saturating_sub(silent_since(self.hub.clients.as_slice(), now)) >= LEAST_SILENCE
     }
 
-    /// Whether one can go on at once.
-    fn are_ready(&self) -> bool {
-        for client in self.hub.clients.iter() {
-            if is_ready(client) {
-                return true;
-            }
-        }
-        false
+    /// Whether another is to be served, and there is a place for it.
+    fn accepts(&self, now: u64) -> bool
+        ensures { result ≡ true → self.now.hub.accepted < 4_294_967_295 }
+    {
+        self.is_called() && self.has_place(now)
     }
 
     /// How long nothing has to be done but what an event tells; none where that can be any time.
     pub(crate) fn wait(&self, now: u64) -> Option<Duration> {
-        let called = self.is_called();
-        if self.are_ready() || (called && self.has_place(now)) {
+        if are_ready(self.hub.clients.as_slice()) || self.accepts(now) {
             return Some(Duration::from_millis(0));
         }
         match self.hub.left(now) {
-            Some(millis) => Some(Duration::from_millis(if called && LOOKS < millis {
-                LOOKS
-            } else {
-                millis
-            })),
+            Some(millis) => Some(Duration::from_millis(self.look(millis))),
             None => None,
+        }
+    }
+
+    /// How soon it is looked again, where there would be so much time.
+    fn look(&self, millis: u64) -> u64 {
+        if LOOKS < millis && self.is_called() {
+            LOOKS
+        } else {
+            millis
         }
     }
 
@@ -106,20 +97,12 @@ impl Clients {
             if token == LISTENER {
                 self.calls = true;
             } else {
-                self.wake(
+                wake(
+                    self.hub.clients.as_mut_slice(),
                     token.0 as u64,
                     event.is_readable() || event.is_error(),
                     event.is_writable() || event.is_error(),
                 );
-            }
-        }
-    }
-
-    fn wake(&mut self, number: u64, readable: bool, writable: bool) {
-        for client in self.hub.clients.iter_mut() {
-            if client.number == number {
-                client.socket.readable = client.socket.readable || readable;
-                client.socket.writable = client.socket.writable || writable;
             }
         }
     }
@@ -134,7 +117,7 @@ impl Clients {
         now: u64,
     ) -> io::Result<()> {
         for _ in 0..MOST_ACCEPTS {
-            if !self.is_called() || !self.has_place(now) {
+            if !self.accepts(now) {
                 return Ok(());
             }
             match listener.accept() {
@@ -159,18 +142,11 @@ impl Clients {
     fn make_room<S, V: Service<S>>(&mut self, service: &V, now: u64)
         ensures { self.new.hub.accepted ≡ self.old.hub.accepted }
     {
-        if self.hub.has_room() {
-            return;
+        if !self.hub.has_room() {
+            let since = silent_since(self.hub.clients.as_slice(), now);
+            end_since(service, self.hub.clients.as_mut_slice(), since);
+            self.forget();
         }
-        let since = self.silent_since(now);
-        let mut made = false;
-        for client in self.hub.clients.iter_mut() {
-            if !made && client.patience.moved == since {
-                give_up(service, client);
-                made = true;
-            }
-        }
-        self.forget();
     }
 
     /// Forgets those that are over.
@@ -198,16 +174,69 @@ impl Clients {
     }
 
     /// Goes on with each that can go on, ends those that took too long, and forgets those that are over.
-    #[tactic(auto, using(crate::proofs::Joined::served_none, crate::proofs::Joined::served_then))]
     pub(crate) fn go_on<S, V: Service<S>>(&mut self, service: &V, state: &mut S, now: u64)
         ensures { IsServed (V.gives service.now) state.old state.new }
     {
-        for client in self.hub.clients.iter_mut() {
-            if is_ready(client) {
-                go_on(service, state, client, now);
-            }
-            end_late(service, client, now);
-        }
+        go_on_each(service, state, self.hub.clients.as_mut_slice(), now);
         self.forget();
+    }
+}
+
+/// Goes on with each that can go on, and ends those that took too long.
+#[tactic(auto, using(crate::proofs::Joined::served_none, crate::proofs::Joined::served_then))]
+fn go_on_each<S, V: Service<S>>(
+    service: &V,
+    state: &mut S,
+    clients: &mut [Client<Socket>],
+    now: u64,
+)
+    ensures { IsServed (V.gives service.now) state.old state.new }
+{
+    for client in clients.iter_mut() {
+        if is_ready(client) {
+            go_on(service, state, client, now);
+        }
+        end_late(service, client, now);
+    }
+}
+
+/// Ends the first that was silent since then.
+fn end_since<S, V: Service<S>>(service: &V, clients: &mut [Client<Socket>], since: u64) {
+    for client in clients.iter_mut() {
+        if client.patience.moved == since {
+            give_up(service, client);
+            return;
+        }
+    }
+}
+
+/// Whether one can go on at once.
+fn are_ready(clients: &[Client<Socket>]) -> bool {
+    for client in clients.iter() {
+        if is_ready(client) {
+            return true;
+        }
+    }
+    false
+}
+
+/// Since when the one was silent that was so the longest; `now` where none is open.
+fn silent_since(clients: &[Client<Socket>], now: u64) -> u64 {
+    let mut since = now;
+    for client in clients.iter() {
+        if client.patience.moved < since {
+            since = client.patience.moved;
+        }
+    }
+    since
+}
+
+/// The socket of the client of this number can be read or written, as an event told.
+fn wake(clients: &mut [Client<Socket>], number: u64, readable: bool, writable: bool) {
+    for client in clients.iter_mut() {
+        if client.number == number {
+            client.socket.readable = client.socket.readable || readable;
+            client.socket.writable = client.socket.writable || writable;
+        }
     }
 }
