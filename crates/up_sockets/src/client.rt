@@ -64,7 +64,7 @@ fn late(client: &Client<Socket>) -> ScriptCause {
     }
 }
 
-/// Goes on with a client as far as it can, up to its next request but one: then the others have their turn.
+/// Goes on with a client that can go on, as far as it can, up to its next request but one: then the others have their turn.
 #[tactic(auto, using(crate::proofs::Joined::served_none, crate::proofs::Joined::served_then))]
 pub(crate) fn go_on<S, V: Service<S>>(
     service: &V,
@@ -74,6 +74,9 @@ pub(crate) fn go_on<S, V: Service<S>>(
 )
     ensures { IsServed (V.gives service.now) state.old state.new }
 {
+    if !is_ready(client) {
+        return;
+    }
     if client.patience.closing.is_some() {
         drop_bytes(client, now);
         return;

@@ -193,9 +193,7 @@ fn go_on_each<S, V: Service<S>>(
     ensures { IsServed (V.gives service.now) state.old state.new }
 {
     for client in clients.iter_mut() {
-        if is_ready(client) {
-            go_on(service, state, client, now);
-        }
+        go_on(service, state, client, now);
         end_late(service, client, now);
     }
 }

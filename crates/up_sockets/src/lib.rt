@@ -4,5 +4,6 @@
 mod client;
 mod clients;
 mod clock;
+mod server;
 pub mod service;
 pub mod serving;

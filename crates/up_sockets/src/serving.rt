@@ -1,15 +1,10 @@
 //! Clients, served at once.
 ghost use Rattle.up_sockets.specs.Served.{IsServed};
 
-use crate::clients::{Clients, LISTENER};
-use crate::clock::Clock;
+use crate::server::Server;
 use crate::service::Service;
 use mio::net::TcpListener;
-use mio::{Events, Interest, Poll};
 use std::io;
-
-/// How many events are told at once.
-const MOST_EVENTS: usize = 512;
 
 /// Serves so many clients of a listener, at most 256 at once, and ends once the last of them is served. None waits for another
 /// that is silent or slow: one that sends nothing, or takes nothing, for 30 seconds ends, and so does one of 300 seconds; where
@@ -27,24 +22,12 @@ pub fn serve<S, V: Service<S>>(
 ) -> io::Result<()>
     ensures { IsServed (V.gives service.now) state.old state.new }
 {
-    let mut listener = listener;
-    let mut clock = Clock::new(rt)?;
-    let mut poll = Poll::new(rt)?;
-    let mut events = Events::with_capacity(rt.alloc(), MOST_EVENTS)?;
-    poll.registry()
-        .register(&mut listener, LISTENER, Interest::READABLE)?;
-    let mut clients = Clients::new(rt.alloc(), count);
+    let mut server = Server::new(rt, listener, count)?;
     for _ in 0..u64::MAX {
-        if clients.are_over() {
+        if server.is_over() {
             return Ok(());
         }
-        let now = clock.now(rt);
-        poll.poll(&mut events, clients.wait(now))?;
-        let now = clock.now(rt);
-        clients.hear(&events);
-        // (what came is read first: who sent it isn't silent)
-        clients.go_on(service, state, now);
-        clients.accept(rt, service, poll.registry(), &listener, now)?;
+        server.go_on(rt, service, state)?;
     }
     Ok(())
 }
