@@ -1,5 +1,5 @@
 -- Runs over requests, joined.
-use Rattle.std.proofs.Common.{◌≡◌, ℕ, List, [], ◌∷◌, ◌++◌, refl, subst}
+use Rattle.std.proofs.Common.{ℕ, List, [], ◌∷◌, ◌++◌, refl, subst}
 use Rattle.up_lines.specs.Runs.{Run}
 use Rattle.up_http.specs.Serving.{Gives}
 use Rattle.up_http.specs.declared.asked.Next.{Next}

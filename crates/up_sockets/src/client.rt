@@ -65,7 +65,7 @@ fn late(client: &Client<Socket>) -> ScriptCause {
 }
 
 /// Goes on with a client that can go on, as far as it can, up to its next request but one: then the others have their turn.
-#[tactic(auto, using(crate::proofs::Joined::served_none, crate::proofs::Joined::served_then))]
+#[tactic(auto, using(crate::proofs::Joined::served_none))]
 pub(crate) fn go_on<S, V: Service<S>>(
     service: &V,
     state: &mut S,

@@ -183,7 +183,7 @@ impl Clients {
 }
 
 /// Goes on with each that can go on, and ends those that took too long.
-#[tactic(auto, using(crate::proofs::Joined::served_none, crate::proofs::Joined::served_then))]
+#[tactic(auto, using(crate::proofs::Joined::served_none))]
 fn go_on_each<S, V: Service<S>>(
     service: &V,
     state: &mut S,

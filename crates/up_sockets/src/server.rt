@@ -45,6 +45,7 @@ impl Server {
     }
 
     /// Waits until something can be done, and does it.
+    #[tactic(auto, using(crate::proofs::Joined::served_none))]
     pub(crate) fn go_on<S, V: Service<S>>(
         &mut self,
         rt: &HostRuntime,

@@ -12,7 +12,7 @@ use std::io;
 /// by acceptance, counted from 1, and the moment at which it was accepted. It fails where one can't be accepted.
 ///
 /// However it ends, the state is as the answers to requests leave it, one after another.
-#[tactic(auto, using(crate::proofs::Joined::served_none, crate::proofs::Joined::served_then))]
+#[tactic(auto, using(crate::proofs::Joined::served_none))]
 pub fn serve<S, V: Service<S>>(
     rt: &HostRuntime,
     service: &V,
