@@ -1,6 +1,8 @@
 //! Connections, served at once.
 ghost use Rattle.std.specs.Prelude.{◌≡◌, IfErr};
+ghost use Rattle.up_main.specs.Clients.{ServesClients};
 
+use crate::laws::clients_outlast_crashes;
 use crate::log::Log;
 use mio::net::TcpListener;
 use sqlite::Alter;
@@ -45,15 +47,18 @@ impl<K: Scheme, D: Alter> Service<Desk<K, D>> for AtDesk<'_> {
     }
 }
 
-/// Answers HTTP at a port of this host, on so many connections.
+/// Answers HTTP at a port of this host, on so many connections. However it ended, requests were answered, one after another, and
+/// nothing else was done: a crash behind it loses nothing that was answered.
 pub(crate) fn serve<K: Scheme, D: Alter>(
     rt: &HostRuntime,
     desk: &mut Desk<K, D>,
     port: u16,
     count: u32,
 ) -> Result<(), Failure>
-    ensures { IfErr result (λ failure. failure ≡ Failure.Unheard) }
+    ensures served { ServesClients (K.rules) D.Store desk.old desk.new }
+    ensures unheard { IfErr result (λ failure. failure ≡ Failure.Unheard) }
 {
+    clients_outlast_crashes::<K, D>();
     let host = SocketAddr::new(IpAddr::V4(Ipv4Addr::new(127, 0, 0, 1)), port);
     let Ok(listener) = TcpListener::bind(rt, host) else {
         return told(&mut rt.stderr(), Err(Failure::Unheard));
