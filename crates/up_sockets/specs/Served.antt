@@ -4,7 +4,7 @@ use Rattle.up_lines.specs.Runs.{Run}
 use Rattle.up_http.specs.Serving.{Gives}
 use Rattle.up_http.specs.declared.asked.Next.{Next}
 
--- a request that was met, on a connection that was accepted at this moment
+-- a request that was met, and its moment
 pub record Met : Type 0 where
   pub at : ℕ
   pub request : Next
