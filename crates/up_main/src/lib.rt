@@ -5,6 +5,7 @@
 mod connections;
 mod databases;
 mod files;
+pub mod laws;
 mod log;
 pub mod program;
 mod scripts;

@@ -8,7 +8,7 @@ taken (6): SQLite finds each whole, it has the reply to every manifest that was 
 it was asked for, the program takes it and answers these manifests by the same replies, and the
 service goes on and answers all the rest.
 
-promise: time-limits
+promise: connections-at-once
 """
 import contextlib
 import io

@@ -6,11 +6,11 @@ says. Each wait is bounded.
 The program serves a file in which `examples/first_path` was carried out, so that its files and
 the reply that it kept are known beforehand. Clients that hold the connection are tried all at
 once, beside the others: this takes two minutes. For those that send or take a byte now and then,
-the program's clock is made to go thirty times as fast, and one case sets it to a time before
+the program's clock is made to go ten times as fast, and one case sets it to a time before
 1970, which needs a C compiler. `whole` tries these alone, by the clock as it is, which takes six
 minutes.
 
-promise: exit-status, messages, closed-once, connections-counted, time-limits
+promise: exit-status, messages, closed-once, connections-at-once, moment-of-a-connection
 """
 import calendar
 import contextlib
@@ -54,7 +54,9 @@ PATIENCE = 90
 
 # how long the service waits for a client that does nothing, and for a connection as a whole, in
 # seconds; what more a busy machine may take, and how many times as fast its clock is made to go
-SILENCE, WHOLE, SLACK, FAST = 30, 300, 60, 30
+SILENCE, WHOLE, SLACK, FAST = 30, 300, 60, 10
+# how soon others are answered beside a client that holds its connection, on a busy machine
+SOON = 5
 # how long a client may go on sending after its last answer, in seconds
 GOING_ON = 10
 
@@ -136,12 +138,13 @@ def served(program: Any, path: Path | str, count: int,
         said.close()
 
 
-def ended(running: Served, err: bytes = b"", refused: int | None = None) -> bool:
+def ended(running: Served, err: bytes = b"", refused: int | None = None,
+          patience: int = PATIENCE) -> bool:
     """Whether the program ends by itself, with status 0 and these lines on standard error, beside
     those of refusals: of so many, where that is said.
     """
     try:
-        out = running.communicate(timeout=PATIENCE)[0]
+        out = running.communicate(timeout=patience)[0]
     except subprocess.TimeoutExpired:
         return False
     running.said.seek(0)
@@ -447,22 +450,28 @@ OTHERS = 3
 
 def outlived(program: str, path: Path, first: Callable[..., Any], kind: bytes | None, least: int,
              most: int, variables: dict[str, str] | None = None) -> bool:
-    """Whether, while the first client does what it does, others are answered between so many and
-    so many seconds after it came, and what is told of it is that a read or a write failed, or
-    nothing.
+    """Whether, while the first client does what it does, others are answered at once, its
+    connection ends between so many and so many seconds after it came, and what is told of it is
+    that a read or a write failed, or nothing.
     """
     with served(program, path, 1 + OTHERS, variables) as running, connected(running) as held:
         begun, left = time.monotonic(), threading.Event()
         holder = threading.Thread(target=quietly, args=(first, held, left))
         holder.start()
-        with ThreadPoolExecutor(OTHERS) as pool:
-            others = list(
-                pool.map(lambda _: (told(running, NO_FILE, 2 * most), time.monotonic() - begun),
-                         range(OTHERS)))
+        others = [timed(running) for _ in range(OTHERS)]
+        well = ended(running, b"uptane_desk: connection 1: %s\n" % kind if kind else b"",
+                     patience=most)
+        after = time.monotonic() - begun
         left.set()
-        well = ended(running, b"uptane_desk: connection 1: %s\n" % kind if kind else b"")
         holder.join()
-    return well and all(came == OPEN and least < after < most for came, after in others)
+    return well and least < after < most and all(
+        came == OPEN and waited < SOON for came, waited in others)
+
+
+def timed(running: Served) -> tuple[bytes, float]:
+    """What one that sends a request is answered, and after how many seconds."""
+    begun = time.monotonic()
+    return told(running, NO_FILE), time.monotonic() - begun
 
 
 def quietly(first: Callable[..., Any], held: socket.socket, left: threading.Event) -> None:
@@ -564,15 +573,43 @@ def holding(program: str, own: Path, whole: bool) -> Iterator[Any]:
         tried += [(first, kind, LEAST[kind], WHOLE + SILENCE + SLACK, None) for first, kind in SLOW]
     elif shutil.which("cc"):
         faster = {"LD_PRELOAD": str(clock_in(own)), "FAST_CLOCK": str(FAST)}
-        tried += [(first, kind, WHOLE // FAST - 2, WHOLE // FAST + SILENCE + SLACK, faster)
+        tried += [(first, kind, LEAST[kind] // FAST - 2, WHOLE // FAST + SILENCE + SLACK, faster)
                   for first, kind in SLOW]
     else:
         print("no C compiler, so no client that sends or takes a byte now and then")
     for first, *told in tried:
         path = trials.copied(large, own / first.__name__)
-        yield "a client that %s holds up others no longer than that" % first.__doc__, (program,
-                                                                                       path, first,
-                                                                                       *told)
+        yield "a client that %s holds nobody up, and ends" % first.__doc__, (program, path, first,
+                                                                             *told)
+
+
+CROWD = 100
+
+
+def beside_a_crowd(program: str, path: Path) -> bool:
+    """A hundred clients that send nothing, a hundred that send a byte a second and a hundred that
+    read nothing of their answers, which are more than there are places: others are answered.
+    """
+    with served(program, path, 100_000) as running, contextlib.ExitStack() as up:
+        silent, slow, deaf = (
+            [up.enter_context(connected(running)) for _ in range(CROWD)] for _ in range(3))
+        for client in deaf:
+            client.setsockopt(socket.SOL_SOCKET, socket.SO_RCVBUF, 4096)
+            client.sendall(99 * GET_TARGETS)
+        waits = []
+        for at in range(20):
+            for client in slow:
+                with contextlib.suppress(OSError):
+                    client.sendall(NO_FILE[at:at + 1])
+            came, waited = timed(running)
+            waits.append(waited)
+            if came != OPEN:
+                return False
+            time.sleep(max(0, 1 - waited))
+        print(
+            "beside %d clients the slowest of %d waited %.2f seconds" %
+            (sum(map(len, (silent, slow, deaf))), len(waits), max(waits)), flush=True)
+        return max(waits) < SOON
 
 
 # ---- the small Primary and curl
@@ -669,6 +706,10 @@ def cases(program: str, whole: bool = False) -> Iterator[Any]:
         for client in [] if whole else CLIENTS:
             path = trials.copied(own / "first", own / client.__name__)
             yield client.__doc__.strip().rstrip("."), goes_well(client, program, path)
+        if not whole:
+            path = trials.copied(own / "large", own / "crowd")
+            yield "others are answered beside three hundred clients that hold their connections", (
+                goes_well(beside_a_crowd, program, path))
         if shutil.which("cc") and not whole:
             path = trials.copied(own / "first", own / "early_clock")
             yield early_clock.__doc__.rstrip("."), goes_well(early_clock, program, path,

@@ -35,27 +35,18 @@ LANES = {
         "up_laws": "laws of replies",
         "up_verify": "a Primary's checks",
         "up_primary": "a Primary's laws",
-        "up_uptane": "Uptane's laws", },
-    "the database": {
-        "up_tables": "tables, statements",
-        "up_columns": "lists in columns",
-        "up_rows": "rows of a state",
-        "up_records": "store and cache",
-        "up_store": "reads, writes",
-        "up_file": "database files"},
+        "up_uptane": "Uptane's laws", }, "the database": {
+            "up_tables": "tables, statements", "up_columns": "lists in columns",
+            "up_rows": "rows of a state", "up_records": "store and cache",
+            "up_store": "reads, writes", "up_file": "database files"},
     "the program": {
         "up_desk": "commands, the headline", "up_service": "scripts, streams",
         "up_shipped": "what ships", "up_main": "the programs' parts", "uptane_desk": "under HMAC",
         "uptane_desk_ed25519": "under Ed25519", "up_primary_files": "a Primary's files",
-        "up_reporting": "its manifests", "uptane_primary": "a Primary"},
-    "bytes and HTTP": {
-        "up_pieces": "bytes in pieces",
-        "up_lines": "lines",
-        "up_script": "lines of scripts",
-        "up_heads": "heads, routes",
-        "up_http": "requests",
-        "up_connections": "many at once",
-        "up_program": "statuses, messages"}}
+        "up_reporting": "its manifests", "uptane_primary": "a Primary"}, "bytes and HTTP": {
+            "up_pieces": "bytes in pieces", "up_lines": "lines", "up_script": "lines of scripts",
+            "up_heads": "heads, routes", "up_http": "requests", "up_connections": "many at once",
+            "up_sockets": "their sockets", "up_program": "statuses, messages"}}
 
 
 def used() -> dict[str, list[str]]:

@@ -29,7 +29,7 @@ connection. Each answer has to be the kept reply, but for one, which may be a 50
 memory or none, and the tables those of the rules at the moment that was kept. Images and running
 campaigns are there, which the first one reads.
 
-promise: messages, connections-counted, store-opened, file-refused
+promise: messages, connections-at-once, store-opened, file-refused
 """
 import hashlib
 import json

@@ -279,7 +279,7 @@ def table() -> str:
 FAMILIES = [("Rust's libraries", r"core|std|std_\w+|io"), ("the system's calls", r"libc|os"),
             ("JSON", r"json|serde|serde_json|ryu|itoa|fast_float|simdutf8"), ("times", r"jiff\w*"),
             ("hashes and text", r"sha2|hex|memchr|arrayvec|slab|bytes"),
-            ("HTTP", r"httparse|http\w*|matchit"), ("SQLite", r"sqlite\w*"), ("other", r".*")]
+            ("HTTP", r"httparse|http\w*|matchit|mio"), ("SQLite", r"sqlite\w*"), ("other", r".*")]
 
 
 def kit_crates(kit: Any) -> list[Any]:

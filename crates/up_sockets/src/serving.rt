@@ -1,0 +1,33 @@
+//! Clients, served at once.
+ghost use Rattle.up_sockets.specs.Served.{IsServed};
+
+use crate::server::Server;
+use crate::service::Service;
+use mio::net::TcpListener;
+use std::io;
+
+/// Serves so many clients of a listener, at most 256 at once, and ends once the last of them is served. None waits for another
+/// that is silent or slow: one that sends nothing, or takes nothing, for 30 seconds ends, and so does one of 300 seconds; where
+/// 256 are open and one more calls, the one that was silent for the longest ends once that is half a second. Each has a number,
+/// by acceptance, counted from 1, and the moment at which it was accepted. It fails where one can't be accepted.
+///
+/// However it ends, the state is as the answers to requests leave it, one after another.
+#[tactic(auto, using(crate::proofs::Joined::served_none))]
+pub fn serve<S, V: Service<S>>(
+    rt: &HostRuntime,
+    service: &V,
+    state: &mut S,
+    listener: TcpListener,
+    count: u32,
+) -> io::Result<()>
+    ensures { IsServed (V.gives service.now) state.old state.new }
+{
+    let mut server = Server::new(rt, listener, count)?;
+    for _ in 0..u64::MAX {
+        if server.is_over() {
+            return Ok(());
+        }
+        server.go_on(rt, service, state)?;
+    }
+    Ok(())
+}
