@@ -9,6 +9,7 @@ import sys
 import tempfile
 import unittest
 from collections.abc import Callable, Iterator
+from dataclasses import replace
 from pathlib import Path
 from unittest import mock
 
@@ -827,25 +828,25 @@ const fn second() {} }
         reaches = Function("reaches", (28, 32), 0, 0, None, False)
         self.assertTrue(is_shown("src/counts.rt", reaches, *found[0][:2]))
         self.assertFalse(is_shown("src/more.rt", reaches, *found[0][:2]))
-        self.assertFalse(is_shown("src/counts.rt", reaches._replace(lines=(40, 42)), *found[0][:2]))
-        self.assertFalse(is_shown("src/counts.rt", reaches._replace(name="same"), *found[0][:2]))
-        placed = reaches._replace(name="placed", lines=(48, 52))
+        self.assertFalse(is_shown("src/counts.rt", replace(reaches, lines=(40, 42)), *found[0][:2]))
+        self.assertFalse(is_shown("src/counts.rt", replace(reaches, name="same"), *found[0][:2]))
+        placed = replace(reaches, name="placed", lines=(48, 52))
         self.assertTrue(is_shown("src/counts.rt", placed, *found[1][:2]))
-        self.assertTrue(is_shown("src/counts.rt", reaches._replace(name="kept"), *found[2][:2]))
+        self.assertTrue(is_shown("src/counts.rt", replace(reaches, name="kept"), *found[2][:2]))
         # a method of a type that another file has
-        told = reaches._replace(name="told", owner="Held", is_own=True, modules=(("held", ), ))
+        told = replace(reaches, name="told", owner="Held", is_own=True, modules=(("held", ), ))
         self.assertTrue(is_shown("src/counts.rt", told, *found[3][:2]))
         self.assertFalse(
-            is_shown("src/counts.rt", told._replace(modules=(("counts", ), )), *found[3][:2]))
-        self.assertFalse(is_shown("src/counts.rt", told._replace(owner=None), *found[3][:2]))
-        self.assertFalse(is_shown("src/counts.rt", told._replace(owner="Other"), *found[3][:2]))
-        self.assertFalse(is_shown("src/counts.rt", told._replace(name="kept"), *found[3][:2]))
+            is_shown("src/counts.rt", replace(told, modules=(("counts", ), )), *found[3][:2]))
+        self.assertFalse(is_shown("src/counts.rt", replace(told, owner=None), *found[3][:2]))
+        self.assertFalse(is_shown("src/counts.rt", replace(told, owner="Other"), *found[3][:2]))
+        self.assertFalse(is_shown("src/counts.rt", replace(told, name="kept"), *found[3][:2]))
 
     def test_a_function_is_told_by_its_whole_path(self) -> None:
         # (a module and a function of one name, and a goal of another function of that module,
         # placed where a helper's lines are)
         response = Function("response", (10, 20), 0, 0, None, False)
-        called = response._replace(name="called_response", lines=(22, 30))
+        called = replace(response, name="called_response", lines=(22, 30))
         place = [("src/response.rt", 15)]
         self.assertTrue(is_shown("src/response.rt", response, "up::response::response", place))
         self.assertFalse(
@@ -859,7 +860,7 @@ const fn second() {} }
                      "up::response::fn::called_response::response", "up::other::response"):
             self.assertFalse(is_shown("src/response.rt", response, name, place), name)
         # refused terms, which have no place
-        root = response._replace(name="response")
+        root = replace(response, name="response")
         self.assertTrue(is_of("up::response", "src/lib.rt", root))
         self.assertFalse(is_of("up::response::called_response", "src/lib.rt", root))
         self.assertFalse(is_of("up::response::Held::response", "src/response.rt", response))
