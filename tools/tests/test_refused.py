@@ -9,6 +9,7 @@ import sys
 import tempfile
 import unittest
 from collections.abc import Callable, Iterator
+from dataclasses import replace
 from pathlib import Path
 from unittest import mock
 
@@ -86,11 +87,13 @@ pub fn two() -> u8 {
 TREE = {
     "crates.txt": "low:\nup: low\n", "crates/low/src/lib.rt": LOW,
     "crates/low/src/counts.rt": COUNTS, "crates/low/specs/Lib.antt": "pub mod Numbers\n",
-    "crates/low/specs/Numbers.antt": "use Rattle.std.specs.Prelude.{ℕ}\n\n-- the least count\nabbrev pub least : ℕ\nleast = 3\n",
+    "crates/low/specs/Numbers.antt": "use Rattle.std.specs.Prelude.{ℕ}\n\n-- the "
+    "least count\nabbrev pub least : ℕ\nleast = 3\n",
     "crates/low/proofs/Lib.antt": "pub mod Facts\n",
-    "crates/low/proofs/Facts.antt": "use Rattle.std.specs.Prelude.{ℕ}\n\nabbrev pub three : ℕ\nthree = 3\n",
-    "crates/low/refused/another-least.edit": "file: src/counts.rt\nold: let count = LEAST;\nnew: let count = LEAST + 1;\n",
-    "crates/up/src/lib.rt": UP,
+    "crates/low/proofs/Facts.antt": "use Rattle.std.specs.Prelude.{ℕ}\n\nabbrev "
+    "pub three : ℕ\nthree = 3\n",
+    "crates/low/refused/another-least.edit": "file: src/counts.rt\nold: let count = "
+    "LEAST;\nnew: let count = LEAST + 1;\n", "crates/up/src/lib.rt": UP,
     "crates/up/refused/three-told-as-two.edit": "file: src/lib.rt\nold:     2\nnew:     3\n"}
 
 LOW_COUNTS = "crates/low/src/counts.rt"
@@ -226,17 +229,18 @@ class Hashes(OnATree):
 
     def test_a_function_that_is_more_than_private_is_read_above(self) -> None:
         texts = {
-            "of a trait's impl": "impl Counted for u8 {\n    fn count(&self) -> u64\n        ensures { result ≡ 4 }\n  "
-            "  {\n        4\n    }\n}",
-            "of a cycle of calls": "#[cycle(parity)]\nfn even(a: u64) -> u64\n    ensures { result ≡ 4 }\n{\n    a\n}",
+            "of a trait's impl": "impl Counted for u8 {\n    fn count(&self) -> u64\n        "
+            "ensures { result ≡ 4 }\n    {\n        4\n    }\n}",
+            "of a cycle of calls": "#[cycle(parity)]\nfn even(a: u64) -> u64\n    "
+            "ensures { result ≡ 4 }\n{\n    a\n}",
             "for C": "extern \"C\" fn made() -> u64\n    ensures { result ≡ 4 }\n{\n    4\n}",
             "const": "const fn made() -> u64\n    ensures { result ≡ 4 }\n{\n    4\n}",
-            "of an operator": "impl Add for Held {\n    fn add(self, b: Held) -> Held\n        ensures { result ≡ 4 "
-            "}\n    {\n        b\n    }\n}",
-            "of a name that macros call": "impl Held {\n    pub fn write_fmt(&self)\n        ensures { result ≡ 4 }\n    {\n    "
-            "    4\n    }\n}",
-            "of a fault by ?": "impl From<Held> for u8 {\n    fn from(a: Held) -> u8\n        ensures { result ≡ 4 "
-            "}\n    {\n        4\n    }\n}"}
+            "of an operator": "impl Add for Held {\n    fn add(self, b: Held) -> Held\n        "
+            "ensures { result ≡ 4 }\n    {\n        b\n    }\n}",
+            "of a name that macros call": "impl Held {\n    pub fn write_fmt(&self)\n        "
+            "ensures { result ≡ 4 }\n    {\n        4\n    }\n}",
+            "of a fault by ?": "impl From<Held> for u8 {\n    fn from(a: Held) -> u8\n        "
+            "ensures { result ≡ 4 }\n    {\n        4\n    }\n}"}
         for name, text in texts.items():
             with self.subTest(name):
                 self.setUp()
@@ -554,7 +558,7 @@ impl Counted for Held {
         subprocess.run(made, check=True, stdout=subprocess.DEVNULL, stderr=subprocess.DEVNULL)
 
     def judged(self) -> None:
-        """A commit at which all edits were judged, two of the low crate among them, by an older kit."""
+        """A commit at which an older kit judged all edits, two of the low crate among them."""
         self.write("crates/low/refused/less-reached.edit", edit("b <= a", "b < a"))
         lock.write(crates_here(), hashes(crates_here(), ["low", "up"]))
         self.write(lock.FILE,
@@ -695,7 +699,8 @@ class Texts(OnATree):
 
     def test_owners(self) -> None:
         text = b"""
-        impl<D: Fn(u8) -> u8> crate::held::Held<'_, D> where D: Copy { fn first() {} const fn second() {} }
+        impl<D: Fn(u8) -> u8> crate::held::Held<'_, D> where D: Copy { fn first() {} \
+const fn second() {} }
         impl<T> From<Vec<T>> for Other { fn third() {} }
         impl<K: Scheme, D> a::Interpret<b::Desk<K, D>> for Scripter { fn fourth() {} }
         impl<'a> Shown for &'a [u8] { fn fifth() {} }
@@ -753,9 +758,8 @@ class Texts(OnATree):
         chosen = [
             f"if 1 > 2 {{ {new} }} else {{ {held} }}",
             f"if let Some(_) = more(1) {{ {held} }} else if held.len() == 9 {{ ({new}) }} else "
-            f"{{ {held} }}", f"match (1, 2) "
-            f"{{ (a, 2) if a >= 2 => {new}, (_, 2) => {{ {held} }} _ => if more() {{ {new} }} else {{ {held} }} }}",
-            f"{{ {new} }}"]
+            f"{{ {held} }}", f"match (1, 2) {{ (a, 2) if a >= 2 => {new}, (_, 2) => {{ {held} }} "
+            f"_ => if more() {{ {new} }} else {{ {held} }} }}", f"{{ {new} }}"]
         others = [
             f"if 1 > 2 {{ {new} }} else {{ held }}",
             f"match 1 {{ 1 => {new}, _ => return {held} }}", f"{{ let held = {new}; {held} }}",
@@ -773,12 +777,14 @@ class Texts(OnATree):
             "shown": (of_text + "rows: rows are set\n", True, None),
             "two-texts": (of_text + 'old: "SELECT a"\nnew: "SELECT b"\nrows: rows are set\n', True,
                           None), "text-and-code": (of_text + "old: let held\nnew: let mut held\n",
-                                                   False, None), "another-text": (edit(
-                                                       '"a SELECT"', '"b SELECT"',
-                                                       "src/asked.rt"), False, None),
-            "another-begins": (edit('"a SELECT"', '"SELECT"', "src/asked.rt"), False, None), **{
-                f"chosen-{at}": (it + "rows: rows are set\n", False, "it chooses among texts of SQL") for at, it in enumerate(chosen)},
-            **{f"not-chosen-{at}": (it, False, None) for at, it in enumerate(others)}}
+                                                   False, None),
+            "another-text": (edit('"a SELECT"', '"b SELECT"',
+                                  "src/asked.rt"), False, None), "another-begins": (edit(
+                                      '"a SELECT"', '"SELECT"', "src/asked.rt"), False, None)}
+        for at, it in enumerate(chosen):
+            texts[f"chosen-{at}"] = (it + "rows: rows are set\n", False,
+                                     "it chooses among texts of SQL")
+        texts |= {f"not-chosen-{at}": (it, False, None) for at, it in enumerate(others)}
         for name, (text, _, _) in texts.items():
             self.write(f"crates/low/refused/{name}.edit", text)
         found = {it.label.partition("/")[2]: it for it in edits_in("low", "crates/low")}
@@ -822,25 +828,25 @@ class Texts(OnATree):
         reaches = Function("reaches", (28, 32), 0, 0, None, False)
         self.assertTrue(is_shown("src/counts.rt", reaches, *found[0][:2]))
         self.assertFalse(is_shown("src/more.rt", reaches, *found[0][:2]))
-        self.assertFalse(is_shown("src/counts.rt", reaches._replace(lines=(40, 42)), *found[0][:2]))
-        self.assertFalse(is_shown("src/counts.rt", reaches._replace(name="same"), *found[0][:2]))
-        placed = reaches._replace(name="placed", lines=(48, 52))
+        self.assertFalse(is_shown("src/counts.rt", replace(reaches, lines=(40, 42)), *found[0][:2]))
+        self.assertFalse(is_shown("src/counts.rt", replace(reaches, name="same"), *found[0][:2]))
+        placed = replace(reaches, name="placed", lines=(48, 52))
         self.assertTrue(is_shown("src/counts.rt", placed, *found[1][:2]))
-        self.assertTrue(is_shown("src/counts.rt", reaches._replace(name="kept"), *found[2][:2]))
+        self.assertTrue(is_shown("src/counts.rt", replace(reaches, name="kept"), *found[2][:2]))
         # a method of a type that another file has
-        told = reaches._replace(name="told", owner="Held", is_own=True, modules=(("held", ), ))
+        told = replace(reaches, name="told", owner="Held", is_own=True, modules=(("held", ), ))
         self.assertTrue(is_shown("src/counts.rt", told, *found[3][:2]))
         self.assertFalse(
-            is_shown("src/counts.rt", told._replace(modules=(("counts", ), )), *found[3][:2]))
-        self.assertFalse(is_shown("src/counts.rt", told._replace(owner=None), *found[3][:2]))
-        self.assertFalse(is_shown("src/counts.rt", told._replace(owner="Other"), *found[3][:2]))
-        self.assertFalse(is_shown("src/counts.rt", told._replace(name="kept"), *found[3][:2]))
+            is_shown("src/counts.rt", replace(told, modules=(("counts", ), )), *found[3][:2]))
+        self.assertFalse(is_shown("src/counts.rt", replace(told, owner=None), *found[3][:2]))
+        self.assertFalse(is_shown("src/counts.rt", replace(told, owner="Other"), *found[3][:2]))
+        self.assertFalse(is_shown("src/counts.rt", replace(told, name="kept"), *found[3][:2]))
 
     def test_a_function_is_told_by_its_whole_path(self) -> None:
         # (a module and a function of one name, and a goal of another function of that module,
         # placed where a helper's lines are)
         response = Function("response", (10, 20), 0, 0, None, False)
-        called = response._replace(name="called_response", lines=(22, 30))
+        called = replace(response, name="called_response", lines=(22, 30))
         place = [("src/response.rt", 15)]
         self.assertTrue(is_shown("src/response.rt", response, "up::response::response", place))
         self.assertFalse(
@@ -854,7 +860,7 @@ class Texts(OnATree):
                      "up::response::fn::called_response::response", "up::other::response"):
             self.assertFalse(is_shown("src/response.rt", response, name, place), name)
         # refused terms, which have no place
-        root = response._replace(name="response")
+        root = replace(response, name="response")
         self.assertTrue(is_of("up::response", "src/lib.rt", root))
         self.assertFalse(is_of("up::response::called_response", "src/lib.rt", root))
         self.assertFalse(is_of("up::response::Held::response", "src/response.rt", response))

@@ -4,6 +4,7 @@
                               says
     tools/run NAME WORD ..    runs one; `--help` says more of it
 """
+import argparse
 import ast
 import importlib
 import re
@@ -32,14 +33,20 @@ def listed() -> None:
 
 def main() -> int:
     """Runs the tool that the first word names, on the rest."""
-    name, *words = sys.argv[1:] or [""]
-    if name in ("", "-h", "--help"):
+    asked = argparse.ArgumentParser("tools/run", "tools/run [NAME WORD ..]", add_help=False,
+                                    allow_abbrev=False)
+    asked.add_argument("-h", "--help", action="store_true")
+    asked.add_argument("words", nargs=argparse.REMAINDER)
+    given = asked.parse_args()
+    name, *words = given.words or [""]
+    if given.help or not name:
         print(__doc__)
         listed()
         return 0
     found = tools().get(name)
     if found is None:
         sys.exit(f"tools/run: there is no tool {name}; tools/run lists them")
+    # (each tool takes its own words, and says its name in its help)
     sys.argv = [f"tools/run {name}", *words]
     return importlib.import_module(f"uptane_tools.{found.parent.name}.{name}").main()
 

@@ -7,8 +7,9 @@ import subprocess
 import tempfile
 import threading
 from collections.abc import Callable, Iterator
+from dataclasses import dataclass
 from pathlib import Path
-from typing import Any, NamedTuple
+from typing import Any
 
 from uptane_tools.edits.edit import Edit, functions_below, texts_with
 from uptane_tools.edits.functions import Function, module_of, with_bodies
@@ -39,10 +40,12 @@ LEFT_OUT = b" unreachable!() "
 PROOF_FILES = {"Invariants.antt", "Answers.antt", "Proof.antt"}
 
 
-class Said(NamedTuple):
+@dataclass(frozen=True)
+class Said:
     """What a check says: 0 where all is proved, 1 where not, or None where it says nothing of an
     edit; its lines; and why it says nothing, which may be the edit's own fault.
     """
+
     status: int | None
     lines: list[str]
     why: str | None

@@ -1,5 +1,6 @@
 """Edits: each turns the body of one function of a crate."""
 import collections
+import dataclasses
 import re
 from pathlib import Path
 from typing import Any
@@ -80,7 +81,7 @@ def functions_below(folder: str) -> dict[str, list]:
                 ) if not function.is_own or function.owner in declared[path] else elsewhere
 
     return {
-        path: [it._replace(modules=modules(path, it)) for it in functions_of(rows)
+        path: [dataclasses.replace(it, modules=modules(path, it)) for it in functions_of(rows)
                ] for path, rows in found.items()}
 
 

@@ -3,15 +3,18 @@ import bisect
 import re
 import subprocess
 import tempfile
-from typing import Any, NamedTuple
+from dataclasses import dataclass
+from typing import Any
 
 from uptane_tools.edits.kit import rtlib
 
 
-class Token(NamedTuple):
+@dataclass(slots=True)
+class Token:
     """A token without its place in the text: the line that it stands in, where it starts and ends
     (bytes), its kind and its words (a JSON string).
     """
+
     line: int
     start: int
     end: int
@@ -19,7 +22,8 @@ class Token(NamedTuple):
     word: str
 
 
-class Function(NamedTuple):
+@dataclass(frozen=True)
+class Function:
     """An outermost function with a body, which lies between the bytes `opens` and `closes`.
 
     `lines` are its first and last, `cycle` is the cycle of calls that it is in, or None, and
@@ -33,6 +37,7 @@ class Function(NamedTuple):
     above can read it unless something names it; else None. `is_private` says that those above can't
     name it.
     """
+
     name: str
     lines: tuple[int, int]
     opens: int

@@ -3,8 +3,8 @@ are, the hash that their verdicts rest on, and the kit that judged them.
 """
 import fcntl
 import os
+from dataclasses import dataclass
 from pathlib import Path
-from typing import NamedTuple
 
 from uptane_tools.edits import kit
 from uptane_tools.edits.hashes import count_of
@@ -17,8 +17,10 @@ HEAD = """# For each crate whose edits the prover refused, all of them: how many
 """
 
 
-class Line(NamedTuple):
+@dataclass(frozen=True)
+class Line:
     """A crate's line. `rests` are the number of its edits and the hash."""
+
     rests: tuple[int, str]
     kit: str
 
@@ -50,5 +52,5 @@ def put(crates: dict[str, Crate], lines: dict[str, Line]) -> None:
             it: line for it, line in sorted(rows.items())
             if it in crates and count_of(crates[it].folder)}
         file.truncate(0)
-        file.write(HEAD + "".join(f"{it} {rests[0]} {rests[1]} {by}\n"
-                                  for it, (rests, by) in there.items()))
+        file.write(HEAD + "".join(f"{it} {line.rests[0]} {line.rests[1]} {line.kit}\n"
+                                  for it, line in there.items()))

@@ -54,8 +54,9 @@ import math
 import os
 import re
 from collections.abc import Iterator
+from dataclasses import dataclass
 from pathlib import Path
-from typing import Any, NamedTuple
+from typing import Any
 
 from uptane_tools.edits.functions import Function, Token, closing, functions_of, tokens_of
 from uptane_tools.edits.kit import Crate, rtlib
@@ -84,12 +85,14 @@ variant_key with write_fmt write_str zip
 """.split()
 
 
-class Part(NamedTuple):
+@dataclass(frozen=True)
+class Part:
     """A part of a file that is shown: what the hash has of it, when it is in and by which name, the
     marks of its words, which a `use` of its file may bring, the words that may name a function or a
     module, those that may name a constant, the paths of antt that stand in it, and the modules that
     paths of antt name behind `declared` or `contracts`.
     """
+
     said: str
     when: int = ALWAYS
     name: Any = None
@@ -100,10 +103,12 @@ class Part(NamedTuple):
     modules: Any = frozenset()
 
 
-class Shown(NamedTuple):
+@dataclass(frozen=True)
+class Shown:
     """What a crate shows: the parts of each of its files, by path, the words of antt that may name
     functions, and of each file that a private module closes off, by path, the module's name.
     """
+
     files: dict[str, list[Part]]
     cites: set[str]
     closed: dict[str, str]

@@ -56,6 +56,7 @@ import time
 from collections.abc import Iterator, Sequence
 from concurrent.futures import ThreadPoolExecutor
 from contextlib import closing
+from dataclasses import dataclass
 from pathlib import Path
 from typing import Any
 
@@ -649,11 +650,11 @@ def through(proxy: proxy_cases.Proxy, body: bytes) -> int:
     return proxy_cases.asked(proxy, "POST", "/director/manifest", body)[0][0]
 
 
+@dataclass(frozen=True)
 class Directly:
     """The service itself, in the place of a proxy."""
 
-    def __init__(self, port: int) -> None:
-        self.port = port
+    port: int
 
     def client(self) -> Any:
         return http_cases.http.client.HTTPConnection("127.0.0.1", self.port,

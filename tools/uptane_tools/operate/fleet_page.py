@@ -341,14 +341,20 @@ def packed(vehicles: list[Named], campaigns: list[Named]) -> str:
     return made.replace("<", "\\u003c").replace(">", "\\u003e").replace("&", "\\u0026")
 
 
-VEHICLES = """<p class="controls"><input id="search" type="search" placeholder="vehicle, ECU, hardware, file" aria-label="search">
-<select id="filter" aria-label="filter"><option value="all">all vehicles</option><option value="open">with an open assignment</option>
-<option value="withheld">withheld</option><option value="attack">report an attack</option><option value="silent">silent for a week</option>
+VEHICLES = """<p class="controls"><input id="search" type="search" \
+placeholder="vehicle, ECU, hardware, file" aria-label="search">
+<select id="filter" aria-label="filter"><option value="all">all vehicles</option>\
+<option value="open">with an open assignment</option>
+<option value="withheld">withheld</option><option value="attack">report an attack</option>\
+<option value="silent">silent for a week</option>
 <option value="never">never seen</option></select>
-<select id="order" aria-label="order"><option value="name">by name</option><option value="oldest">longest silent first</option>
+<select id="order" aria-label="order"><option value="name">by name</option>\
+<option value="oldest">longest silent first</option>
 <option value="newest">last seen first</option></select><button id="csv">CSV</button>
-<span id="count"></span><span class="pages"><button id="back">&larr; back</button> <span id="page"></span> <button id="next">next &rarr;</button></span></p>
-<div id="list"><noscript><p class="none">The list of vehicles needs JavaScript.</p></noscript></div>"""
+<span id="count"></span><span class="pages"><button id="back">&larr; back</button> \
+<span id="page"></span> <button id="next">next &rarr;</button></span></p>
+<div id="list"><noscript><p class="none">The list of vehicles needs JavaScript.</p></noscript>\
+</div>"""
 
 
 def heading(desks: list[Named], images: Images, now: int) -> str:

@@ -16,11 +16,11 @@ is made of. The maintainer is the line of `examples/service/maintainer`. Made tw
 commit, it is the same file.
 
 Links of the packed pages lead to what is packed; the text of another is followed by `(in the
-sources)`. Installing makes a user, a group of operators and folders, and enables the units, which start
-nothing before the founding. An upgrade leaves the service as it runs, and says so. Removing
-stops the units, and leaves data, copies, the spool and the journal. A program that was built
-without a proof is refused; with --unproved it is packed, and its version, its description and
-MANIFEST say so.
+sources)`. Installing makes a user, a group of operators and folders, and enables the units,
+which start nothing before the founding. An upgrade leaves the service as it runs, and says so.
+Removing stops the units, and leaves data, copies, the spool and the journal. A program that was
+built without a proof is refused; with --unproved it is packed, and its version, its description
+and MANIFEST say so.
 """
 import gzip
 import hashlib
@@ -82,22 +82,27 @@ set -e
 if [ "$1" = configure ] && [ -z "$DPKG_ROOT" ]; then sh /usr/lib/uptane_desk/setup.sh; fi
 if [ "$1" = configure ] && [ "$2" ] && [ -z "$DPKG_ROOT" ] && [ -d /run/systemd/system ]; then
     # the timers' scripts are the new ones; the service goes on until it is told
-    for unit in $(systemctl list-units --plain --no-legend --state=active 'uptane-desk.service' 'uptane-desk@*.service' | cut -d' ' -f1); do
-        echo "$unit still runs the program of $2: systemctl restart $unit starts this one, and copies the file first if its schema is older"
+    for unit in $(systemctl list-units --plain --no-legend --state=active \
+'uptane-desk.service' 'uptane-desk@*.service' | cut -d' ' -f1); do
+        echo "$unit still runs the program of $2: systemctl restart $unit \
+starts this one, and copies the file first if its schema is older"
     done
 fi
-if [ "$1" = configure ] && [ -z "$DPKG_ROOT" ] && ! ls /var/lib/uptane/desk*.db > /dev/null 2>&1; then
+if [ "$1" = configure ] && [ -z "$DPKG_ROOT" ] && ! ls /var/lib/uptane/desk*.db \
+> /dev/null 2>&1; then
     echo "nothing is founded yet: read Founding in /usr/share/doc/uptane-desk/docs/use/OPERATING.md"
 fi
 """
 BEFORE = """#!/bin/sh
 set -e
 if [ "$1" = remove ] && [ -z "$DPKG_ROOT" ] && [ -d /run/systemd/system ]; then
-    systemctl stop uptane-desk-refresh.timer uptane-desk-backup.timer uptane-desk-watch.timer uptane-desk-now.path
+    systemctl stop uptane-desk-refresh.timer uptane-desk-backup.timer uptane-desk-watch.timer \
+uptane-desk-now.path
     systemctl stop uptane-desk.service 'uptane-desk@*.service'
 fi
 if [ "$1" = remove ] && [ -z "$DPKG_ROOT" ]; then
-    systemctl disable uptane-desk.service uptane-desk-refresh.timer uptane-desk-backup.timer uptane-desk-watch.timer uptane-desk-now.path
+    systemctl disable uptane-desk.service uptane-desk-refresh.timer uptane-desk-backup.timer \
+uptane-desk-watch.timer uptane-desk-now.path
 fi
 """
 REMOVED = """#!/bin/sh
@@ -105,7 +110,8 @@ set -e
 if [ -z "$DPKG_ROOT" ] && [ -d /run/systemd/system ]; then systemctl daemon-reload; fi
 if [ "$1" = purge ]; then
     if [ -z "$DPKG_ROOT" ]; then rm -rf /etc/uptane/founded; fi
-    echo "what vehicles and operators made is left: /var/lib/uptane /var/backups/uptane /var/spool/uptane /var/log/uptane"
+    echo "what vehicles and operators made is left: /var/lib/uptane /var/backups/uptane \
+/var/spool/uptane /var/log/uptane"
 fi
 """
 

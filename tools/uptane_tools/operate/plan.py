@@ -36,6 +36,7 @@ MS milliseconds (5; a disk for servers takes 0.1).
 """
 import argparse
 from collections.abc import Iterator
+from dataclasses import dataclass
 
 from uptane_tools import arguments
 
@@ -90,28 +91,21 @@ def reply_bytes(given: argparse.Namespace) -> float:
     return row_bytes(texts(given) + given.names + ROW) + 2 * (given.names + ENTRY) / FULL
 
 
+@dataclass(frozen=True)
 class Desk:
     """What one desk of so many needs."""
 
-    def __init__(self, given: argparse.Namespace, desks: int) -> None:
-        self.vehicles = -(-given.vehicles // desks)
-        self.a_day = self.vehicles * given.manifests_a_day
-        self.kept = int(self.a_day * YEAR * given.years)
-        self.file = self.kept * reply_bytes(given)
-        self.start = self.kept / 1e6 * (START_SECONDS +
-                                        START_TEXT * texts(given) / 1000) / given.speed
-        self.peak = PROGRAM_BYTES + self.kept * (texts(given) + given.names + START_BYTES)
-        self.stays = min(self.peak, STAYS + self.kept * STAYS_BYTES)
-        self.away = 2 * given.refreshes * (
-            self.start + 1) + self.a_day * given.requests / CONNECTIONS * (self.start + 1)
-        signed = (given.ecus + 1) * VERIFY + 3 * SIGN if given.scheme == "ed25519" else 0
-        self.manifest = (MANIFEST + MANIFEST_ECU * given.ecus + signed +
-                         MANIFEST_KEPT * self.kept / 1000) / given.speed + 1000 * given.sync
-        self.busy = self.a_day * given.busiest / 3600 * self.manifest / 1e6
-        self.memory = self.stays * desks + self.peak
-        grown = min(self.file, 2 * self.a_day * reply_bytes(given))
-        self.disk = desks * (self.file + (2 * grown if given.clones else given.copies * self.file))
-        self.upgrade = desks * (self.start + 1) / 60
+    kept: int
+    file: float
+    start: float
+    peak: float
+    stays: float
+    away: float
+    manifest: float
+    busy: float
+    memory: float
+    disk: float
+    upgrade: float
 
     def lacks(self, given: argparse.Namespace) -> list[str]:
         """The names of what it doesn't keep below its limit."""
@@ -119,6 +113,27 @@ class Desk:
             "start": self.start <= given.seconds, "memory": self.memory <= given.memory * 1e9,
             "disk": self.disk <= given.disk * 1e9, "busy": self.busy <= 0.5}
         return [name for name, holds in limits.items() if not holds]
+
+
+def needed(given: argparse.Namespace, desks: int) -> Desk:
+    """What one desk of so many needs."""
+    vehicles = -(-given.vehicles // desks)
+    a_day = vehicles * given.manifests_a_day
+    kept = int(a_day * YEAR * given.years)
+    file = kept * reply_bytes(given)
+    start = kept / 1e6 * (START_SECONDS + START_TEXT * texts(given) / 1000) / given.speed
+    peak = PROGRAM_BYTES + kept * (texts(given) + given.names + START_BYTES)
+    stays = min(peak, STAYS + kept * STAYS_BYTES)
+    away = 2 * given.refreshes * (start + 1) + a_day * given.requests / CONNECTIONS * (start + 1)
+    signed = (given.ecus + 1) * VERIFY + 3 * SIGN if given.scheme == "ed25519" else 0
+    manifest = (MANIFEST + MANIFEST_ECU * given.ecus + signed +
+                MANIFEST_KEPT * kept / 1000) / given.speed + 1000 * given.sync
+    busy = a_day * given.busiest / 3600 * manifest / 1e6
+    memory = stays * desks + peak
+    grown = min(file, 2 * a_day * reply_bytes(given))
+    disk = desks * (file + (2 * grown if given.clones else given.copies * file))
+    upgrade = desks * (start + 1) / 60
+    return Desk(kept, file, start, peak, stays, away, manifest, busy, memory, disk, upgrade)
 
 
 def size(number: float) -> str:
@@ -130,7 +145,7 @@ def rows(given: argparse.Namespace, numbers: list[int]) -> Iterator[list[str]]:
         "desks", "replies each", "file", "start", "its peak", "stays", "away a day", "manifest",
         "busy", "memory", "disk", "upgrade", "too much"]
     for desks in numbers:
-        it = Desk(given, desks)
+        it = needed(given, desks)
         yield [
             str(desks),
             format(it.kept, ","),
@@ -156,7 +171,8 @@ def printed(table: list[list[str]]) -> None:
 def enough(given: argparse.Namespace) -> int | None:
     """The least number of desks that keeps all below the limits; none where 64 don't."""
     return next(
-        (desks for desks in range(1, MOST_DESKS + 1) if not Desk(given, desks).lacks(given)), None)
+        (desks for desks in range(1, MOST_DESKS + 1) if not needed(given, desks).lacks(given)),
+        None)
 
 
 def parsed(words: arguments.Words) -> argparse.Namespace:

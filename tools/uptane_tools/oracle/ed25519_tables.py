@@ -7,10 +7,10 @@ them.
 
 The files are, in crates/up_field: src/comb_table.rt, rows of sums and differences of powers of
 two that are 51 bits apart, and proofs/CombSteps.antt; src/odd_table.rt, odd multiples, and
-proofs/OddSteps.antt; src/far_table.rt and proofs/FarSteps.antt, those of 2^129 times it. A step of a proof names a point, the number whose multiple it is, and which
-two points before it add up to it. The prover tests each step and each entry
-(proofs/Chains.antt): this program is trusted in nothing. All numbers are computed here from RFC
-8032, section 5.1.
+proofs/OddSteps.antt; src/far_table.rt and proofs/FarSteps.antt, those of 2^129 times it. A step
+of a proof names a point, the number whose multiple it is, and which two points before it add up
+to it. The prover tests each step and each entry (proofs/Chains.antt): this program is trusted in
+nothing. All numbers are computed here from RFC 8032, section 5.1.
 """
 from pathlib import Path
 
@@ -142,8 +142,10 @@ ghost use Rattle.up_field.specs.Comb.{IsComb};
 use crate::affine::Affine;
 use crate::words::Words;
 '''
-COMB_TEXT = '''/// Seventeen rows of sixteen entries: sums and differences of the base point's multiples by 1, 2^51, 2^102, 2^153 and 2^204, in
-/// each row eight times those of the row before. The place of an entry has a bit for each but the highest: it is added where it is 1.
+COMB_TEXT = '''/// Seventeen rows of sixteen entries: sums and differences of the base point's \
+multiples by 1, 2^51, 2^102, 2^153 and 2^204, in
+/// each row eight times those of the row before. The place of an entry has a bit for each but the \
+highest: it is added where it is 1.
 pub(crate) fn comb_table() -> &'static [Affine; 272]
     ensures { IsComb result.now }'''
 ODD_USES = '''ghost use Rattle.std.specs.Prelude.{◌≡◌};

@@ -12,7 +12,8 @@ import socket
 import sys
 import time
 from collections.abc import Iterator
-from typing import Any, NamedTuple
+from dataclasses import dataclass
+from typing import Any
 
 from uptane_tools.oracle import reference
 
@@ -43,7 +44,8 @@ class BadRequest(Exception):
     pass
 
 
-class Next(NamedTuple):
+@dataclass(frozen=True)
+class Next:
     """A request: the words of the check that it fails, the body of a manifest, or a repository
     and a filename; whether its method is HEAD, whether the stream ends with it, and the method
     that its route takes.

@@ -216,8 +216,10 @@ def of_update(it: Chain) -> Cases:
         "snapshot", members(expires=moment(NOW))), {}
     yield "freeze", "a year later: the Root has expired too", no, {}, {"now": NOW + 366 * DAY}
     for role in ("timestamp", "snapshot", "targets"):
-        yield "rollback", "a greater version of the Director's %s was verified before" % role, no, {}, trusted("director", **{role: 2})
-        yield "rollback", "a greater version of the Image repository's %s was verified before" % role, no, {}, trusted("image", **{role: 9})
+        for repository, whose, version in (("director", "Director's", 2),
+                                           ("image", "Image repository's", 9)):
+            yield "rollback", "a greater version of the %s %s was verified before" % (
+                whose, role), no, {}, trusted(repository, **{role: version})
     yield "rollback", "the gateway has a greater release", no, {}, {
         "installed": {"gw": {"release": 3}}}
     yield "mix and match", "the Timestamp names another Snapshot", no, it.director(
@@ -257,10 +259,10 @@ def of_update(it: Chain) -> Cases:
         "targets", nothing, it.keys["image"]["targets"]["keys"]), {}
     yield "arbitrary software", "a Snapshot in place of Targets", no, it.director(
         "targets", members(type="snapshot")), {}
-    yield "arbitrary software", "Targets of the Image repository in place of the Director's", no, it.director(
-        "targets", members(repository="image")), {}
-    yield "arbitrary software", "the Director's Targets in place of the Image repository's", no, it.image(
-        "targets", members(repository="director")), {}
+    name = "Targets of the Image repository in place of the Director's"
+    yield "arbitrary software", name, no, it.director("targets", members(repository="image")), {}
+    name = "the Director's Targets in place of the Image repository's"
+    yield "arbitrary software", name, no, it.image("targets", members(repository="director")), {}
     yield "arbitrary software", "the Image repository has no Targets", no, {
         "image/targets.json": None}, {}
     yield "wrong vehicle", "another vehicle's reply", no, {"reply": it.other}, {}
@@ -313,13 +315,13 @@ def signed_otherwise(it: Chain) -> Cases:
 def of_forms(it: Chain) -> Cases:
     """Cases of one repository's members and texts."""
     yes, no = "accepted", "refused"
-    yield "mix and match", "the Image repository's Timestamp names another version of the Snapshot", no, it.image(
+    name = "the Image repository's Timestamp names another version of the Snapshot"
+    yield "mix and match", name, no, it.image(
         "timestamp", lambda signed: signed["meta"]["snapshot.json"].update(version=9)), {}
     for place, whose in enumerate(("the Director's", "the Image repository's")):
-        yield "none", "%s Snapshot has white space, and the Timestamp the SHA-256 of that text" % whose, yes, it.spaced(
-            True)[place], {}
-        yield "mix and match", ("%s Snapshot has white space, and the Timestamp the SHA-256 of the "
-                                "canonical text") % whose, no, it.spaced(False)[place], {}
+        name = "%s Snapshot has white space, and the Timestamp the SHA-256 of " % whose
+        yield "none", name + "that text", yes, it.spaced(True)[place], {}
+        yield "mix and match", name + "the canonical text", no, it.spaced(False)[place], {}
     yield "none", "white space between the members of the reply", yes, {
         "reply": it.files["reply"].replace(',"snapshot":', ' , "snapshot" : ').replace(
             ',"targets":{"sig', '\n, "targets":{"sig')}, {}
@@ -348,8 +350,9 @@ def of_new_roots(it: Chain) -> Cases:
 
         yield "none", "%s new Root has the same keys" % whose, yes, root(nothing) | told, {}
         for role in ("timestamp", "snapshot"):
-            yield "rollback", "%s new Root has the same keys: the version of the %s isn't forgotten" % (
-                whose, role.capitalize()), no, root(nothing) | told, greater(**{role: 99})
+            name = "%s new Root has the same keys: the version of the %s isn't forgotten" % (
+                whose, role.capitalize())
+            yield "rollback", name, no, root(nothing) | told, greater(**{role: 99})
             for other in ("timestamp", "snapshot"):
                 found = own(role, nothing, second[role]["keys"], **more) if more else own(
                     role, nothing, second[role]["keys"])
@@ -414,12 +417,13 @@ def of_root_keys(it: Chain) -> Cases:
                                                                             roots) | told, {}
     yield "arbitrary software", "a Root that lists a key which it hasn't", no, it.root(
         lambda signed: signed["roles"]["targets"]["keyids"].append(64 * "0"), roots) | told, {}
-    yield "arbitrary software", "a Root that lists a key of a role twice, though enough sign", no, it.root(
+    name = "a Root that lists a key of a role twice, though enough sign"
+    yield "arbitrary software", name, no, it.root(
         lambda signed: signed["roles"]["targets"]["keyids"].append(signed["roles"]["targets"][
             "keyids"][0]), roots) | told, {}
-    yield "too few signatures", "a Root with a threshold of 0, and Targets under another role's key", no, it.root(
-        listed(threshold=0), roots) | it.director("targets", nothing, one_key("snapshot"),
-                                                  root=2), {}
+    name = "a Root with a threshold of 0, and Targets under another role's key"
+    yield "too few signatures", name, no, it.root(listed(threshold=0), roots) | it.director(
+        "targets", nothing, one_key("snapshot"), root=2), {}
 
     def above(signed: dict[str, Any]) -> None:
         return signed["roles"]["timestamp"].update(threshold=2)
@@ -432,14 +436,15 @@ def of_root_keys(it: Chain) -> Cases:
                                  "the role's keys"), no, it.root(above, roots) | {
                                      "director/3.root.json": third} | it.reply(root=3), {}
     passed = it.root(members(expires=moment(NOW)), roots)
-    yield "none", "the first of two new Roots has expired, and the latest hasn't", "accepted", passed | {
-        "director/3.root.json": third} | it.reply(root=3), {}
+    name = "the first of two new Roots has expired, and the latest hasn't"
+    yield "none", name, "accepted", passed | {"director/3.root.json": third} | it.reply(root=3), {}
     yield "none", "the trusted Root has expired, and the latest hasn't", "accepted", it.root(
         members(expires=moment(NOW)), roots, number=1) | {"director/2.root.json": last} | told, {}
     own = FIRST["image"]["root"]["keys"]
     again = it.root(nothing, own, "image")
-    yield "none", "the Image repository's trusted Root has expired, and the latest hasn't", "accepted", it.root(
-        members(expires=moment(NOW)), own, "image", 1) | again, {}
+    name = "the Image repository's trusted Root has expired, and the latest hasn't"
+    yield "none", name, "accepted", it.root(members(expires=moment(NOW)), own, "image",
+                                            1) | again, {}
     later = canonical(resigned(json.loads(again["image/2.root.json"]), members(version=3), own))
     yield "none", ("the first of two new Roots of the Image repository has expired, and the latest "
                    "hasn't"), "accepted", it.root(members(expires=moment(NOW)), own, "image") | {
@@ -454,7 +459,8 @@ def of_image_rotation(it: Chain) -> Cases:
     def root(change: Callable[..., Any], keys: list[str]) -> dict[str, str]:
         return it.root(change, keys, "image")
 
-    yield "none", "versions of the Image repository's files whose keys were replaced are forgotten", yes, {}, trusted("image", timestamp=99, snapshot=99)
+    name = "versions of the Image repository's files whose keys were replaced are forgotten"
+    yield "none", name, yes, {}, trusted("image", timestamp=99, snapshot=99)
     yield "none", "so is that of its Targets", yes, {}, trusted("image", targets=99)
     yield "freeze", "the Image repository's new Root is kept back", no, {
         "image/2.root.json": None}, {}
@@ -502,8 +508,8 @@ def of_rotation(it: Chain) -> Cases:
     def twice(signed: dict[str, Any]) -> None:
         return signed["roles"]["root"].update(keyids=2 * signed["roles"]["root"]["keyids"][:1])
 
-    yield "a key twice", "a Root that lists one of its keys twice, and isn't signed by the other", no, it.root(
-        twice, second[:1] + first), {}
+    name = "a Root that lists one of its keys twice, and isn't signed by the other"
+    yield "a key twice", name, no, it.root(twice, second[:1] + first), {}
     yield "a key twice", "a Root that lists one key under two names", no, two_names(
         it, second, first), {}
     yield "rollback", "a Root of a later version in its place", no, it.root(

@@ -8,14 +8,11 @@ independent rules, and each row wants what is computed from the formats; what cr
 of the cases that are computed is a part of these; the small Primary builds and checks what its page
 shows.
 """
-import contextlib
 import os
 import re
 import shlex
-import socket
 import subprocess
 import sys
-import time
 from collections.abc import Iterator
 from pathlib import Path
 from typing import Any
@@ -92,24 +89,6 @@ def primary() -> Iterator[tuple[str, bool]]:
         tool, "check", keys, given=broken)[0] == 1
 
 
-@contextlib.contextmanager
-def served(path: Path) -> Iterator[int]:
-    """The port at which the independent rules answer over HTTP."""
-    with socket.socket() as it:
-        it.bind(("127.0.0.1", 0))
-        port = it.getsockname()[1]
-    words = [sys.executable, trials.RUN, "reference", "serve", str(path), str(port)]
-    with subprocess.Popen(words, stdout=subprocess.DEVNULL, stderr=subprocess.DEVNULL) as running:
-        try:
-            for _ in range(100):
-                with contextlib.suppress(OSError), socket.create_connection(("127.0.0.1", port), 1):
-                    break
-                time.sleep(0.1)
-            yield port
-        finally:
-            running.kill()
-
-
 def reference() -> Iterator[tuple[str, bool]]:
     """What stands in for the product where the kit isn't there: a script's answers, and the
     exchanges of the page on HTTP.
@@ -120,7 +99,7 @@ def reference() -> Iterator[tuple[str, bool]]:
             trials.RUN, "reference", "run", own / "desk", given=read(
                 first / "script")) == (0, read(first / "printed"))
         page = read(trials.TOP / "docs" / "integrate" / "HTTP.md")
-        with served(own / "desk") as port:
+        with trials.rules_served(own / "desk") as port:
             for asked, shown in re.findall(r"^    \$ (curl [^\n]*)\n((?:    [^\n]*\n|\n(?=    ))*)",
                                            page, re.M):
                 came = http_cases.by_library(shlex.split(asked.replace(":8080", ":%d" % port)))

@@ -5,7 +5,8 @@ the first row, and those that are wrong on purpose.
 """
 import json
 import sqlite3
-from collections.abc import Iterator
+from collections.abc import Iterator, Sequence
+from dataclasses import dataclass
 from pathlib import Path
 from typing import Any
 from uptane_tools import TOP
@@ -46,13 +47,15 @@ def is_command(line: str) -> bool:
     return False
 
 
+@dataclass(frozen=True)
 class Row:
     """A row: its name, the method of its scheme, and its lines, each with the line that is
     printed and the text of its reply.
     """
 
-    def __init__(self, name: str, method: str, steps: Any) -> None:
-        self.name, self.method, self.steps = name, method, steps
+    name: str
+    method: str
+    steps: Sequence[tuple[Any, ...]]
 
     def given(self) -> str:
         out = ["row " + self.name, "@ " + self.method]

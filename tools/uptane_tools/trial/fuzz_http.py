@@ -24,6 +24,7 @@ import shutil
 import socket
 import sqlite3
 from contextlib import closing
+from dataclasses import dataclass
 from pathlib import Path
 from typing import Any
 
@@ -33,18 +34,25 @@ from uptane_tools.oracle import reference, reference_http
 from uptane_tools.trial import fuzz, http_cases, trials
 
 
+@dataclass(frozen=True)
 class Request:
-    """Its bytes, what it asks, and how its answer ends: `check` is a fixed answer, `asks` a body
-    or a file.
+    """What it is made of, what it asks, and how its answer ends: `check` is a fixed answer, `asks`
+    a body or a file.
     """
 
-    def __init__(self, method: str, target: str, fields: list[str], body: bytes = b"",
-                 version: str = "1.1", check: tuple[str, str | None] | None = None,
-                 asks: bytes | tuple[str, str] | None = None, ends: bool = False) -> None:
-        lines = ["%s %s HTTP/%s" % (method, target, version), *fields]
-        self.sent = "".join(line + "\r\n" for line in lines).encode() + b"\r\n" + body
-        self.check, self.asks, self.is_head = check, asks, method == "HEAD"
-        self.ends = ends or version == "1.0"
+    method: str
+    target: str
+    fields: list[str]
+    body: bytes = b""
+    version: str = "1.1"
+    check: tuple[str, str | None] | None = None
+    asks: bytes | tuple[str, str] | None = None
+    ends: bool = False
+
+    def sent(self) -> bytes:
+        """Its bytes."""
+        lines = ["%s %s HTTP/%s" % (self.method, self.target, self.version), *self.fields]
+        return "".join(line + "\r\n" for line in lines).encode() + b"\r\n" + self.body
 
 
 def answer(desk: reference.Desk, request: Request, moments: dict[tuple[str, int], int]) -> bytes:
@@ -57,10 +65,10 @@ def answer(desk: reference.Desk, request: Request, moments: dict[tuple[str, int]
         with contextlib.suppress(reference.Refused):
             told = reference.read_manifest(what)
             at = moments.get((told["vehicle"], told["counter"]), 0)
-    ends = request.ends or bool(
+    ends = request.ends or request.version == "1.0" or bool(
         request.check) and reference_http.CHECKS[what][0] in (400, 411, 413, 501)
-    return reference_http.answer(desk, at,
-                                 reference_http.Next(what, request.is_head, ends, allow or ""))
+    return reference_http.answer(
+        desk, at, reference_http.Next(what, request.method == "HEAD", ends, allow or ""))
 
 
 class Stream:
@@ -257,14 +265,14 @@ def served_as(program: Path, path: Path, desk: reference.Desk, requests: list[Re
     its answers by the rules.
     """
     with http_cases.served(program, path, 1) as running:
-        told = came(running, b"".join(it.sent for it in requests), rng)
+        told = came(running, b"".join(it.sent() for it in requests), rng)
         if not http_cases.ended(running):
             return "another end"
     moments = kept_moments(path)
     for number, request in enumerate(requests, 1):
         wanted = answer(desk, request, moments)
         if not told.startswith(wanted):
-            words = number, request.sent[:300], wanted[:300], told[:300]
+            words = number, request.sent()[:300], wanted[:300], told[:300]
             return "request %d: %r\n  rules: %r\n  program: %r" % words
         told = told[len(wanted):]
         if request.check is None:

@@ -6,10 +6,8 @@ installed, and the state that is written; the manifests that it builds, and roun
 
 promise: primary-told, primary-verifies, primary-roots
 """
-import contextlib
 import json
 import os
-import socket
 import subprocess
 import sys
 import time
@@ -184,7 +182,7 @@ def keys_of(folder: Path) -> dict[str, Any]:
 
 def went(folder: Path, word: str) -> tuple[int, str]:
     """The status of the script, and what it printed."""
-    with served(folder) as port:
+    with trials.rules_served(folder / "desk") as port:
         words = [
             sys.executable,
             str(trials.TOP / "examples" / "proved_primary" / "round.py"), word,
@@ -194,22 +192,6 @@ def went(folder: Path, word: str) -> tuple[int, str]:
         ran = subprocess.run(words, capture_output=True, check=False, timeout=120,
                              env=os.environ | {"PATH": path})
     return ran.returncode, ran.stdout.decode("ascii")
-
-
-@contextlib.contextmanager
-def served(folder: Path) -> Iterator[int]:
-    """A service by the rules, at a port of its own."""
-    with socket.socket() as free:
-        free.bind(("127.0.0.1", 0))
-        port = free.getsockname()[1]
-    words = [sys.executable, str(trials.RUN), "reference", "serve", str(folder / "desk"), str(port)]
-    with subprocess.Popen(words, stdout=subprocess.PIPE, stderr=subprocess.DEVNULL) as running:
-        assert running.stdout is not None
-        running.stdout.readline()
-        try:
-            yield port
-        finally:
-            running.terminate()
 
 
 def main(words: arguments.Words = None) -> int:

@@ -8,8 +8,9 @@ promise: primary-verifies
 """
 import json
 from collections.abc import Callable
+from dataclasses import dataclass
 from pathlib import Path
-from typing import Any, NamedTuple
+from typing import Any
 
 from uptane_tools import arguments
 from uptane_tools.oracle import reference, verification
@@ -62,7 +63,8 @@ ANYTHING = REGISTERED | OLDER | {
     "one under the thief's Root": "evil.bin"}
 
 
-class Row(NamedTuple):
+@dataclass(frozen=True)
+class Row:
     """What is stolen, with its keys; of which repositories the premises of a law are met; and what
     comes of each act.
     """

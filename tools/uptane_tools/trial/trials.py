@@ -1,5 +1,6 @@
 """What the tools that try the program from outside have in common."""
 import shutil
+import socket
 import sqlite3
 import subprocess
 import sys
@@ -68,6 +69,22 @@ def folder(within: Any = None) -> Iterator[Path]:
     """A new folder, in the usual place or in that one."""
     with tempfile.TemporaryDirectory(dir=within) as name:
         yield Path(name)
+
+
+@contextmanager
+def rules_served(path: Path) -> Iterator[int]:
+    """The port at which the independent rules answer over HTTP."""
+    with socket.socket() as free:
+        free.bind(("127.0.0.1", 0))
+        port = free.getsockname()[1]
+    words = [sys.executable, str(RUN), "reference", "serve", str(path), str(port)]
+    with subprocess.Popen(words, stdout=subprocess.PIPE, stderr=subprocess.DEVNULL) as running:
+        assert running.stdout is not None
+        running.stdout.readline()
+        try:
+            yield port
+        finally:
+            running.terminate()
 
 
 def each(program: Path, *parts: Callable[[Path, Path], Cases]) -> Cases:

@@ -6,9 +6,10 @@ page.
 systemd starts in a container: its files are this machine's, what it writes is in memory and gone
 at the end, and it has a network of its own. That needs root, overlayfs, systemd and
 systemd-nspawn (Debian's `systemd-container`), iproute2 and curl. Where one of them is missing
-nothing is tried, and it says which, as where the container doesn't come up. Takes a few minutes. With SCHEME=ed25519 the program is
-uptane_desk_ed25519. PART is one of ends, hardened, refreshed, dropped, copied, killed, broken,
-lost, restored, upgraded, queued, several, removed, in this order; all where none is named.
+nothing is tried, and it says which, as where the container doesn't come up. Takes a few minutes.
+With SCHEME=ed25519 the program is uptane_desk_ed25519. PART is one of ends, hardened, refreshed,
+dropped, copied, killed, broken, lost, restored, upgraded, queued, several, removed, in this order;
+all where none is named.
 """
 import contextlib
 import http.client
@@ -356,15 +357,20 @@ def call(*words):
 def send(address):
     socket.socket(socket.AF_INET, socket.SOCK_DGRAM).sendto(b"x", (address, 9))
 every = mmap.PROT_READ | mmap.PROT_WRITE | mmap.PROT_EXEC
-tried = {"writes in " + name: lambda name=name: write(name + "/probe") for name in ["/var/lib/uptane", *OTHERS]}
-tried |= {"a socket of " + name: lambda name=name: socket.socket(getattr(socket, name), socket.SOCK_DGRAM) for name in
-          ("AF_INET", "AF_INET6", "AF_UNIX", "AF_NETLINK")}
+tried = {"writes in " + name: lambda name=name: write(name + "/probe")
+         for name in ["/var/lib/uptane", *OTHERS]}
+tried |= {"a socket of " + name:
+          lambda name=name: socket.socket(getattr(socket, name), socket.SOCK_DGRAM)
+          for name in ("AF_INET", "AF_INET6", "AF_UNIX", "AF_NETLINK")}
 tried |= {"sends to " + name: lambda name=name: send(name) for name in ("127.0.0.1", "192.0.2.1")}
-tried |= {"sees " + name: lambda name=name: os.stat(name) for name in ["/proc/1/status", "/proc/sys", *SEEN]}
+tried |= {"sees " + name: lambda name=name: os.stat(name)
+          for name in ["/proc/1/status", "/proc/sys", *SEEN]}
 tried |= {"memory to write and to execute": lambda: mmap.mmap(-1, 4096, prot=every),
           "a file that runs as its owner": lambda: os.chmod("/var/lib/uptane/probe", 0o4700),
-          "another priority": lambda: call(141, 0, 0, 19), "an owner of a file": lambda: call(92, b"/var/lib/uptane/probe", -1, -1),
-          "another personality": lambda: call(135, 8), "another user": lambda: call(105, os.getuid()),
+          "another priority": lambda: call(141, 0, 0, 19),
+          "an owner of a file": lambda: call(92, b"/var/lib/uptane/probe", -1, -1),
+          "another personality": lambda: call(135, 8),
+          "another user": lambda: call(105, os.getuid()),
           "a core of its memory": lambda: call(160, 4, (ctypes.c_long * 2)(1, 1))}
 with open("/var/lib/uptane/told", "w") as out:
     for name, made in tried.items():

@@ -88,7 +88,7 @@ def planned(program: Path, own: Path) -> trials.Cases:
             reference.METHOD, *(["--one-hash"] if hashes == 1 else [])]
         given = plan.parsed(list(map(str, words)))
         given.manifests_a_day = kept / 100 / plan.YEAR
-        it = plan.Desk(given, 1)
+        it = plan.needed(given, 1)
         figures = path.stat().st_size, it.file, memory << 20, it.peak, took, it.start
         print("%d replies of %d ECUs: file %d, planned %d; memory %d, planned %d; start %.2f s, "
               "planned %.2f s" % (kept, ecus, *figures))
@@ -97,12 +97,12 @@ def planned(program: Path, own: Path) -> trials.Cases:
         yield "the seconds of its start", it.start / 8 < took < 8 * it.start + 0.5
     asked = ["--vehicles", "1000", "--ecus", "4"]
     away = [
-        plan.Desk(plan.parsed([*asked, *words]), 1).away
+        plan.needed(plan.parsed([*asked, *words]), 1).away
         for words in ((), ("--refreshes", "0"), ("--refreshes", "0", "--requests", "1000"))]
-    start = plan.Desk(plan.parsed(asked), 1).start + 1
+    start = plan.needed(plan.parsed(asked), 1).start + 1
     yield "two starts a refresh, and one behind a million connections", near(
         away[0] - away[1], 4 * start, 0.001) and near(away[2], start, 0.001)
-    disks = [plan.Desk(plan.parsed([*asked, *words]), 1) for words in ((), ("--clones", ))]
+    disks = [plan.needed(plan.parsed([*asked, *words]), 1) for words in ((), ("--clones", ))]
     yield "48 whole copies, or clones", near(disks[0].disk, 49 * disks[0].file,
                                              0.001) and disks[1].disk < 1.01 * disks[1].file
     few, many = (tool("plan", "--vehicles", 10_000, "--ecus", 4, *words)
