@@ -121,12 +121,12 @@ class HmacSha256:
     method, shown = "hmac-sha256", ""
 
     @staticmethod
-    def public(secret: bytes) -> bytes:
-        return secret
-
-    @staticmethod
     def tag(secret: bytes, text: bytes) -> str:
         return hmac.new(secret, text, hashlib.sha256).hexdigest()
+
+    @staticmethod
+    def public(secret: bytes) -> bytes:
+        return secret
 
 
 class Sha256Tag:
