@@ -32,6 +32,7 @@ from uptane_tools.trial import http_cases, trials
 GIVEN = trials.TOP / "examples" / "service"
 MANIFEST, REPLY = (
     (trials.MESSAGES / name).read_bytes().strip() for name in ("manifest.json", "reply.json"))
+VEHICLES = ("VIN-1", "VIN-2", "VIN-3")
 STRANGERS, AT_ONCE, ROUNDS, PATIENCE, SLOWEST, HUNDRED = 40, 300, 20, 60, 10, 100
 
 
@@ -242,10 +243,12 @@ def limited(proxy: Proxy) -> trials.Cases:
 
 def listed(proxy: Proxy, log: Callable[[], str] | None) -> trials.Cases:
     """The log has the vehicles, with the status of their answers."""
-    lines = (proxy.own / "access.log").read_text("ascii") if log is None else log()
-    found = {
-        it: set(re.findall(r"vehicle=%s .*status=(\d+)" % it, lines))
-        for it in ("VIN-1", "VIN-2", "VIN-3")}
+    ends, lines, found = time.monotonic() + 5, "", dict.fromkeys(VEHICLES, set[str]())
+    # (a proxy may write a line only behind the answer)
+    while not all(found.values()) and time.monotonic() < ends:
+        time.sleep(0.1)
+        lines = (proxy.own / "access.log").read_text("ascii") if log is None else lines + log()
+        found = {it: set(re.findall(r"vehicle=%s .*status=(\d+)" % it, lines)) for it in VEHICLES}
     yield proxy.name + ": the log has each vehicle", found == {
         "VIN-1": {"200"}, "VIN-2": {"200", "429"}, "VIN-3": {"200"}} or print(found)
 
