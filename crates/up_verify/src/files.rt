@@ -12,6 +12,7 @@ ghost use Rattle.up_verify.specs.declared.refused.Role.TheVariants.{Timestamp as
 
 use crate::asked::{Asked, Says};
 use crate::known_key::KnownKey;
+use crate::plain_targets::plain_targets;
 use crate::refused::{Fault, Refused, Role};
 use crate::roots::same_repository;
 use crate::served::Checked;
@@ -300,6 +301,10 @@ fn test_targets<K: Shows>(
 fn targets_at(alloc: Global, bytes: &[u8]) -> Result<(TargetsFile, Envelope), Fault>
     ensures { ChecksFile result (or_unread (targets_in bytes.now)) }
 {
+    // The Image repository's lists all of its images.
+    if let Some(read) = plain_targets(alloc, bytes) {
+        return Ok(read);
+    }
     match read_targets(alloc, bytes) {
         Ok(read) => Ok(read),
         Err(refusal) => Err(Fault::Unread(refusal)),
