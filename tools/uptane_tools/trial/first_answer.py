@@ -25,7 +25,7 @@ NEXT = """It is %s. What may be tried next:
     %s serve %s 8080  serves what it keeps, until it is stopped
     curl http://127.0.0.1:8080/image/targets.json   then fetches the list of images
     tools/run fleet_page %s > fleet.html  makes a page of the fleet
-    bash .ci/run                                    proves the program and tries it, in an hour or two
+    bash .ci/run                                    proves and tries the program, in an hour or two
 Founded, a vehicle added, its first manifest delivered:
 """
 
