@@ -26,7 +26,8 @@ LIMIT = 900
 # the longest first
 TRIED = [("file_cases", ), ("fuzz", "1", "50"), ("fuzz", "51", "50"), ("http_fleet", ),
          ("fuzz_http", "1", "50"), ("fuzz_http", "51", "50"), ("http_cases", ), ("proxy_cases", ),
-         ("fuzz", "bodies", "1", "10"), ("each_line", ), ("damaged_rows", ), ("tables", )]
+         ("fuzz", "bodies", "1", "10"), ("crowd_kills", "1000", "5"), ("hostile", "10000"),
+         ("each_line", ), ("damaged_rows", ), ("tables", )]
 # what operators and integrators use
 TRIED += [("copy_cases", "2"), ("primary_cases", ), ("operator_cases", ), ("scale_cases", ),
           ("large_cases", ), ("vector_cases", ), ("upkeep_cases", )]
