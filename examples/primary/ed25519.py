@@ -14,7 +14,7 @@ Point = tuple[int, int, int, int]
 # ---- 5.1: the parameters
 
 P = 2**255 - 19
-D = -121665 * pow(121666, P - 2, P) % P
+D = -121665 * pow(121666, -1, P) % P
 ORDER = 2**252 + 27742317777372353535851937790883648493
 ROOT_OF_MINUS_1 = pow(2, (P - 1) // 4, P)
 NEUTRAL = (0, 1, 1, 0)
@@ -58,7 +58,7 @@ def is_same(one: Point, other: Point) -> bool:
 
 
 def encode(point: Point) -> bytes:
-    inverse = pow(point[2], P - 2, P)
+    inverse = pow(point[2], -1, P)
     x, y = point[0] * inverse % P, point[1] * inverse % P
     return (y | (x & 1) << 255).to_bytes(32, "little")
 
@@ -92,7 +92,7 @@ def is_public(data: bytes) -> bool:
         multiple(ORDER, point), NEUTRAL)
 
 
-BASE = decode((4 * pow(5, P - 2, P) % P).to_bytes(32, "little")) or NEUTRAL
+BASE = decode((4 * pow(5, -1, P) % P).to_bytes(32, "little")) or NEUTRAL
 
 
 def rows_of_multiples() -> Iterator[list[Point]]:

@@ -47,11 +47,14 @@ image_of map = do
   file ← file_name_in (codes "file") map
   Ok (record { file = file; length = size; sha256 = sha256; sha512 = sha512 })
 
+-- the moment of so many seconds, up to the last one
+abbrev pub moment_as : ℕ → Result ℕ Refusal
+moment_as second = if nat_le second last_moment then Ok second else Err (BadShape (codes "time"))
+
 unfoldable pub time_in : Data → Result ℕ Refusal
 time_in map = do
   time ← count_in (codes "time") map
-  fits ← unless (nat_le time last_moment) (BadShape (codes "time"))
-  Ok time
+  moment_as time
 
 unfoldable pub report_of : Data → Result Report Refusal
 report_of map = do

@@ -5,7 +5,7 @@ ghost use Rattle.serde_json.specs.View.{view};
 ghost use Rattle.up_canon.specs.Members.{object_of_map, values_of};
 ghost use Rattle.up_canon.specs.Refusals.{Gives};
 ghost use Rattle.up_canon.specs.Steps.{each};
-ghost use Rattle.up_reporting.specs.Listed.{envelope_of as envelope_of_value, report_of as report_of_value, image_of as image_of_value, time_in, second_hash_in};
+ghost use Rattle.up_reporting.specs.Listed.{envelope_of as envelope_of_value, report_of as report_of_value, image_of as image_of_value, moment_as, time_in, second_hash_in};
 ghost use Rattle.up_sign.specs.Formats.{envelope_fits};
 
 use crate::signing::secret_at;
@@ -73,7 +73,14 @@ fn report_of(alloc: Global, map: &Map<String, Value>) -> Result<Report, Refusal>
 fn time_at(map: &Map<String, Value>) -> Result<Moment, Refusal>
     ensures { Gives result (time_in (object_of_map map.now.entries)) }
 {
-    match Moment::new(count_at(map, "time")?.get()) {
+    let time = count_at(map, "time")?;
+    moment_of(time.get())
+}
+
+fn moment_of(second: u64) -> Result<Moment, Refusal>
+    ensures { Gives result (moment_as second) }
+{
+    match Moment::new(second) {
         Some(time) => Ok(time),
         None => Err(Refusal::from("time")),
     }

@@ -76,7 +76,7 @@ def depth(value: Any) -> int:
 
 def is_plain(value: Any) -> bool:
     if isinstance(value, str):
-        return all(" " <= c <= "~" for c in value)
+        return value.isascii() and value.isprintable()
     if isinstance(value, list):
         return all(map(is_plain, value))
     if isinstance(value, dict):
