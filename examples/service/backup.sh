@@ -4,8 +4,8 @@
 #
 #     backup.sh
 #
-# A service stands still while its file is copied: some milliseconds where COPIES is on the same filesystem and that can clone (XFS,
-# Btrfs). The program opens the copy as at a start, which takes the time and the memory of one; where that is much, TRY_EACH minutes may
+# A service stands still for some milliseconds while its log is copied, or, where COPIES is on the same filesystem and that can clone (XFS,
+# Btrfs), its file too. The program opens the copy as at a start, which takes the time and the memory of one; where that is much, TRY_EACH minutes may
 # lie between two tries. One that it refuses is named `-untaken` and doesn't count. Behind a copy that it took, the newest KEEP copies of
 # the desk stay, and as many of those that apply.sh made before and behind what it gave; those before a raise of the schema are never
 # removed. Then AFTER is run with the names of the new
