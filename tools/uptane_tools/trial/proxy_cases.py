@@ -4,13 +4,17 @@ installed, and the units.
     tools/run proxy_cases PROGRAM
 
 Hundreds of clients that send nothing, a part or a byte a second, or that read nothing, stay at
-the proxy while vehicles' requests are sent through it. Of the configurations addresses, paths
-and the user are changed, and nothing else. What isn't installed (nginx, haproxy,
-systemd-analyze; openssl, without which the proxies are tried without TLS) is left out, and told.
-Takes half a minute.
+the proxy while vehicles' requests are sent through it. One of 64 vehicles sends without end,
+under its own name and under others; each limit is tried alone. Of the configurations addresses,
+paths and the user are changed, for the second and third of these limits the figure before them,
+and the lines for vehicles' certificates are taken in. Each client comes from an address of its
+own. What isn't installed (nginx, haproxy, systemd-analyze; openssl, without which the proxies
+are tried without TLS) is left out, and told. Takes a minute.
 """
 import contextlib
 import http.client
+import itertools
+import json
 import os
 import re
 import resource
@@ -21,12 +25,15 @@ import subprocess
 import tempfile
 import threading
 import time
-from collections.abc import Callable, Iterator
+from collections import Counter
+from collections.abc import Callable, Iterable, Iterator
 from concurrent.futures import ThreadPoolExecutor
 from pathlib import Path
 from typing import Any
 
 from uptane_tools import arguments
+from uptane_tools.measure import fleet
+from uptane_tools.oracle import reference
 from uptane_tools.trial import http_cases, trials
 
 GIVEN = trials.TOP / "examples" / "service"
@@ -34,13 +41,24 @@ MANIFEST, REPLY = (
     (trials.MESSAGES / name).read_bytes().strip() for name in ("manifest.json", "reply.json"))
 VEHICLES = ("VIN-1", "VIN-2", "VIN-3")
 STRANGERS, AT_ONCE, ROUNDS, PATIENCE, SLOWEST, HUNDRED = 40, 300, 20, 60, 10, 100
+# the vehicles of the fleet in which one floods, and the longest body that is taken
+FLEET, LONGEST = 64, 65_536
+# the addresses of this host from which clients come, each from the next one
+ADDRESSES = ("127.%d.%d.%d" % (1 + it // 62_500, 1 + it // 250 % 250, 1 + it % 250)
+             for it in itertools.count())
+
+Changes = Iterable[tuple[str, str]]
 
 
 class Proxy:
-    """A proxy at a port, before a service at another one."""
+    """A proxy at a port, before a service at another one. `more` are further changes of its
+    configuration: a text that it has, and the one in its place.
+    """
 
-    def __init__(self, own: Path, name: str, port: int, service: int, secret: bool) -> None:
+    def __init__(self, own: Path, name: str, port: int, service: int, secret: bool,
+                 more: Changes = ()) -> None:
         self.own, self.name, self.port, self.service, self.secret = own, name, port, service, secret
+        self.more = more
         # (nobody need listen there)
         self.logged = 9
 
@@ -55,11 +73,15 @@ class Proxy:
     def changed(self, text: str) -> str:
         """The configuration with other addresses, paths and user."""
         own, there = str(self.own), "127.0.0.1:%d" % self.port
+        for old, new in self.more:
+            assert old in text, old
+            text = text.replace(old, new)
         text = text.replace("127.0.0.1:8080", "127.0.0.1:%d" % self.service)
         if self.name == "haproxy":
             text = text.replace("log /dev/log local0", "log 127.0.0.1:%d local0" % self.logged)
             bound = there + (" ssl crt %s/both.pem" % own if self.secret else "")
-            return text.replace(":443 ssl crt /etc/uptane/both.pem", bound)
+            text = text.replace(":443 ssl crt /etc/uptane/both.pem", bound)
+            return text.replace("/etc/uptane/", own + "/")
         text = text.replace("listen 443 ssl",
                             "listen %s%s" % (there, " ssl" if self.secret else ""))
         text = text.replace("/etc/uptane/", own +
@@ -87,17 +109,23 @@ class Proxy:
             it.terminate()
             it.wait()
 
-    def connected(self) -> Any:
-        plain = socket.create_connection(("127.0.0.1", self.port), timeout=PATIENCE)
+    def connected(self, source: str | None = None, shown: str | None = None) -> Any:
+        """A connection from this address, or from one that no other came from, which shows the
+        certificate of a vehicle.
+        """
+        plain = socket.create_connection(("127.0.0.1", self.port), timeout=PATIENCE,
+                                         source_address=(source or next(ADDRESSES), 0))
         if not self.secret:
             return plain
         trusting = ssl.create_default_context(cafile=str(self.own / "certificate.pem"))
+        if shown:
+            trusting.load_cert_chain(self.own / (shown + ".pem"))
         return trusting.wrap_socket(plain, server_hostname="desk.example")
 
-    def client(self) -> http.client.HTTPConnection:
+    def client(self, *words: Any) -> http.client.HTTPConnection:
         """Python's client, over a connection of this kind."""
         client = http.client.HTTPConnection("desk.example", timeout=PATIENCE)
-        client.sock = self.connected()
+        client.sock = self.connected(*words)
         return client
 
 
@@ -113,15 +141,18 @@ def certified(own: Path) -> bool:
         str(own / "key.pem"), "-out",
         str(own / "certificate.pem")]
     subprocess.run(words, check=True, capture_output=True)
+    (own / "vehicles.pem").write_bytes((own / "certificate.pem").read_bytes())
     (own / "both.pem").write_bytes((own / "certificate.pem").read_bytes() +
                                    (own / "key.pem").read_bytes())
     return True
 
 
 def asked(proxy: Proxy, method: Any, target: str, body: Any = None, times: int = 1,
-          **more: Any) -> list[tuple[int, bytes]]:
-    """The answers to a request, so many times over one connection of the client's."""
-    with contextlib.closing(proxy.client()) as client:
+          come: tuple[Any, ...] = (), **more: Any) -> list[tuple[int, bytes]]:
+    """The answers to a request, so many times over one connection of the client's, which comes
+    from an address and with a certificate where these are given.
+    """
+    with contextlib.closing(proxy.client(*come)) as client:
         told = []
         for _ in range(times):
             client.request(method, target, body, **more)
@@ -142,8 +173,8 @@ def exchanges(root: bytes) -> list[Any]:
             ("GET", "/image/root.json?a=%20", None, (200, root)),
             ("POST", "/director/manifest", b"{", (400, b'{"error":5,"text":"NotJson"}')),
             ("GET", "/nothing", None, (404, b'{"error":0,"text":"not found"}')),
-            ("POST", "/director/manifest", 262144 * b" ", (400, b'{"error":5,"text":"NotJson"}')),
-            ("POST", "/director/manifest", 262145 * b" ", (413, large))]
+            ("POST", "/director/manifest", LONGEST * b" ", (400, b'{"error":5,"text":"NotJson"}')),
+            ("POST", "/director/manifest", (LONGEST + 1) * b" ", (413, large))]
 
 
 # ---- clients that stay
@@ -222,11 +253,14 @@ def passes(proxy: Proxy, root: bytes) -> trials.Cases:
         yield name + ": many at once", all(came == [(200, REPLY)] for came, _ in told)
 
 
+TARGET = "/%s/director/manifest"
+
+
 def limited(proxy: Proxy) -> trials.Cases:
     """A vehicle whose address begins with its identifier: its requests are limited, and it
     stands in the log.
     """
-    name, target = proxy.name, "/%s/director/manifest"
+    name, target = proxy.name, TARGET
     yield name + ": an address of a vehicle", asked(proxy, "POST", target % "VIN-1",
                                                     MANIFEST) == [(200, REPLY)]
     with ThreadPoolExecutor(8) as pool:
@@ -270,6 +304,143 @@ def logging(proxy: Proxy) -> Iterator[Any]:
             return "\n".join(made)
 
         yield lines if proxy.name == "haproxy" else None
+
+
+# ---- a vehicle that floods
+
+
+def keys_of(name: str) -> dict[str, Any]:
+    return {"ecu": name + "-e0", "key": fleet.digest(name)}
+
+
+def sent_by(name: str, counter: int, longest: bool = False) -> bytes:
+    """A new manifest of a vehicle, as its Primary makes it, or as long as one may be."""
+    told = keys_of(name) | fleet.FACTORY | {"counter": counter, "time": fleet.START}
+    signed = {
+        "counter": counter, "primary": name + "-e0", "type": "manifest", "vehicle": name,
+        "reports": [json.loads(fleet.report_text(told))], "unknown": ""}
+
+    def made() -> bytes:
+        return reference.sealed([bytes.fromhex(fleet.digest(name))],
+                                reference.canonical(signed)).encode("ascii")
+
+    if longest:
+        signed["unknown"] = (LONGEST - len(made())) * "u"
+    return made()
+
+
+def pushed(proxy: Proxy, name: str, body: bytes, *come: Any) -> int:
+    """The status of the answer to a manifest; 429 too where the proxy ends the connection while
+    the client still sends.
+    """
+    with contextlib.suppress(OSError, http.client.HTTPException):
+        return asked(proxy, "POST", TARGET % name, body, come=come)[0][0]
+    return 429
+
+
+@contextlib.contextmanager
+def before_a_fleet(program: Path, own: Path, name: str, secret: bool,
+                   more: Changes = ()) -> Iterator[tuple[Proxy, Path]]:
+    """A proxy before a service of 64 vehicles, and its file."""
+    path = own / (name + " fleet")
+    path.unlink(missing_ok=True)
+    names = ["VIN-%d" % it for it in range(FLEET)]
+    vehicles = [
+        fleet.line("add_vehicle", vehicle=it, primary=it + "-e0", ecus=[
+            keys_of(it) | {"hardware": "HP"}]) for it in names]
+    trials.printed(program, path, [fleet.line("found", **fleet.key_set(1)), *vehicles])
+    with http_cases.served(program, path, 100_000) as service:
+        proxy = Proxy(own, name, http_cases.free_port(), service.port, secret, more)
+        with proxy.running():
+            yield proxy, path
+
+
+def grown(path: Path) -> int:
+    """The bytes of a file and of its log."""
+    return sum(it.stat().st_size for it in (path, Path(str(path) + "-wal")) if it.exists())
+
+
+def a_round(proxy: Proxy, name: str) -> set[int]:
+    """The statuses of an honest round: a manifest, and five files."""
+    sent = asked(proxy, "POST", TARGET % name, sent_by(name, 1))
+    files = [
+        "director/root.json",
+        *("image/%s.json" % it for it in ("root", "timestamp", "snapshot", "targets"))]
+    return {
+        status for it in (sent, *(asked(proxy, "GET", "/%s/%s" % (name, file)) for file in files))
+        for status, _ in it}
+
+
+def flooded(program: Path, own: Path, name: str, secret: bool, bodies: list[bytes]) -> trials.Cases:
+    """One of 64 sends the longest manifests without end, while the others go their rounds."""
+    with before_a_fleet(
+            program, own, name,
+            secret) as (proxy, path), ThreadPoolExecutor(16) as pool, ThreadPoolExecutor(1) as one:
+        before = grown(path)
+        flood = [one.submit(pushed, proxy, "VIN-0", it) for it in bodies]
+        honest = [pool.submit(a_round, proxy, "VIN-%d" % it) for it in range(1, FLEET)]
+        yield name + ": honest vehicles beside one that floods", all(
+            it.result() == {200} for it in honest)
+        told = Counter(it.result() for it in flood)
+        yield name + ": the flood is told so", told.keys() == {200, 429} and told[200] < 100
+        each = (grown(path) - before) / told[200]
+        yield name + ": a manifest takes its own length, and its reply's", 1 < each / LONGEST < 1.2
+        longer = asked(proxy, "POST", TARGET % "VIN-9", iter(2 * [40_000 * b" "]),
+                       encode_chunked=True, headers={"Transfer-Encoding": "chunked"})
+        chunked = {"nginx": 413, "haproxy": 501}[name]
+        yield name + ": in chunks no longer one is taken", longer[0][0] == chunked
+
+
+def alone(program: Path, own: Path, name: str, secret: bool, bodies: list[bytes]) -> trials.Cases:
+    """Each of the further limits by itself, with the ones before it out of its way."""
+    many, most, few = {
+        "nginx": (("rate=30r/m", "rate=6000r/s"), 67, ("burst=600", "burst=60")),
+        "haproxy": (("gt 60 }", "gt 6000000 }"), 120, ("gt 4200", "gt 60"))}[name]
+    with before_a_fleet(program, own, name, secret, [many]) as (proxy, path):
+        before = grown(path)
+        told = Counter(pushed(proxy, "VIN-0", it) for it in bodies)
+        hourly = told[200] + {"nginx": 60, "haproxy": 0}[name]
+        words = name, told[200], len(bodies), hourly, hourly * (grown(path) - before) / told[200]
+        print("%s: %d of %d manifests at once, so %d in an hour: %.0f bytes" % words, flush=True)
+        yield name + ": manifests of one vehicle", told.keys() == {
+            200, 429} and most <= told[200] <= most + 5
+    with before_a_fleet(program, own, name, secret, [few]) as (proxy, _):
+        source = next(ADDRESSES)
+        told = Counter(pushed(proxy, "other-%d" % it, b"{", source) for it in range(100))
+        yield name + ": manifests under other names from one address", told.keys() == {
+            400, 429} and 60 <= told[400] <= 70
+        yield name + ": another address is answered as before", pushed(proxy, "other", b"{") == 400
+
+
+def shown(program: Path, own: Path, name: str) -> trials.Cases:
+    """Vehicles that show certificates: none is taken for another."""
+    taken_in: Changes = [("#ssl_", "ssl_"), ("#if", "if")]
+    if name == "haproxy":
+        plain = "    bind :443 ssl crt /etc/uptane/both.pem\n"
+        taken_in = [(plain + "    #", "    "), ("#http-request", "http-request")]
+    named(own, "VIN-11")
+    come = None, "VIN-11"
+    with before_a_fleet(program, own, name, True, taken_in) as (proxy, path):
+        yield name + ": a vehicle with its certificate", pushed(proxy, "VIN-11", sent_by(
+            "VIN-11", 1), *come) == 200
+        before = grown(path)
+        yield name + ": at another's address", pushed(proxy, "VIN-12", sent_by("VIN-12", 1),
+                                                      *come) == 403
+        yield name + ": at none", asked(proxy, "POST", "/director/manifest", sent_by("VIN-12", 1),
+                                        come=come)[0][0] == 403
+        yield name + ": without one", pushed(proxy, "VIN-12", sent_by(
+            "VIN-12", 1)) in (400, 429) and grown(path) == before
+
+
+def named(own: Path, vehicle: str) -> None:
+    """Makes a vehicle's certificate and key, by the authority that signs for all."""
+    key, asks, made = (own / (vehicle + it) for it in (".key", ".csr", ".crt"))
+    for words in (("req", "-new", "-newkey", "ec", "-pkeyopt", "ec_paramgen_curve:P-256", "-nodes",
+                   "-subj", "/CN=" + vehicle, "-keyout", key, "-out", asks),
+                  ("x509", "-req", "-in", asks, "-CA", own / "certificate.pem", "-CAkey",
+                   own / "key.pem", "-CAcreateserial", "-days", "2", "-out", made)):
+        subprocess.run(["openssl", *map(str, words)], check=True, capture_output=True)
+    (own / (vehicle + ".pem")).write_bytes(made.read_bytes() + key.read_bytes())
 
 
 def proxied(program: Path, own: Path, name: str, secret: bool) -> trials.Cases:
@@ -369,8 +540,12 @@ def cases(program: Path) -> trials.Cases:
         secret = certified(own)
         if not secret:
             print("no openssl, so no TLS")
+        bodies = [sent_by("VIN-0", counter, True) for counter in range(1, 151)]
         for name in ("nginx", "haproxy"):
             if shutil.which(name):
+                yield from flooded(program, own, name, secret, bodies)
+                yield from alone(program, own, name, secret, bodies)
+                yield from shown(program, own, name) if secret else ()
                 yield from proxied(program, own, name, secret)
             else:
                 print("%s isn't installed, so it is left out" % name)
