@@ -43,9 +43,15 @@ VEHICLES = ("VIN-1", "VIN-2", "VIN-3")
 STRANGERS, AT_ONCE, ROUNDS, PATIENCE, SLOWEST, HUNDRED = 40, 300, 20, 60, 10, 100
 # the vehicles of the fleet in which one floods, and the longest body that is taken
 FLEET, LONGEST = 64, 65_536
-# the addresses of this host from which clients come, each from the next one
-ADDRESSES = ("127.%d.%d.%d" % (1 + it // 62_500, 1 + it // 250 % 250, 1 + it % 250)
-             for it in itertools.count())
+
+
+def address(number: int) -> str:
+    """One of the addresses of this host from which clients come."""
+    return "127.%d.%d.%d" % (1 + number // 62_500, 1 + number // 250 % 250, 1 + number % 250)
+
+
+# (a generator can't be asked by two threads at once)
+ADDRESSES = map(address, itertools.count())
 
 Changes = Iterable[tuple[str, str]]
 
@@ -355,9 +361,10 @@ def before_a_fleet(program: Path, own: Path, name: str, secret: bool,
             yield proxy, path
 
 
-def grown(path: Path) -> int:
-    """The bytes of a file and of its log."""
-    return sum(it.stat().st_size for it in (path, Path(str(path) + "-wal")) if it.exists())
+def folded(program: Path, path: Path) -> int:
+    """The bytes of a file into which its log was copied."""
+    trials.printed(program, path, [])
+    return path.stat().st_size
 
 
 def a_round(proxy: Proxy, name: str) -> set[int]:
@@ -375,16 +382,13 @@ def flooded(program: Path, own: Path, name: str, secret: bool, bodies: list[byte
     """One of 64 sends the longest manifests without end, while the others go their rounds."""
     with before_a_fleet(
             program, own, name,
-            secret) as (proxy, path), ThreadPoolExecutor(16) as pool, ThreadPoolExecutor(1) as one:
-        before = grown(path)
+            secret) as (proxy, _), ThreadPoolExecutor(16) as pool, ThreadPoolExecutor(1) as one:
         flood = [one.submit(pushed, proxy, "VIN-0", it) for it in bodies]
         honest = [pool.submit(a_round, proxy, "VIN-%d" % it) for it in range(1, FLEET)]
         yield name + ": honest vehicles beside one that floods", all(
             it.result() == {200} for it in honest)
         told = Counter(it.result() for it in flood)
         yield name + ": the flood is told so", told.keys() == {200, 429} and told[200] < 100
-        each = (grown(path) - before) / told[200]
-        yield name + ": a manifest takes its own length, and its reply's", 1 < each / LONGEST < 1.2
         longer = asked(proxy, "POST", TARGET % "VIN-9", iter(2 * [40_000 * b" "]),
                        encode_chunked=True, headers={"Transfer-Encoding": "chunked"})
         chunked = {"nginx": 413, "haproxy": 501}[name]
@@ -397,13 +401,15 @@ def alone(program: Path, own: Path, name: str, secret: bool, bodies: list[bytes]
         "nginx": (("rate=30r/m", "rate=6000r/s"), 67, ("burst=600", "burst=60")),
         "haproxy": (("gt 60 }", "gt 6000000 }"), 120, ("gt 4200", "gt 60"))}[name]
     with before_a_fleet(program, own, name, secret, [many]) as (proxy, path):
-        before = grown(path)
+        before = path.stat().st_size
         told = Counter(pushed(proxy, "VIN-0", it) for it in bodies)
-        hourly = told[200] + {"nginx": 60, "haproxy": 0}[name]
-        words = name, told[200], len(bodies), hourly, hourly * (grown(path) - before) / told[200]
-        print("%s: %d of %d manifests at once, so %d in an hour: %.0f bytes" % words, flush=True)
         yield name + ": manifests of one vehicle", told.keys() == {
             200, 429} and most <= told[200] <= most + 5
+    each, hourly = (folded(program, path) - before) / told[200], told[200] + {
+        "nginx": 60, "haproxy": 0}[name]
+    words = name, told[200], len(bodies), hourly, hourly * each
+    print("%s: %d of %d manifests at once, so %d in an hour: %.0f bytes" % words, flush=True)
+    yield name + ": what is kept in an hour", 1 < each / LONGEST < 1.1 and hourly * each < 9e6
     with before_a_fleet(program, own, name, secret, [few]) as (proxy, _):
         source = next(ADDRESSES)
         told = Counter(pushed(proxy, "other-%d" % it, b"{", source) for it in range(100))
@@ -423,13 +429,14 @@ def shown(program: Path, own: Path, name: str) -> trials.Cases:
     with before_a_fleet(program, own, name, True, taken_in) as (proxy, path):
         yield name + ": a vehicle with its certificate", pushed(proxy, "VIN-11", sent_by(
             "VIN-11", 1), *come) == 200
-        before = grown(path)
         yield name + ": at another's address", pushed(proxy, "VIN-12", sent_by("VIN-12", 1),
                                                       *come) == 403
         yield name + ": at none", asked(proxy, "POST", "/director/manifest", sent_by("VIN-12", 1),
                                         come=come)[0][0] == 403
-        yield name + ": without one", pushed(proxy, "VIN-12", sent_by(
-            "VIN-12", 1)) in (400, 429) and grown(path) == before
+        yield name + ": without one", pushed(proxy, "VIN-12", sent_by("VIN-12", 1)) in (400, 429)
+    yield name + ": nothing of these is kept", trials.printed(
+        program, path, [fleet.line("show", vehicle="VIN-12")]) == [
+            "vehicle VIN-12 version 0 VIN-12-e0=-"]
 
 
 def named(own: Path, vehicle: str) -> None:

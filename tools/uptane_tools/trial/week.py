@@ -42,7 +42,8 @@ from typing import Any
 from uptane_tools import arguments
 from uptane_tools.measure import fleet
 from uptane_tools.oracle import reference
-from uptane_tools.trial import copy_cases, http_cases, scale_cases, trials, upkeep_cases
+from uptane_tools.trial import (copy_cases, http_cases, proxy_cases, scale_cases, trials,
+                                upkeep_cases)
 
 BEGUN = time.monotonic()
 DESKS, THREADS, HOUR, DAY = 8, 8, 3600, 86400
@@ -236,7 +237,10 @@ class Week(upkeep_cases.Service):
         body = vehicle.manifest(self.now)
         for _ in range(times):
             try:
-                with closing(HTTPConnection("127.0.0.1", self.proxy.port, timeout=120)) as client:
+                source = next(proxy_cases.ADDRESSES), 0
+                with closing(
+                        HTTPConnection("127.0.0.1", self.proxy.port, timeout=120,
+                                       source_address=source)) as client:
                     status, text = self.post(client, vehicle.name, body)
             except (OSError, HTTPException):
                 status, text = 0, ""
