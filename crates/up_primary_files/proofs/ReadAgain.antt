@@ -34,7 +34,7 @@ use Rattle.up_verify.specs.declared.trust.Versions.{Versions}
 use Rattle.up_primary_files.specs.declared.method.Method.{Method}
 use Rattle.up_primary_files.specs.declared.method.Method.TheVariants.{Hmac, Ed25519}
 use Rattle.up_primary_files.specs.declared.state.State.{State}
-use Rattle.up_primary_files.specs.States.{versions_of, root_of, trust_of, both_of, ecu_of, ecus_of, replaced_of, own_of, primary_of, method_of, held_of, texts_of, kept_of, state_behind, state_of, state_in}
+use Rattle.up_primary_files.specs.States.{versions_of, root_of, trust_of, both_of, ecu_in, ecu_of, ecus_of, replaced_of, own_of, primary_of, method_of, held_of, texts_of, kept_of, state_behind, state_of, state_in}
 use Rattle.up_primary_files.specs.Written.{method_name, trust_value, ecu_value, state_value, root_text, state_then, IsTold, ecu_fits, held_fits, IsWhole}
 
 -- ---- what is trusted
@@ -63,7 +63,7 @@ each_again step f p one [] h = refl
 each_again step f p one (x ∷ xs) h = let q = and_parts (p x) _ h in bind-ok _ _ x (one x q.0) ∙ bind-ok _ _ xs (each_again step f p one xs q.1)
 
 ecu_again : (place : List ℕ) (own : OwnEcu) → ecu_fits own ≡ true → ecu_of place (ecu_value own) ≡ Ok own
-unfolding ecu_of
+unfolding ecu_of ecu_in
 ecu_again place own h =
     let release = and_parts (is_ident own.ecu && is_ident own.hardware) (nat_le own.release max_count) h in
     let names = and_parts (is_ident own.ecu) (is_ident own.hardware) release.0 in

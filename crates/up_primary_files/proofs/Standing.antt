@@ -1,6 +1,6 @@
 -- What is cut from a text stands in it.
-use Rattle.std.proofs.Common.{◌≡◌, ℕ, ◌-◌, List, ◌∷◌, ◌++◌, [], length, take, drop, take-append-drop, append_assoc, append-nil, subst, sym, ap, ◌∙◌}
-use Rattle.std.specs.Prelude.{slice_range}
+use Rattle.std.proofs.Common.{◌≡◌, ℕ, ◌-◌, List, ◌∷◌, ◌++◌, [], Option, Some, None, length, take, drop, take-append-drop, append_assoc, append-nil, subst, sym, ap, ◌∙◌}
+use Rattle.std.specs.Prelude.{slice_range, IfSome}
 use Rattle.up_primary_files.specs.Served.{StandsIn}
 
 within : (text piece part : List ℕ) → StandsIn text piece → StandsIn piece part → StandsIn text part
@@ -19,11 +19,15 @@ cut text from size = record {
   is = sym (ap (λ (xs : List ℕ). take from text ++ xs) (take-append-drop size (drop from text)) ∙ take-append-drop from text);
 }
 
--- a range of the text, without its first byte and without white space around the rest
-pub stands : (text span rest shown piece : List ℕ) (from to first skip : ℕ) → span ≡ slice_range text from to → span ≡ first ∷ rest → shown ≡ rest
-    → piece ≡ take (length piece) (drop skip shown) → StandsIn text piece
-stands text span rest shown piece from to first skip is parts same trimmed =
+-- without white space around it
+pub trimmed_stands : (text shown piece : List ℕ) (skip : ℕ) → shown ≡ text → piece ≡ take (length piece) (drop skip shown) → StandsIn text piece
+trimmed_stands text shown piece skip same trimmed = subst (λ (xs : List ℕ). StandsIn xs piece) same (subst (StandsIn shown) (sym trimmed) (cut shown skip (length piece)))
+
+-- in a range of the text behind its first byte
+pub in_range : {A : Type 0} (piece : A → List ℕ) (text span rest : List ℕ) (from to first : ℕ) (found : Option A) → span ≡ slice_range text from to → span ≡ first ∷ rest
+    → IfSome found (λ a. StandsIn rest (piece a)) → IfSome found (λ a. StandsIn text (piece a))
+in_range piece text span rest from to first None is parts h = h
+in_range piece text span rest from to first (Some a) is parts h =
     let of_span : StandsIn text span = subst (StandsIn text) (sym is) (cut text from (to - from)) in
     let of_rest : StandsIn span rest = record { before = first ∷ []; behind = []; is = parts ∙ ap (λ (xs : List ℕ). first ∷ xs) (sym (append-nil rest)) } in
-    let of_piece : StandsIn shown piece = subst (StandsIn shown) (sym trimmed) (cut shown skip (length piece)) in
-    within text span piece of_span (within span rest piece of_rest (subst (λ (xs : List ℕ). StandsIn xs piece) same of_piece))
+    within text span (piece a) of_span (within span rest (piece a) of_rest h)

@@ -53,13 +53,17 @@ both_of director image = do
 
 -- ---- what is known of the vehicle
 
-unfoldable pub ecu_of : List ℕ → Data → Result OwnEcu Refusal
-ecu_of place d = do
-  map ← object_of place d
+unfoldable pub ecu_in : Data → Result OwnEcu Refusal
+ecu_in map = do
   ecu ← ident_in (codes "ecu") map
   hardware ← ident_in (codes "hardware") map
   release ← count_in (codes "release") map
   Ok (record { ecu = ecu; hardware = hardware; release = release })
+
+unfoldable pub ecu_of : List ℕ → Data → Result OwnEcu Refusal
+ecu_of place d = do
+  map ← object_of place d
+  ecu_in map
 
 unfoldable pub ecus_of : Data → Result (List OwnEcu) Refusal
 ecus_of map = do

@@ -21,7 +21,7 @@ use up_verify::trust::Primary;
 use up_verify::verify::{verify, with_roots};
 
 /// A verdict: whether all was accepted, the text that tells it, and what the Primary knows and trusts from then on.
-#[derive(Debug, Drop)]
+#[derive(Drop)]
 pub struct Judged {
     pub is_accepted: bool,
     pub told: String,

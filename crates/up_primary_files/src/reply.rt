@@ -59,7 +59,7 @@ fn reply_in(alloc: Global, text: &str, value: &Value) -> Result<Reply, Refusal>
 }
 
 /// A reply's root version, vehicle, and the vehicle's version.
-#[derive(Debug, Drop)]
+#[derive(Drop)]
 pub struct Names {
     pub root: u64,
     pub vehicle: Ident,
@@ -98,7 +98,7 @@ fn texts_at(alloc: Global, text: &str, marks: &[usize]) -> Result<RoleTexts, Ref
 }
 
 /// Where a text of JSON is read: how many lists and objects stand round it, and whether it is in a string, behind a backslash.
-#[derive(Clone, Copy, Debug)]
+#[derive(Clone, Copy)]
 struct Place {
     depth: u32,
     quoted: bool,
@@ -210,7 +210,14 @@ fn piece(bytes: &[u8], from: usize, to: usize) -> Option<&str>
 {
     let span = bytes.get(from..to)?;
     let (_, behind) = span.split_first()?;
-    match str::from_utf8(behind) {
+    trimmed(behind)
+}
+
+/// The text without white space around it.
+fn trimmed(bytes: &[u8]) -> Option<&str>
+    ensures { IfSome result (λ found. StandsIn bytes.now found.now) }
+{
+    match str::from_utf8(bytes) {
         Ok(text) => Some(text.trim_ascii()),
         Err(_) => None,
     }

@@ -13,7 +13,7 @@ use up_roles::laws::meaning_laws;
 use up_verify::served::Served;
 
 /// How it comes out: whether all was accepted, the text that tells the verdict, and the text of the state's file behind it.
-#[derive(Debug, Drop)]
+#[derive(Drop)]
 pub struct Outcome {
     pub is_accepted: bool,
     pub told: String,

@@ -57,7 +57,7 @@ fn served_of(alloc: Global, value: &Value) -> Result<Served, Refusal>
 }
 
 /// The Roots of both repositories, and the Image repository's other files.
-#[derive(Debug, Drop)]
+#[derive(Drop)]
 struct Files {
     director_roots: Listed<Bytes>,
     image_roots: Listed<Bytes>,

@@ -3,7 +3,7 @@ ghost use Rattle.serde_json.specs.View.{view};
 ghost use Rattle.up_canon.specs.HexText.{hex_of as hex_of_value};
 ghost use Rattle.up_canon.specs.Members.{object_of_map};
 ghost use Rattle.up_canon.specs.Refusals.{Gives};
-ghost use Rattle.up_primary_files.specs.States.{versions_of, root_of, trust_of, both_of, ecu_of as ecu_of_value, ecus_of, replaced_of, own_of, primary_of, method_of, held_of, texts_of, kept_of, state_behind as state_behind_of, state_of as state_of_value, state_in};
+ghost use Rattle.up_primary_files.specs.States.{versions_of, root_of, trust_of, both_of, ecu_in, ecu_of as ecu_of_value, ecus_of, replaced_of, own_of, primary_of, method_of, held_of, texts_of, kept_of, state_behind as state_behind_of, state_of as state_of_value, state_in};
 
 use crate::form::text_of_member;
 use crate::method::Method;
@@ -26,7 +26,7 @@ use up_verify::known_key::KnownKey;
 use up_verify::trust::{OwnEcu, Primary, Trust, Versions};
 
 /// The text of the Root that is trusted of each repository.
-#[derive(Debug, Drop)]
+#[derive(Drop)]
 pub struct RootTexts {
     pub director: Text,
     pub image: Text,
@@ -98,13 +98,9 @@ fn state_behind(
 fn method_at(map: &Map<String, Value>) -> Result<Method, Refusal>
     ensures { Gives result (method_of (object_of_map map.now.entries)) }
 {
-    let text = text_at(map, "method")?;
-    if text == "hmac-sha256" {
-        Ok(Method::Hmac)
-    } else if text == "ed25519" {
-        Ok(Method::Ed25519)
-    } else {
-        Err(Refusal::from("method"))
+    match Method::named(text_at(map, "method")?) {
+        Some(method) => Ok(method),
+        None => Err(Refusal::from("method")),
     }
 }
 
@@ -214,7 +210,7 @@ fn primary_at(
 }
 
 /// What a Primary knows of its vehicle.
-#[derive(Debug, Drop)]
+#[derive(Drop)]
 pub struct Own {
     pub vehicle: Ident,
     pub ecus: Listed<OwnEcu>,
@@ -265,7 +261,13 @@ impl Reading for EcuReading {
 fn ecu_of(alloc: Global, value: &Value, place: &'static str) -> Result<OwnEcu, Refusal>
     ensures { Gives result (ecu_of_value place.now (view value.now)) }
 {
-    let map = object_of(value, place)?;
+    ecu_at(alloc, object_of(value, place)?)
+}
+
+#[tactic(auto, unfolding(crate::specs::States::ecu_in, up_canon::specs::Steps::and_then))]
+fn ecu_at(alloc: Global, map: &Map<String, Value>) -> Result<OwnEcu, Refusal>
+    ensures { Gives result (ecu_in (object_of_map map.now.entries)) }
+{
     Ok(OwnEcu {
         ecu: ident_at(alloc, map, "ecu")?,
         hardware: ident_at(alloc, map, "hardware")?,
@@ -274,7 +276,7 @@ fn ecu_of(alloc: Global, value: &Value, place: &'static str) -> Result<OwnEcu, R
 }
 
 /// What is trusted of both repositories.
-#[derive(Debug, Drop)]
+#[derive(Drop)]
 pub struct Both {
     pub director: Trust,
     pub image: Trust,
