@@ -60,7 +60,7 @@ use Rattle.up_primary_files.specs.declared.state.Kept.{Kept}
 use Rattle.up_primary_files.specs.declared.state.Own.{Own}
 use Rattle.up_primary_files.specs.declared.state.RootTexts.{RootTexts}
 use Rattle.up_primary_files.specs.declared.state.State.{State}
-use Rattle.up_primary_files.specs.States.{versions_of, root_of, trust_of, both_of, ecu_of, ecus_of, replaced_of, own_of, primary_of, held_of, texts_of, kept_of, state_behind, state_of, state_in}
+use Rattle.up_primary_files.specs.States.{versions_of, root_of, trust_of, both_of, ecu_in, ecu_of, ecus_of, replaced_of, own_of, primary_of, held_of, texts_of, kept_of, state_behind, state_of, state_in}
 use Rattle.up_primary_files.specs.Rounds.{IsVerified}
 use Rattle.up_primary_files.specs.Verdicts.{IsJudged, verifier_by}
 use Rattle.up_primary_files.specs.Written.{root_text, state_then, IsTold, ecu_fits, held_fits, IsWhole}
@@ -88,7 +88,7 @@ all_read step p one [] xs h = ap (list_all p) (sym (same_ok _ _ h))
 all_read step p one (d ∷ ds) xs h = first_ok _ _ _ _ h (λ y first h. first_ok _ _ _ _ h (λ ys rest h. ap (list_all p) (sym (same_ok _ _ h)) ∙ both _ _ (one d y first) (all_read step p one ds ys rest)))
 
 ecu_read : (place : List ℕ) (d : Data) (own : OwnEcu) → ecu_of place d ≡ Ok own → ecu_fits own ≡ true
-unfolding ecu_of
+unfolding ecu_of ecu_in
 ecu_read place d own h = first_ok _ _ _ _ h (λ map is h. first_ok _ _ _ _ h (λ ecu named h. first_ok _ _ _ _ h (λ hardware fit h. first_ok _ _ _ _ h (λ release count h.
     let small = (count_read (codes "release") map release count).1 in
     let test : nat_le release max_count ≡ true = grind (arith, nat_tests) in

@@ -79,9 +79,12 @@ fn files_at(alloc: Global, map: &Map<String, Value>) -> Result<Files, Refusal>
 fn image_at(alloc: Global, map: &Map<String, Value>) -> Result<RoleTexts, Refusal>
     ensures { IfOk result (AreTexts (object_of_map map.now.entries)) }
 {
+    let targets = text_or_empty(alloc, map, "targets")?;
+    let snapshot = text_or_empty(alloc, map, "snapshot")?;
+    let timestamp = text_or_empty(alloc, map, "timestamp")?;
     Ok(RoleTexts {
-        targets: text_or_empty(alloc, map, "targets")?,
-        snapshot: text_or_empty(alloc, map, "snapshot")?,
-        timestamp: text_or_empty(alloc, map, "timestamp")?,
+        targets,
+        snapshot,
+        timestamp,
     })
 }

@@ -1,13 +1,13 @@
 //! A Primary's state, written as the JSON file that is read again.
-ghost use Rattle.std.specs.Prelude.{◌≡◌, IfOk, IsUtf8, Ok, map, string_bytes};
-ghost use Rattle.serde_json.specs.Data.{string};
-ghost use Rattle.serde_json.specs.View.{view};
-ghost use Rattle.up_canon.specs.Build.{list_with, hex_value};
+ghost use Rattle.std.specs.Prelude.{◌≡◌, IfOk, IsUtf8, Ok, codes, map as map_of, string_bytes};
+ghost use Rattle.serde_json.specs.Data.{string, put as put_of};
+ghost use Rattle.serde_json.specs.View.{members_view, view};
+ghost use Rattle.up_canon.specs.Build.{list_with, count_value, hex_value};
 ghost use Rattle.up_primary_files.specs.States.{state_in};
 ghost use Rattle.up_primary_files.specs.Written.{trust_value as trust_value_of, ecu_value as ecu_value_of, state_value as state_value_of, root_text as root_text_of, state_then, IsWhole};
 
 use crate::state::State;
-use serde_json::{Value, json};
+use serde_json::{Map, Value, put};
 use std::alloc::{AllocError, Global};
 use std::str;
 use up_canon::bytes::Bytes;
@@ -54,24 +54,34 @@ fn state_value(
 ) -> Result<Value, AllocError>
     ensures { IfOk result (λ v. view v ≡ state_value_of (record { method = state.now.method; held = state.now.held; primary = next.now; roots = record { director = director.now; image = image.now } })) }
 {
-    let director = trust_value(alloc, director, next.director.versions)?;
-    let image = trust_value(alloc, image, next.image.versions)?;
-    let ecus = ecus_value(alloc, next.ecus.as_slice())?;
-    let replaced = names_value(alloc, next.replaced.as_slice())?;
-    let held = held_value(alloc, state.held.as_slice())?;
-    let method = state.method.name();
-    let vehicle = next.vehicle.text();
-    json!(in alloc; {"director": director, "ecus": ecus, "held": held, "image": image, "method": method, "replaced": replaced, "vehicle": vehicle})
+    let map = with_trust(
+        alloc,
+        Map::new(alloc),
+        "director",
+        director,
+        next.director.versions,
+    )?;
+    let map = with_ecus(alloc, map, next.ecus.as_slice())?;
+    let map = with_held(alloc, map, state.held.as_slice())?;
+    let map = with_trust(alloc, map, "image", image, next.image.versions)?;
+    let map = with_text(alloc, map, "method", state.method.name())?;
+    let map = with_replaced(alloc, map, next.replaced.as_slice())?;
+    let map = with_text(alloc, map, "vehicle", next.vehicle.text())?;
+    Ok(Value::Object(map))
 }
 
 fn trust_value(alloc: Global, root: &str, versions: Versions) -> Result<Value, AllocError>
     ensures { IfOk result (λ v. view v ≡ trust_value_of root.now versions) }
 {
-    json!(in alloc; {"root": root, "snapshot": versions.snapshot, "targets": versions.targets, "timestamp": versions.timestamp})
+    let map = with_text(alloc, Map::new(alloc), "root", root)?;
+    let map = with_count(alloc, map, "snapshot", versions.snapshot)?;
+    let map = with_count(alloc, map, "targets", versions.targets)?;
+    let map = with_count(alloc, map, "timestamp", versions.timestamp)?;
+    Ok(Value::Object(map))
 }
 
 fn ecus_value(alloc: Global, ecus: &[OwnEcu]) -> Result<Value, AllocError>
-    ensures { IfOk result (λ v. view v ≡ list_with (map ecu_value_of ecus.now)) }
+    ensures { IfOk result (λ v. view v ≡ list_with (map_of ecu_value_of ecus.now)) }
 {
     let mut values = Vec::with_capacity(alloc, ecus.len())?;
     for own in ecus {
@@ -83,11 +93,14 @@ fn ecus_value(alloc: Global, ecus: &[OwnEcu]) -> Result<Value, AllocError>
 fn ecu_value(alloc: Global, own: &OwnEcu) -> Result<Value, AllocError>
     ensures { IfOk result (λ v. view v ≡ ecu_value_of own.now) }
 {
-    json!(in alloc; {"ecu": own.ecu.text(), "hardware": own.hardware.text(), "release": own.release.get()})
+    let map = with_text(alloc, Map::new(alloc), "ecu", own.ecu.text())?;
+    let map = with_text(alloc, map, "hardware", own.hardware.text())?;
+    let map = with_count(alloc, map, "release", own.release.get())?;
+    Ok(Value::Object(map))
 }
 
 fn names_value(alloc: Global, names: &[Ident]) -> Result<Value, AllocError>
-    ensures { IfOk result (λ v. view v ≡ list_with (map string names.now)) }
+    ensures { IfOk result (λ v. view v ≡ list_with (map_of string names.now)) }
 {
     let mut values = Vec::with_capacity(alloc, names.len())?;
     for name in names {
@@ -97,7 +110,7 @@ fn names_value(alloc: Global, names: &[Ident]) -> Result<Value, AllocError>
 }
 
 fn held_value(alloc: Global, held: &[KnownKey]) -> Result<Value, AllocError>
-    ensures { IfOk result (λ v. view v ≡ list_with (map hex_value held.now)) }
+    ensures { IfOk result (λ v. view v ≡ list_with (map_of hex_value held.now)) }
 {
     let mut values = Vec::with_capacity(alloc, held.len())?;
     for key in held {
@@ -105,6 +118,97 @@ fn held_value(alloc: Global, held: &[KnownKey]) -> Result<Value, AllocError>
     }
     Ok(Value::Array(values))
 }
+
+// ---- objects with one member more
+
+type Members = Map<String, Value>;
+
+fn with_value(alloc: Global, map: Members, name: &str, value: Value) -> Result<Members, AllocError>
+    ensures { IfOk result (λ m. members_view m.entries ≡ put_of name.now (view value) (members_view map.entries)) }
+{
+    let mut map = map;
+    match put(&mut map, alloc, name, value) {
+        Ok(()) => Ok(map),
+        Err(fault) => {
+            drop(map);
+            Err(fault)
+        }
+    }
+}
+
+fn with_text(alloc: Global, map: Members, name: &str, text: &str) -> Result<Members, AllocError>
+    ensures { IfOk result (λ m. members_view m.entries ≡ put_of name.now (string text.now) (members_view map.entries)) }
+{
+    match Value::try_from_str(alloc, text) {
+        Ok(value) => with_value(alloc, map, name, value),
+        Err(fault) => {
+            drop(map);
+            Err(fault)
+        }
+    }
+}
+
+fn with_count(alloc: Global, map: Members, name: &str, count: u64) -> Result<Members, AllocError>
+    ensures { IfOk result (λ m. members_view m.entries ≡ put_of name.now (count_value count) (members_view map.entries)) }
+{
+    with_value(alloc, map, name, Value::from(count))
+}
+
+fn with_trust(
+    alloc: Global,
+    map: Members,
+    name: &str,
+    root: &str,
+    versions: Versions,
+) -> Result<Members, AllocError>
+    ensures { IfOk result (λ m. members_view m.entries ≡ put_of name.now (trust_value_of root.now versions) (members_view map.entries)) }
+{
+    match trust_value(alloc, root, versions) {
+        Ok(value) => with_value(alloc, map, name, value),
+        Err(fault) => {
+            drop(map);
+            Err(fault)
+        }
+    }
+}
+
+fn with_ecus(alloc: Global, map: Members, ecus: &[OwnEcu]) -> Result<Members, AllocError>
+    ensures { IfOk result (λ m. members_view m.entries ≡ put_of (codes "ecus") (list_with (map_of ecu_value_of ecus.now)) (members_view map.entries)) }
+{
+    match ecus_value(alloc, ecus) {
+        Ok(value) => with_value(alloc, map, "ecus", value),
+        Err(fault) => {
+            drop(map);
+            Err(fault)
+        }
+    }
+}
+
+fn with_held(alloc: Global, map: Members, held: &[KnownKey]) -> Result<Members, AllocError>
+    ensures { IfOk result (λ m. members_view m.entries ≡ put_of (codes "held") (list_with (map_of hex_value held.now)) (members_view map.entries)) }
+{
+    match held_value(alloc, held) {
+        Ok(value) => with_value(alloc, map, "held", value),
+        Err(fault) => {
+            drop(map);
+            Err(fault)
+        }
+    }
+}
+
+fn with_replaced(alloc: Global, map: Members, names: &[Ident]) -> Result<Members, AllocError>
+    ensures { IfOk result (λ m. members_view m.entries ≡ put_of (codes "replaced") (list_with (map_of string names.now)) (members_view map.entries)) }
+{
+    match names_value(alloc, names) {
+        Ok(value) => with_value(alloc, map, "replaced", value),
+        Err(fault) => {
+            drop(map);
+            Err(fault)
+        }
+    }
+}
+
+// ---- which Root's text
 
 /// The text of the Root that is trusted behind these: the one before, where the version is no greater, else the one of that
 /// version among those that came behind it.
