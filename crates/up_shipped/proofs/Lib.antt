@@ -4,3 +4,5 @@ pub mod Shipped
 pub mod FromNothing
 pub mod Connections
 pub mod Responses
+pub mod Starts
+pub mod Machines

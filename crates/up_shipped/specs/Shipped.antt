@@ -84,14 +84,18 @@ pub record IsBegunScript {K D : Type 0} (rules : K → Rules) (g : Ghosts D) (s 
   pub is_part : IsPart print cause next part
   pub wrote : Appends first.held now.held (written print texts ++ part)
 
--- Of every script, from each sound state that the tables showed, over a disk that has returned what was written: the commands that the
--- bytes ask, with the answers that were written, are a run of the plain machine.
+-- the commands that the bytes ask, with the answers that were written, are a run of the plain machine
+abbrev pub ShipsScript : {K D : Type 0} → (K → Rules) → Ghosts D → State → Option (List ℕ) → Option (List ℕ) → At (DeskView K D) → At (DeskView K D) → Result ℕ ScriptFault → Type 0
+ShipsScript rules g s had has first now result =
+    Ran lines.most_bytes (λ came ended answered. (ended ≡ true) × IsWholeScript rules g s came first now)
+    (λ came ended fault. IsBegunScript rules g s came ended fault.cause first now) had has result
+
+-- so of every script, from each sound state that the tables showed, over a disk that has returned what was written
 abbrev pub ScriptsAreRuns : {K D : Type 0} → (K → Rules) → Ghosts D → Type 0
 ScriptsAreRuns {K} {D} rules g = (had has : Option (List ℕ)) (first now : At (DeskView K D)) (result : Result ℕ ScriptFault)
     → RunsScript rules g had has first now result → HasCleanDisk (state g now.state.store)
     → (s : State) → IsSound (rules first.state.scheme) s → IfClean (ShowsState (rules first.state.scheme) s) (state g first.state.store)
-    → Ran lines.most_bytes (λ came ended answered. (ended ≡ true) × IsWholeScript rules g s came first now)
-    (λ came ended fault. IsBegunScript rules g s came ended fault.cause first now) had has result
+    → ShipsScript rules g s had has first now result
 
 -- ---- streams
 
@@ -114,10 +118,14 @@ pub record IsBegunStream {K D : Type 0} (rules : K → Rules) (g : Ghosts D) (at
   pub is_part : IsPart plain cause next part
   pub wrote : Appends first.held now.held (written plain texts ++ part)
 
--- the same of the requests of every stream
+-- the same of the requests of a stream
+abbrev pub ShipsStream : {K D : Type 0} → (K → Rules) → Ghosts D → ℕ → State → Option (List ℕ) → Option (List ℕ) → At (DeskView K D) → At (DeskView K D) → Result Served ServeFault → Type 0
+ShipsStream rules g at s had has first now result =
+    Ran serving.most_bytes (λ came ended served. (more : List ℕ) → (ended ≡ true → more ≡ []) → IsWholeStream rules g at s (came ++ more) first now)
+    (λ came ended fault. IsBegunStream rules g at s came ended (cause_of fault.cause) first now) had has result
+
 abbrev pub StreamsAreRuns : {K D : Type 0} → (K → Rules) → Ghosts D → Type 0
 StreamsAreRuns {K} {D} rules g = (at : ℕ) (had has : Option (List ℕ)) (first now : At (DeskView K D)) (result : Result Served ServeFault)
     → RunsStream rules g at had has first now result → HasCleanDisk (state g now.state.store)
     → (s : State) → IsSound (rules first.state.scheme) s → IfClean (ShowsState (rules first.state.scheme) s) (state g first.state.store)
-    → Ran serving.most_bytes (λ came ended served. (more : List ℕ) → (ended ≡ true → more ≡ []) → IsWholeStream rules g at s (came ++ more) first now)
-    (λ came ended fault. IsBegunStream rules g at s came ended (cause_of fault.cause) first now) had has result
+    → ShipsStream rules g at s had has first now result

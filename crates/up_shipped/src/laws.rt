@@ -3,6 +3,7 @@ ghost use Rattle.up_connections.specs.Interleaved.{Numbered};
 ghost use Rattle.up_service.specs.Runs.{ReopenedLast};
 ghost use Rattle.up_shipped.specs.Connections.{ConnectionsAreRuns};
 ghost use Rattle.up_shipped.specs.Shipped.{ScriptsAreRuns, StreamsAreRuns};
+ghost use Rattle.up_shipped.specs.Starts.{TakenTablesShow};
 
 use sqlite::Alter;
 use sqlite_disk::Disk;
@@ -10,6 +11,7 @@ use up_http::laws::conversations_keep_order;
 use up_machine::laws::{
     kept_replies_stay, refusals_change_nothing, repeats_change_nothing, vehicles_stand_apart,
 };
+use up_rows::laws::rows_tell_the_state;
 use up_sign::scheme::Scheme;
 
 /// Every script is a run of the plain machine, from the bytes that come to those that are written. The commands that its lines ask, in
@@ -55,3 +57,12 @@ pub fn connections_are_runs<K: Scheme, D: Alter>()
 pub fn reopened_connections_outlast_crashes<D: Disk>()
     ensures { ReopenedLast Numbered D.Disk }
 {}
+
+/// A desk over a database that `take_for` took shows each sound state that the tables showed before, by whichever version of the schema; and
+/// where there were no tables, and the disk counted no fault, the one in which nothing is founded. So what is promised of scripts, streams
+/// and clients from a state that the tables show holds from that one.
+pub fn taken_tables_show<K: Scheme, D: Alter>()
+    ensures { TakenTablesShow (K.rules) D.Store }
+{
+    rows_tell_the_state();
+}

@@ -4,3 +4,5 @@
 pub mod answering;
 pub mod fresh;
 pub mod laws;
+pub mod machine;
+pub mod taken;

@@ -11,26 +11,28 @@ of that name, as the file has it; a line `<!-- example FILE NAME -->` above a wh
 which is proved, and run by a test where it stands in a crate of tests. A line `<!-- sizes -->`
 stands above the table of counts. Counted is what the contract of the headline leads to through
 names: each definition once, its lines and words without comments, and each type of the code that
-a definition uses. Definitions of the kit are where the count ends. A line `<!-- kit -->` stands
-above the table of the kit's crates, which are counted where the kit is.
+a definition uses; and beneath these, by themselves, the kit's definitions. A line `<!-- kit -->`
+stands above the table of the kit's crates. Both tables are compared where the kit is.
 """
 import re
 import shutil
 import sys
 from collections import defaultdict
-from collections.abc import Iterator
+from collections.abc import Iterable, Iterator
 from functools import lru_cache
 from pathlib import Path
 from typing import Any
 
 from uptane_tools import arguments
-from uptane_tools.trial import trials
+from uptane_tools.trial import beneath, trials
 from uptane_tools.trial.trials import TOP
 
 PAGE = TOP / "docs" / "trust" / "THEOREM.md"
 HEADLINE = ("crates/up_desk/src/desk.rt", "run")
 # the same over fresh tables, whose statements have nothing of the inside
 FRESH = "crates/up_shipped/src/fresh.rt", ["run_fresh", "script_fresh", "stream_fresh"]
+# a desk as whoever asks sees it: a trait, whose clauses are what its types keep, and how one begins
+SEEN = "crates/up_shipped/src/machine.rt", ["Repositories", "fresh_desk", "released"]
 LAWS = "crates/up_uptane/src/laws.rt"
 # the law of the scheme that a desk is over, by the bound of its type
 BOUND = TOP / "crates" / "up_sign" / "src" / "scheme.rt"
@@ -66,10 +68,16 @@ def without_comments(text: str) -> str:
 
 
 def function_of(text: str, name: str) -> Any:
-    """The head of a public function, with its contract."""
+    """The head of a public function, with its contract; of a trait all that it says."""
     found = re.search(r"^( *)pub fn %s\b.*?(?=^\1\{\n|^\1\{\}\n)" % name, text,
                       re.MULTILINE | re.DOTALL)
-    return found and re.sub(r"(?m)^%s" % found[1], "", found[0])
+    return re.sub(r"(?m)^%s" % found[1], "", found[0]) if found else trait_of(text, name)
+
+
+def trait_of(text: str, name: str) -> Any:
+    """A public trait without its comments."""
+    found = re.search(r"^pub trait %s\b.*?^\}\n" % name, text, re.MULTILINE | re.DOTALL)
+    return found and re.sub(r"(?m)^ *///?.*\n", "", found[0])
 
 
 def definition_of(text: str, name: str) -> Any:
@@ -167,13 +175,18 @@ def names_in(text: str, parts: Any, imports: Any) -> trials.Cases:
 
 
 def closure(head: Any = HEADLINE) -> list[Any]:
-    """Each definition that the contract leads to, and the law of the scheme that it is over: the
-    file, its name and its text.
+    """Each definition that the contract leads to: the file, its name and its text."""
+    return closure_and_ends(head)[0]
+
+
+def closure_and_ends(head: Any) -> tuple[list[Any], set[Any]]:
+    """Each definition that the contract leads to, and the law of the scheme that it is over; and
+    the names of the kit's at which they end, each with its module.
     """
     file, name = head
     text, bound = (TOP / file).read_text(encoding="utf-8"), BOUND.read_text(encoding="utf-8")
     law = re.search(r"ghost lawful: .*", bound)
-    waiting, done, found = [], set(), []
+    waiting, done, found, ends = [], set(), [], set()
     source: Any
     for source, begins in ((text, function_of(text, name)), (bound, law[0])):
         imports: Any = taken(re.sub(r"^(ghost )", "", source, flags=re.MULTILINE))
@@ -181,6 +194,8 @@ def closure(head: Any = HEADLINE) -> list[Any]:
     while waiting:
         path, known = waiting.pop()
         place = place_of(path)
+        if place is None:
+            ends.add((path, known))
         if place is None or (path, known) in done:
             continue
         done.add((path, known))
@@ -197,7 +212,7 @@ def closure(head: Any = HEADLINE) -> list[Any]:
         if known in parts and (source, known, parts[known]) not in found:
             found.append((source, known, parts[known]))
             waiting += [(to or path, name) for to, name in names_in(parts[known], parts, imports)]
-    return found
+    return found, ends
 
 
 def unled() -> list[tuple[str, Any]]:
@@ -240,37 +255,39 @@ def to_read(text: str) -> Iterator[Any]:
         yield folder / name
 
 
-def counted(file: str, names: list[str]) -> dict[Any, tuple[Any, int, Any, Any]]:
-    """For each crate, in the order of the table: how many definitions, files, lines and words the
-    contracts of these functions lead to, together.
+def counted(file: str, names: list[str]) -> dict[str, tuple[int, int]]:
+    """For each crate, in the order of the table: how many definitions the contracts of these
+    functions lead to, together, and their words.
     """
-    rows: Any = defaultdict(lambda: [0, set(), 0, 0])
+    rows: Any = defaultdict(list)
     for source, _, text in {it: 0 for name in names for it in closure((file, name))}:
-        row: Any = rows[source.relative_to(TOP / "crates").parts[0]]
-        row[0] += 1
-        row[1].add(source)
-        row[2] += len([line for line in text.split("\n") if line.strip()])
-        row[3] += len(text.split())
+        rows[source.relative_to(TOP / "crates").parts[0]].append(len(text.split()))
     order = [it for it in PARTS if it in rows] + sorted(set(rows) - set(PARTS))
-    return {it: (rows[it][0], len(rows[it][1]), rows[it][2], rows[it][3]) for it in order}
+    return {it: (len(rows[it]), sum(rows[it])) for it in order}
 
 
-def total_of(rows: Any) -> str:
-    return " | ".join("{:,}".format(sum(row[at] for row in rows.values())) for at in range(4))
+def row(what: str, crate: str, numbers: Iterable[int]) -> str:
+    return "| %s | %s | %s |" % (what, crate, " | ".join("{:,}".format(it) for it in numbers))
 
 
-def table() -> str:
-    rows = counted(HEADLINE[0], [HEADLINE[1]])
-    lines = ["| Part | Crate | Definitions | Files | Lines | Words |", "|---|---|---|---|---|---|"]
+def total(what: str, kit: Any, file: str, names: list[str]) -> str:
+    """The row of all that these contracts lead to, and of the kit's definitions beneath."""
+    ours = [sum(it) for it in zip(*counted(file, names).values())]
+    ends = {it for name in names for it in closure_and_ends((file, name))[1]}
+    return row(what, "", [*ours, *beneath.counted(kit, ends)])
+
+
+def table(kit: Any) -> str:
+    lines = [
+        "| Part | Crate | Definitions | Words | The kit's | Words |", "|---|---|---|---|---|---|"]
     lines += [
-        "| %s | `%s` | %s |" % (PARTS.get(crate, ""), crate, " | ".join("{:,}".format(it)
-                                                                        for it in row))
-        for crate, row in rows.items()]
-    lines.append("| all | | %s |" % total_of(rows))
-    file, names = FRESH
-    lines += ["| of `%s` | | %s |" % (name, total_of(counted(file, [name]))) for name in names]
+        row(PARTS.get(crate, ""), "`%s`" % crate, it) + " | |"
+        for crate, it in counted(HEADLINE[0], [HEADLINE[1]]).items()]
+    lines.append(total("all", kit, HEADLINE[0], [HEADLINE[1]]))
+    lines += [total("of `%s`" % name, kit, FRESH[0], [name]) for name in FRESH[1]]
+    lines.append(total("of `%s`" % SEEN[1][0], kit, *SEEN))
     laws = re.findall(r"(?m)^pub fn (\w+)", (TOP / LAWS).read_text(encoding="utf-8"))
-    lines.append("| of `up_uptane`'s laws | | %s |" % total_of(counted(LAWS, laws)))
+    lines.append(total("of `up_uptane`'s laws", kit, LAWS, laws))
     return "\n".join(lines) + "\n"
 
 
@@ -346,7 +363,8 @@ def written(text: str) -> str:
                                                   if it[4] else "\n"), text)
     if kit_here():
         text = KIT_TABLE.sub(lambda it: "<!-- kit -->\n\n" + kit_table(kit_here()), text)
-    return SIZES.sub(lambda it: "<!-- sizes -->\n\n" + table(), text).rstrip("\n") + "\n"
+        text = SIZES.sub(lambda it: "<!-- sizes -->\n\n" + table(kit_here()), text)
+    return text.rstrip("\n") + "\n"
 
 
 def pages() -> list[Path]:
@@ -361,12 +379,12 @@ def cases() -> trials.Cases:
         for kind, file, name, shown in QUOTE.findall(page.read_text(encoding="utf-8")):
             yield "%s: %s of %s" % (page.relative_to(TOP), name, file), shown == quoted(
                 kind, file, name)
-    yield "the counts of definitions", SIZES.findall(text) == [table()]
     led = {source for source, _, _ in closure()}
     for path in to_read(text):
         yield "the headline leads to %s" % path.relative_to(TOP), path in led
     yield "a contract leads to each definition", not [*unled()]
     if kit_here():
+        yield "the counts of definitions", SIZES.findall(text) == [table(kit_here())]
         yield "the counts of the kit", KIT_TABLE.findall(text) == [kit_table(kit_here())]
 
 
