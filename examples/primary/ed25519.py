@@ -5,6 +5,7 @@ It is slow, and its time depends on secrets: no one signs with it what matters. 
 leaves a choice, it takes that of the RFC's own code (section 6): the equation without the
 cofactor, k modulo the order. Comments name the sections.
 """
+import functools
 import hashlib
 from collections.abc import Iterator
 
@@ -39,12 +40,21 @@ def add(one: Point, other: Point) -> Point:
     return e * f % P, g * h % P, f * g % P, e * h % P
 
 
+@functools.lru_cache(1000)
+def doubled(point: Point) -> tuple[Point, ...]:
+    """The point, and 255 more, each twice the one before: kept, since a key comes again."""
+    points = [point]
+    for _ in range(255):
+        points.append(add(points[-1], points[-1]))
+    return tuple(points)
+
+
 def multiple(count: int, point: Point) -> Point:
+    """[count]P, for a count below 2^256."""
     total = NEUTRAL
-    while count:
+    for twice in doubled(point):
         if count & 1:
-            total = add(total, point)
-        point = add(point, point)
+            total = add(total, twice)
         count >>= 1
     return total
 
@@ -63,6 +73,7 @@ def encode(point: Point) -> bytes:
     return (y | (x & 1) << 255).to_bytes(32, "little")
 
 
+@functools.lru_cache(1000)
 def decode(data: bytes) -> Point | None:
     """The point that 32 bytes write; none where they write none."""
     if len(data) != 32:
@@ -135,6 +146,7 @@ def expanded(secret: bytes) -> tuple[int, bytes]:
     return number(hashed[:32]), bytes(hashed[32:])
 
 
+@functools.lru_cache(1000)
 def public_of(secret: bytes) -> bytes:
     return encode(multiple_of_base(expanded(secret)[0]))
 

@@ -1,22 +1,21 @@
 #!/bin/sh
-# Gives the scripts that operators dropped, and refreshes the Image repository, in one stop of each desk. To be run by root.
+# Gives the scripts that operators dropped, and refreshes the Image repository, while each desk serves. To be run by root.
 #
 #     apply.sh [--refresh]
 #     apply.sh --mend
 #
-# Scripts are taken from SPOOL, whole files named NAME.script, and checked. One that the checker refuses stops no service; where none is
-# left, and no refresh is asked for, nothing more is done. Scripts that only show and fetch are given to a copy, and stop nothing. Else
-# each desk, one after the other, is copied where scripts are given, stopped, given its lines, and started again, whatever happens; where
-# keys were rotated it is copied once more. The program opens each copy, as backup.sh has it do. A desk whose file is gone isn't stopped.
-# What was answered is in SPOOL/answers, and in the journal with who gave it; what wasn't is in SPOOL/held. The status is 0 where all was
-# accepted, and answered without a refusal. `--mend` puts right what a run left that was killed: it starts the desk that was stopped, and
-# puts scripts into SPOOL/held. Each run begins so. Settings are read from /etc/uptane/settings.
+# Scripts are taken from SPOOL, whole files named NAME.script, and checked. Where the checker refuses all, and no refresh is asked for,
+# nothing more is done. Else each desk, one after the other, is copied where a script changes anything, and given its lines by its
+# operators' socket; where keys were rotated it is copied once more. The program opens each copy, as backup.sh has it do. A desk whose
+# file is gone is given nothing. What was answered is in SPOOL/answers, and in the journal with who gave it; what wasn't is in SPOOL/held.
+# The status is 0 where all was accepted, and answered without a refusal. `--mend` puts scripts that a killed run left into SPOOL/held; each
+# run begins so. Settings are read from /etc/uptane/settings.
 set -eu
 umask 077
 : "${SETTINGS:=/etc/uptane/settings}"
 # shellcheck source=/dev/null
 if [ -r "$SETTINGS" ]; then . "$SETTINGS"; fi
-: "${PROGRAM:=/usr/bin/uptane_desk}" "${TOOLS:=/usr/lib/uptane_desk/tools}" "${OWNER:=uptane}" "${PORT:=8080}"
+: "${PROGRAM:=/usr/bin/uptane_desk}" "${TOOLS:=/usr/lib/uptane_desk/tools}" "${PORT:=8080}"
 : "${FOLDER:=/var/lib/uptane}" "${SPOOL:=/var/spool/uptane}" "${JOURNAL:=/var/log/uptane/journal}" "${COPIES:=/var/backups/uptane}"
 # several desks: their number, and the folder of their division; how long a start may take, in seconds
 : "${DESKS:=}" "${DIVISION:=/var/lib/uptane-division}" "${PATIENCE:=600}" "${RUN:=/run}" "${AFTER_APPLY:=/etc/uptane/after-apply}"
@@ -33,6 +32,7 @@ say() { echo "apply.sh: $*" >&2; }
 tool() { python3 "$TOOLS/run" "$@"; }
 # a desk is its number, or nothing where there is one alone
 file_of() { echo "$FOLDER/desk$1.db"; }
+socket_of() { echo "$FOLDER/desk$1.socket"; }
 unit_of() { if [ "$1" ]; then echo "uptane-desk@$1.service"; else echo uptane-desk.service; fi; }
 script_of() { if [ "$1" ]; then echo "$DIVISION/desk$1.script"; else echo "$work/script"; fi; }
 answers_of() { if [ "$1" ]; then echo "$DIVISION/desk$1.answers"; else echo "$work/answers"; fi; }
@@ -50,19 +50,11 @@ above() {
     if [ "$version" -gt "$highest" ]; then highest=$version; fi
 }
 
-# (a start behind a stop is none of the tries behind which the unit gives up)
-start() { systemctl reset-failed "$1" 2> /dev/null || true; systemctl start "$1"; }
-
 # ---- what a run left that was killed
 
 exec 9> "$RUN/uptane-apply.lock"
 # (what was killed may still end; a run that goes on needs no mending)
 if [ "$mend" ]; then flock -w 10 9 || exit 0; else flock 9; fi
-if [ -s "$RUN/uptane-stopped" ]; then
-    say "a run was killed: $(cat "$RUN/uptane-stopped") is started again"
-    start "$(cat "$RUN/uptane-stopped")"
-    rm -f "$RUN/uptane-stopped"
-fi
 find "$SPOOL" -maxdepth 1 -type d -name 'taken.*' -uid "$(id -u)" | while read -r left; do
     if [ -e "$left/list.json" ]; then tool spool keep "$SPOOL" "$left" "$JOURNAL" || say "a run was killed: see $SPOOL/held and $JOURNAL"; fi
     rm -rf "$left"
@@ -77,13 +69,11 @@ if [ "$refresh" ]; then each above; fi
 public=''
 if asked "${DESKS:+1}" 0 /director/root.json 2> /dev/null | grep -q '"method":"ed25519"'; then public=--public; fi
 
-work=$(mktemp -d "$SPOOL/taken.XXXXXX") stopped='' failed='' given='' number=0 reading='' own=''
+work=$(mktemp -d "$SPOOL/taken.XXXXXX") failed='' given='' number=0 reading=''
 kept() { given=''; tool spool keep "$SPOOL" "$work" "$JOURNAL" $public || failed=yes; }
-started() { start "$stopped" && { stopped=''; rm -f "$RUN/uptane-stopped"; }; }
 ended() {
-    if [ "$stopped" ]; then started; fi
     if [ "$given" ]; then kept; fi
-    rm -rf "$work" ${own:+"$own"}
+    rm -rf "$work"
 }
 trap ended EXIT
 trap 'exit 1' HUP INT TERM
@@ -92,7 +82,7 @@ given=yes
 tool spool take "$SPOOL" "$work" "$JOURNAL" > "$work/number" || failed=yes
 number=$(cat "$work/number")
 if [ "${number:-0}" = 0 ] && [ ! "$refresh" ]; then given=''; [ ! "$failed" ]; exit; fi
-if [ ! "$refresh" ] && tool spool reads "$work"; then reading=yes; fi
+if tool spool reads "$work"; then reading=yes; fi
 
 whole() {
     tool spool whole "$work" ${refresh:+--refresh "$highest"} > "$work/script"
@@ -127,33 +117,15 @@ copied() {
     tool try_copy "$PROGRAM" "$copy"
 }
 
-# as the owner of the file: what another user makes can't be opened by the service
-run() { runuser -u "$OWNER" -- "$PROGRAM" run "$2" < "$(script_of "$1")" > "$(answers_of "$1")" || failed=yes; }
-
-read_copy() {
-    own=$(mktemp -d "$FOLDER/reading.XXXXXX")
-    if tool copy_served "$(pid_of "$1")" "$(file_of "$1")" "$own/desk.db"; then
-        chown -Rh "$OWNER" "$own"
-        run "$1" "$own/desk.db"
-    else
-        failed=yes
-    fi
-    rm -rf "$own" && own=''
-}
-
 give() {
     : > "$(answers_of "$1")"
     [ -s "$(script_of "$1")" ] || return 0
-    if [ "$reading" ]; then read_copy "$1"; return 0; fi
-    if gone "$1"; then say "desk$1: its file is gone: it isn't stopped, and nothing is given"; failed=yes; return 0; fi
-    if [ "$number" != 0 ] && ! copied "$1" before; then say "desk$1: no copy, so nothing is given"; failed=yes; return 0; fi
-    begun=$(date +%s) stopped=$(unit_of "$1")
-    echo "$stopped" > "$RUN/uptane-stopped"
-    systemctl stop "$stopped" || { failed=yes; return 0; }
-    tool raised "$(file_of "$1")" "$COPIES" && run "$1" "$(file_of "$1")" || failed=yes
-    started || failed=yes
-    fetched "$1" > "$work/timestamp" || failed=yes
-    echo "desk$1: $(wc -l < "$(answers_of "$1")") lines answered, off the line for $(($(date +%s) - begun)) seconds"
+    if gone "$1"; then say "desk$1: its file is gone, so nothing is given"; failed=yes; return 0; fi
+    if [ "$number" != 0 ] && [ ! "$reading" ] && ! copied "$1" before; then say "desk$1: no copy, so nothing is given"; failed=yes; return 0; fi
+    # (one that was just started doesn't listen yet)
+    fetched "$1" > "$work/timestamp" || { failed=yes; return 0; }
+    tool tell "$(socket_of "$1")" < "$(script_of "$1")" > "$(answers_of "$1")" || failed=yes
+    echo "desk$1: $(wc -l < "$(answers_of "$1")") lines answered"
 }
 install -d -m 700 "$COPIES"
 each give

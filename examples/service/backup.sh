@@ -19,7 +19,7 @@ if [ -r "$SETTINGS" ]; then . "$SETTINGS"; fi
 : "${PROGRAM:=/usr/bin/uptane_desk}" "${TOOLS:=/usr/lib/uptane_desk/tools}" "${FOLDER:=/var/lib/uptane}" "${COPIES:=/var/backups/uptane}" "${KEEP:=48}" "${DESKS:=}"
 : "${TRY_EACH:=0}" "${METRICS:=}" "${PAGE:=}" "${AFTER:=/etc/uptane/after-backup}" "${RUN:=/run}"
 
-# apply.sh stops and starts what is copied here
+# (apply.sh copies, too)
 exec 9> "$RUN/uptane-apply.lock"
 flock 9
 

@@ -6,13 +6,14 @@
 # A desk whose file is gone, though there was one (FOUNDED/NAME tells), is lost with the program that still has it. One that doesn't
 # answer for LATE seconds is down: a start may take so long. A Timestamp that has less than 9 hours left wasn't refreshed, and a copy that
 # is 3 hours old wasn't made. What is amiss is printed each time; the status is 1 where it is another than the last time, and each 6
-# hours. With WATCHED, metrics are written there. Settings are read from /etc/uptane/settings.
+# hours. With WATCHED, metrics are written there, with what the service says of itself. Settings are read from /etc/uptane/settings.
 set -eu
 umask 022
 : "${SETTINGS:=/etc/uptane/settings}"
 # shellcheck source=/dev/null
 if [ -r "$SETTINGS" ]; then . "$SETTINGS"; fi
 : "${PORT:=8080}" "${FOLDER:=/var/lib/uptane}" "${COPIES:=/var/backups/uptane}" "${DESKS:=}" "${RUN:=/run}"
+: "${TOOLS:=/usr/lib/uptane_desk/tools}"
 : "${LATE:=180}" "${LEAST_LEFT:=32400}" "${OLDEST:=10800}" "${WATCHED:=}" "${FOUNDED:=/etc/uptane/founded}"
 
 now=$(date +%s) state=$RUN/uptane-watch lines=''
@@ -23,6 +24,14 @@ mkdir -p "$state"
 say() { echo "desk$1: $2" >> "$amiss"; }
 metric() { lines="$lines$(printf 'uptane_desk_%s{desk="desk%s"} %s' "$2" "$1" "$3")
 "; }
+
+status() {
+    told=$(echo '{"do":"status"}' | python3 "$TOOLS/run" tell "$FOLDER/desk$1.socket" || true)
+    for name in open served groups commands seconds; do
+        value=$(echo "$told" | sed -n "s/.*\"$name\":\([0-9]*\).*/\1/p")
+        if [ "$value" ]; then metric "$1" "service_$name" "$value"; fi
+    done
+}
 
 watch() {
     file=$FOLDER/desk$1.db mark=$FOUNDED/desk$1.db there=0
@@ -45,6 +54,7 @@ watch() {
         echo "$now" > "$state/answered$1"
         metric "$1" up 1
         metric "$1" served_timestamp_left_seconds "$left"
+        if [ "$WATCHED" ]; then status "$1"; fi
         if [ "$left" -lt "$LEAST_LEFT" ]; then say "$1" "the Timestamp expires $expires: see uptane-desk-refresh"; fi
     else
         [ -e "$state/answered$1" ] || echo "$now" > "$state/answered$1"

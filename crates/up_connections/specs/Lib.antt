@@ -1,4 +1,3 @@
 pub mod Moments
 pub mod Lines
-pub mod Interleaved
 pub mod Hubs

@@ -1,8 +1,12 @@
 -- What a connection shows.
-use Rattle.std.specs.Prelude.{◌≡◌, ℕ, Option, Some, None, List, [], take, drop}
+use Rattle.std.specs.Prelude.{◌≡◌, ℕ, Bool, true, false, Option, Some, None, List, [], take, drop}
 use Rattle.up_http.specs.Serving.{Gives}
 use Rattle.up_http.specs.Talks.{Talk, silent, Event, Came, Ended, Told, Wrote, Happens}
 use Rattle.up_http.specs.declared.asked.Next.{Next}
+use Rattle.up_http.specs.declared.asked.What.TheVariants.{Call}
+use Rattle.up_machine.specs.declared.command.Command.{Command}
+use Rattle.up_machine.specs.declared.command.Command.TheVariants.{Deliver}
+use Rattle.up_connections.specs.declared.connection.Delivery.{Delivery}
 
 -- its conversation, and the request that waits for its answer
 pub record Line : Type 0 where
@@ -34,6 +38,16 @@ TakesBytes old new = (taken : ℕ) × (next : Option Next) × Happens old.line.t
 -- no more bytes come
 abbrev pub EndsBytes : Shown → Shown → Type 0
 EndsBytes old new = (next : Option Next) × Happens old.line.talk (Ended next) new.line.talk × (new.line.asks ≡ next) × (new.coming ≡ [])
+
+-- the request that waits is this command, to be told so, and is answered; or nothing changes
+abbrev pub IsTold : Command → Bool → Bool → List ℕ → Shown → Shown → Bool → Type 0
+IsTold asked head last text old new false = new ≡ old
+IsTold asked head last text old new true = (old.line.asks ≡ Some (record { what = Call asked; head = head; last = last }))
+    × Happens old.line.talk (Told text) new.line.talk × (new.line.asks ≡ None) × (new.coming ≡ old.coming)
+
+-- the request that delivers a manifest so
+abbrev pub asked_by : Delivery → Next
+asked_by d = record { what = Call (Deliver d.body); head = d.head; last = d.last }
 
 -- so many bytes of answers were written
 abbrev pub WritesBytes : ℕ → Shown → Shown → Type 0

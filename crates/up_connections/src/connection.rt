@@ -1,13 +1,17 @@
 //! One of many connections, as a value.
-ghost use Rattle.std.specs.Prelude.{◌≡◌, ◌≤◌, [], ℕ, List, length, nat_lt, OnErr, OnOk};
+ghost use Rattle.std.specs.Prelude.{◌≡◌, ◌≤◌, [], ℕ, List, Some, length, nat_lt, IfOk, IfSome, OnErr, OnOk, true};
 ghost use Rattle.up_http.specs.Talks.{Told, wants_of};
-ghost use Rattle.up_connections.specs.Lines.{EndsBytes, HappensTo, IsUntold, TakesBytes, WritesBytes, fresh};
+ghost use Rattle.up_http.specs.declared.asked.What.TheVariants.{Call};
+ghost use Rattle.up_connections.specs.Lines.{EndsBytes, HappensTo, IsTold, IsUntold, TakesBytes, WritesBytes, asked_by, fresh};
 
 use std::alloc::{AllocError, Global};
 use std::marker::Model;
-use up_http::asked::{Next, Step};
+use up_canon::bytes::Bytes;
+use up_canon::listed::Duplicate;
+use up_http::asked::{Next, Step, What};
 use up_http::conversation::{Conversation, Wants};
 use up_http::respond::Respond;
+use up_machine::command::Command;
 
 /// A connection: what was said on it, the bytes that came and that it hasn't taken, and the request that waits for its answer.
 /// It holds no more than a conversation does, one piece and one request.
@@ -21,6 +25,17 @@ pub struct Connection {
     coming: Vec<u8>,
     /// How many bytes of it were taken.
     taken: usize,
+}
+
+/// A request that delivers a manifest.
+#[derive(Drop)]
+pub struct Delivery {
+    /// The manifest, as the bytes of its body.
+    pub body: Bytes,
+    /// Whether its method is HEAD, whose answer has no body.
+    pub head: bool,
+    /// Whether the stream ends with it.
+    pub last: bool,
 }
 
 impl Model for Connection {
@@ -120,6 +135,31 @@ impl Connection {
         Ok(())
     }
 
+    /// A copy of the request that waits, where it delivers a manifest.
+    pub fn delivery(&self) -> Result<Option<Delivery>, AllocError>
+        ensures { IfOk result (λ found. IfSome found (λ copied. self.now.line.asks ≡ Some (asked_by copied))) }
+    {
+        match &self.asks {
+            Some(next) => copied_delivery(self.alloc, next),
+            None => Ok(None),
+        }
+    }
+
+    /// Takes the answer to a delivery, where it is the request that waits; `false` where it isn't, and nothing changes.
+    pub fn tell(&mut self, asked: &Command, head: bool, last: bool, text: Vec<u8>) -> bool
+        ensures { IsTold asked.now head last text.items self.old self.new result }
+    {
+        let Some(next) = &self.asks else {
+            return false;
+        };
+        if !asks_this(next, asked, head, last) {
+            return false;
+        }
+        self.asks = None;
+        self.talk.answer(text);
+        true
+    }
+
     /// The bytes of answers that weren't written.
     pub fn unsent(&self) -> &[u8]
         ensures { result.now ≡ self.now.line.talk.unsent }
@@ -133,5 +173,32 @@ impl Connection {
         ensures { WritesBytes bytes self.old self.new }
     {
         self.talk.wrote(bytes);
+    }
+}
+
+/// Whether a request asks this delivery, and is to be told so.
+fn asks_this(next: &Next, asked: &Command, head: bool, last: bool) -> bool
+    ensures { result ≡ true → next.now ≡ record { what = Call asked.now; head = head; last = last } }
+{
+    let What::Call(Command::Deliver(body)) = &next.what else {
+        return false;
+    };
+    let Command::Deliver(other) = asked else {
+        return false;
+    };
+    *body == *other && next.head == head && next.last == last
+}
+
+/// A copy of a request, where it delivers a manifest.
+fn copied_delivery(alloc: Global, next: &Next) -> Result<Option<Delivery>, AllocError>
+    ensures { IfOk result (λ found. IfSome found (λ copied. next.now ≡ asked_by copied)) }
+{
+    match &next.what {
+        What::Call(Command::Deliver(body)) => Ok(Some(Delivery {
+            body: body.copy(alloc)?,
+            head: next.head,
+            last: next.last,
+        })),
+        _ => Ok(None),
     }
 }

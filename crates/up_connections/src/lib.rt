@@ -3,5 +3,4 @@
 
 pub mod connection;
 pub mod hub;
-pub mod laws;
 pub mod patience;

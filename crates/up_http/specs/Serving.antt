@@ -1,6 +1,6 @@
 -- What a run over a stream leaves: answers, states, and what was written.
 use Rattle.std.specs.Prelude.{◌≡◌, ℕ, ◌*◌, ◌<◌, ◌≤◌, Bool, true, false, ⊤, Option, Some, None, IfNone, List, [], ◌++◌, length, filter, Result, IfOk, IfErr, IfSome}
-use Rattle.up_lines.specs.Runs.{At, AnswersUpTo, Finished, LastRead, Ran, listed}
+use Rattle.up_lines.specs.Runs.{At, AnswersUpTo, Breaks, Finished, LastRead, Ran, Run, listed}
 use Rattle.up_lines.specs.declared.fault.ScriptCause.{ScriptCause}
 use Rattle.up_lines.specs.declared.fault.ScriptCause.TheVariants as why
 use Rattle.up_http.specs.Requests.{First, Firsts, Requests, most_requests, most_request}
@@ -74,13 +74,13 @@ Tells Write came ended done next = ⊤
 -- what a run that ended early leaves of the bytes that came; it counts the commands that were handed on
 abbrev pub Stopped : {S : Type 0} → Gives S → List ℕ → Bool → ServeFault → At S → At S → Type 0
 Stopped gives came ended fault first now =
-    AnswersUpTo gives plain
+    AnswersUpTo (Run gives) plain (Breaks gives plain (cause_of fault.cause))
     (λ done next. AreFirst came ended done next × Tells fault.cause came ended done next × (fault.called ≡ calls (done ++ listed next)))
-    (cause_of fault.cause) first fault.answered now
+    first fault.answered now
 
 -- what a run that ended leaves: each request of the input has its answer, in order
 abbrev pub FinishedRequests : {S : Type 0} → Gives S → List ℕ → ℕ → At S → At S → Type 0
-FinishedRequests gives input answered first now = Finished gives plain (Requests input) first answered now
+FinishedRequests gives input answered first now = Finished (Run gives) plain (Requests input) first answered now
 
 -- a run over a reader and a writer: it ends well at the input's end, or with a request, whatever follows; and nothing is read behind what
 -- ended it but the piece in which that lay
@@ -94,7 +94,7 @@ RanRequests gives had has first now result =
 -- whole answer written
 abbrev pub AnswersFirst : {S : Type 0} → Gives S → List ℕ → ServeFault → At S → At S → Type 0
 AnswersFirst gives input fault first now =
-    AnswersUpTo gives plain (λ done next. AreFirst input true done next × (fault.called ≡ calls (done ++ listed next))) (cause_of fault.cause) first fault.answered now
+    AnswersUpTo (Run gives) plain (Breaks gives plain (cause_of fault.cause)) (λ done next. AreFirst input true done next × (fault.called ≡ calls (done ++ listed next))) first fault.answered now
 
 -- a run over a stream
 pub record RunsRequests {S : Type 0} (gives : Gives S) (had has : Option (List ℕ)) (first now : At S) (result : Result Served ServeFault) : Type 0 where

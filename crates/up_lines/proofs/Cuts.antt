@@ -128,3 +128,26 @@ cut_at bytes at before behind below here none until from =
       all_inside bytes at (omega arith) none,
       sym (take-append-drop at bytes) ∙ ap (λ l. take at bytes ++ l) (rest ∙ ap (λ l. newline ∷ l) (sym (take_rest bytes (at + 1)))),
     ))
+
+-- bytes of a line's own begin with no newline
+pub no_newline : (bytes more : List ℕ) → list_all is_inside bytes ≡ true → bytes ≡ newline ∷ more → ⊥
+no_newline bytes more own is = let no : false ≡ true = sym (ap (list_all is_inside) is) ∙ own in cc
+
+pub begins_inside : (line behind piece more : List ℕ) → 0 < length line → list_all is_inside line ≡ true → piece ≡ line ++ newline ∷ behind → piece ≡ newline ∷ more → ⊥
+begins_inside [] behind piece more some own is begins = absurd (omega arith)
+begins_inside (b ∷ bs) behind piece more some own is begins =
+    let same : b ≡ newline = (let it : b ∷ (bs ++ newline ∷ behind) ≡ newline ∷ more = sym is ∙ begins in cc) in
+    let no : false ≡ true = sym (ap is_inside same) ∙ (both_hold (is_inside b) (list_all is_inside bs) own).0 in
+    cc
+
+pub has_some : (bytes : List ℕ) → (bytes ≡ [] → ⊥) → 0 < length bytes
+has_some [] none = absurd (none refl)
+has_some (b ∷ bs) none = omega arith
+
+-- a newline is no byte of a line's own
+pub newline_ends : (line more bytes : List ℕ) → bytes ≡ line ++ newline ∷ more → list_all is_inside bytes ≡ true → ⊥
+newline_ends line more bytes is own = among line (sym (ap (list_all is_inside) is) ∙ own)
+  where
+    among : (line : List ℕ) → list_all is_inside (line ++ newline ∷ more) ≡ true → ⊥
+    among [] it = cc
+    among (b ∷ bs) it = among bs (both_hold (is_inside b) (list_all is_inside (bs ++ newline ∷ more)) it).1

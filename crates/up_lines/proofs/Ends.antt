@@ -1,19 +1,19 @@
 -- How a run ends.
 use Rattle.std.proofs.Common.{◌≡◌, Result, Ok, Err, OnOk, IfErr, IsErrAnd, ℕ, ◌-◌, ◌<◌, ◌≤◌, Bool, true, false, List, [], ◌∷◌, ◌++◌, length, filter, refl, ap, sym, ◌∙◌, subst, arith, append-nil}
-use Rattle.std.specs.Prelude.{Option, None}
+use Rattle.std.specs.Prelude.{Option}
 use Rattle.std.specs.List.{list_all}
 use Rattle.std.specs.Io.KnownBytes.{Consumes, IsAtEnd}
 use Rattle.std.proofs.KnownBytes.{Appends-nil}
 use Rattle.std.proofs.lemmas.Result.{err_from_is_err_and}
 use Rattle.up_lines.specs.declared.progress.Progress.{Progress}
 use Rattle.up_lines.specs.declared.fault.ScriptCause.{ScriptCause}
-use Rattle.up_lines.specs.declared.fault.ScriptCause.TheVariants.{Read}
+use Rattle.up_lines.specs.declared.fault.ScriptCause.TheVariants.{Read, TooLong}
 use Rattle.up_lines.specs.Lines.{newline, most_lines, most_bytes, piece_bytes, lines_of, is_short, fits, has_bytes, asked}
-use Rattle.up_lines.specs.Runs.{At, LastRead}
+use Rattle.up_lines.specs.Runs.{At, Composes, LastRead}
 use Rattle.up_lines.specs.LineRuns.{Gives, FinishedLines, Stopped, WantsMore, RanLines}
 use Rattle.up_lines.specs.Progress.{Sofar, Closes, Fails, Stops, Completes, IsFresh, run_result, is_inside}
 use Rattle.up_lines.proofs.Cuts.{lines-line, lines-last_one, lines-begun}
-use Rattle.up_lines.proofs.RunLaws.{not_full, fits_begun, asked-append, asked_among-none, as_many}
+use Rattle.up_lines.proofs.RunLaws.{fits_begun, asked-append, asked_among-none, as_many}
 use Rattle.up_lines.proofs.Steps.{takes_end}
 use Rattle.up_lines.proofs.Stopping.{stopped, breaks_none, stops_at, ended_next}
 
@@ -21,17 +21,13 @@ pub none_of : (line : List ℕ) → length line ≡ 0 → line ≡ []
 none_of [] h = refl
 none_of (b ∷ bs) h = absurd (omega arith)
 
--- past the last line no line is begun
-pub below_of : (at : Progress) → 0 < length at.line.items → at.counted < most_lines
-below_of at some = not_full at.counted at.few (λ full. let none : length at.line.items ≡ 0 = ap length (at.none_past full) in omega arith)
-
 -- lines within the limits are all answered, but for the empty ones
 asked-all : (lines : List (List ℕ)) → list_all is_short lines ≡ true → length lines ≤ most_lines → asked lines ≡ filter has_bytes lines
 asked-all lines each few =
     ap asked (sym (append-nil lines)) ∙ asked-append lines [] each few
     ∙ ap (λ l. filter has_bytes lines ++ l) (asked_among-none (most_lines - length lines)) ∙ append-nil (filter has_bytes lines)
 
-module _ {S : Type 0} (gives : Gives S) (first : At S) where
+module _ {S : Type 0} (gives : Gives S) (laws : Composes gives) (first : At S) where
   -- the lines of what came
   lines_now : (came : List ℕ) (at : Progress) (now : At S) (so : Sofar gives first came at now) (ended : Bool) → lines_of ended came ≡ so.whole ++ lines_of ended at.line.items
   lines_now came at now so ended =
@@ -69,7 +65,7 @@ module _ {S : Type 0} (gives : Gives S) (first : At S) where
   completes_some : (came : List ℕ) (old new : Progress) (before after : At S) → old.counted < most_lines → 0 < length old.line.items → Closes gives old before new after
       → Sofar gives first came old before → FinishedLines gives came new.answered first after
   completes_some came old new before after room some closes so =
-      let then = completes_none (came ++ newline ∷ []) new after closes.emptied (takes_end gives old new before after room closes first came so) in
+      let then = completes_none (came ++ newline ∷ []) new after closes.emptied (takes_end gives laws old new before after room closes first came so) in
       let same = same_lines came old before so true some in
       record {
         items = then.items;
@@ -97,7 +93,7 @@ module _ {S : Type 0} (gives : Gives S) (first : At S) where
     none_at_end = none;
     wanted = (
       within_limits came at now so,
-      omega (arith, few, so.answered_is, ap length (asked_whole came at now so), as_many gives first.state now.state (filter has_bytes so.whole) so.answers so.run),
+      omega (arith, few, so.answered_is, ap length (asked_whole came at now so), as_many gives laws first.state now.state (filter has_bytes so.whole) so.answers so.run),
     );
   }
 
@@ -106,10 +102,10 @@ module _ {S : Type 0} (gives : Gives S) (first : At S) where
       → Stopped gives came false (record { cause = Read; lines = at.answered }) first now
   stops_read came at now so =
       let is = asked_whole came at now so in
-      stopped gives Read came false came first at now so None at.answered now ([], is ∙ sym (append-nil (filter has_bytes so.whole)))
-      (refl, within_limits came at now so, sym is) (breaks_none gives Read now (λ e. absurd (cc))) refl
+      stopped gives laws Read came false came first at now so [] at.answered now ([], is ∙ sym (append-nil (filter has_bytes so.whole)) ∙ sym (append-nil (filter has_bytes so.whole ++ [])), omega arith)
+      (refl, within_limits came at now so, sym is) (breaks_none gives laws Read now (λ e. absurd (cc))) refl
 
-module _ {S : Type 0} (gives : Gives S) where
+module _ {S : Type 0} (gives : Gives S) (laws : Composes gives) where
   -- before any byte
   pub fresh : (first : At S) (at : Progress) → IsFresh at → Sofar gives first [] at first
   fresh first at new = record {
@@ -123,24 +119,28 @@ module _ {S : Type 0} (gives : Gives S) where
     short = omega (arith, ap length new.empty);
     none_past = λ _. new.empty;
     bytes = omega arith;
-    run = refl;
+    run = laws.none first.state;
     answered_is = new.none_answered;
     wrote = Appends-nil first.held;
   }
 
   pub finishes_none : (at : Progress) (now : At S) → at.line.items ≡ [] → Completes gives at now at now
-  finishes_none at now none = λ first came so. completes_none gives first came at now none so
+  finishes_none at now none = λ first came so. completes_none gives laws first came at now none so
 
   pub finishes_some : (old new : Progress) (before after : At S) → old.counted < most_lines → 0 < length old.line.items → Closes gives old before new after
       → Completes gives old before new after
-  finishes_some old new before after room some closes = λ first came so. completes_some gives first came old new before after room some closes so
+  finishes_some old new before after room some closes = λ first came so. completes_some gives laws first came old new before after room some closes so
+
+  -- a line that is begun behind the last one doesn't come here
+  pub finishes_past : (at : Progress) (now : At S) → at.counted ≡ most_lines → 0 < length at.line.items → Stops gives TooLong true [] at now at now
+  finishes_past at now full some = λ first came so small. absurd (let none : length at.line.items ≡ 0 = ap length (so.none_past full) in omega (arith, some, none))
 
   -- the line that the input's end ends isn't answered whole
   pub finish_stops : (cause : ScriptCause) (old new : Progress) (before after : At S) → old.counted < most_lines → 0 < length old.line.items → Fails gives cause old before new after
       → Stops gives cause true [] old before new after
   finish_stops cause old new before after room some fails = λ first came so small.
-      let same : lines_of false (came ++ newline ∷ []) ≡ lines_of true (came ++ []) = same_lines gives first came old before so false some ∙ ap (lines_of true) (sym (append-nil came)) in
-      stops_at gives cause came true (came ++ []) first old new before after so _ (ap asked (sym same) ∙ ended_next gives came first old before so [] room fails.some) fails.answered_is fails.unanswered
+      let same : lines_of false (came ++ newline ∷ []) ≡ lines_of true (came ++ []) = same_lines gives laws first came old before so false some ∙ ap (lines_of true) (sym (append-nil came)) in
+      stops_at gives laws cause came true (came ++ []) first old new before after so _ (ap asked (sym same) ∙ ended_next gives laws came first old before so [] room fails.some) fails.answered_is fails.unanswered
 
   -- a run that stopped before the input's end
   pub ran_err : (cause : ScriptCause) (first now : At S) (had has : Option (List ℕ)) (came : List ℕ) (answered : ℕ)
@@ -172,6 +172,6 @@ module _ {S : Type 0} (gives : Gives S) where
     at_end = λ _. end;
     leaves = (
       subst (λ l. Stopped gives l true (record { cause = cause; lines = new.answered }) first now) (append-nil came) (err first came so (omega arith)),
-      last_read gives first came [] came true old before new.answered so grows (sym (append-nil came)) (omega arith) (λ _. refl),
+      last_read gives laws first came [] came true old before new.answered so grows (sym (append-nil came)) (omega arith) (λ _. refl),
     );
   }

@@ -1,5 +1,5 @@
 -- What a run says where it is known what the reader had.
-use Rattle.std.proofs.Common.{◌≡◌, ℕ, Bool, true, false, List, [], ◌∷◌, ◌++◌, Ok, Err, IfSome, Some, None, refl, ap, sym, ◌∙◌, subst, append_assoc, append-nil}
+use Rattle.std.proofs.Common.{◌≡◌, ℕ, Bool, true, false, List, [], ◌++◌, Ok, Err, IfSome, Some, None, refl, ap, sym, ◌∙◌, subst, append_assoc, append-nil}
 use Rattle.std.specs.Prelude.{Option, Result}
 use Rattle.std.proofs.KnownBytes.{Consumes-whole}
 use Rattle.up_lines.specs.declared.fault.ScriptCause.TheVariants.{TooLong}
@@ -15,9 +15,8 @@ first_of false came left end = whole_first came left
 first_of true came left end = ([], ap (λ l. asked (lines_of true l)) (ap (λ l. came ++ l) (end refl) ∙ append-nil came) ∙ sym (append-nil (asked (lines_of true came))))
 
 -- what was first of some lines is first of more
-first_among : (lines more done : List (List ℕ)) (next : Option (List ℕ)) → AreFirst lines done next → AreFirst (lines ++ more) done next
-first_among lines more done None (others, is) = (others ++ more, ap (λ l. l ++ more) is ∙ append_assoc done others more)
-first_among lines more done (Some next) (others, is) = (others ++ more, ap (λ l. l ++ more) is ∙ append_assoc done (next ∷ others) more)
+first_among : (lines more done next : List (List ℕ)) → AreFirst lines done next → AreFirst (lines ++ more) done next
+first_among lines more done next (others, is, few) = (others ++ more, ap (λ l. l ++ more) is ∙ append_assoc (done ++ next) others more, few)
 
 module _ {S : Type 0} (gives : Gives S) (first now : At S) where
   known_whole : (had has : Option (List ℕ)) (answered : ℕ) → RanLines gives had has first now (Ok answered)

@@ -1,5 +1,7 @@
 pub mod Cuts
 pub mod RunLaws
+pub mod Short
+pub mod Together
 pub mod Steps
 pub mod Stopping
 pub mod Ends

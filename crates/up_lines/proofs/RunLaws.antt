@@ -8,8 +8,8 @@ use Rattle.std.proofs.lemmas.List.Sums.{take_while-cons}
 use Rattle.std.proofs.lemmas.List.Elements.{filter-append}
 use Rattle.std.proofs.lemmas.List.Folds.{list_all-append}
 use Rattle.up_lines.specs.Lines.{most_lines, most_line_bytes, lines_of, is_short, fits, has_bytes, asked}
-use Rattle.up_lines.specs.Runs.{Run, written}
-use Rattle.up_lines.specs.LineRuns.{print}
+use Rattle.up_lines.specs.Runs.{Composes, written}
+use Rattle.up_lines.specs.LineRuns.{Gives, print}
 use Rattle.up_lines.specs.Progress.{is_inside}
 use Rattle.up_lines.proofs.Cuts.{both_hold, Begins, lines-last}
 
@@ -20,24 +20,14 @@ has_bytes-long (b ∷ bs) h = refl
 pub is_short-le : (line : List ℕ) → length line ≤ most_line_bytes → is_short line ≡ true
 is_short-le line h = le-leb (length line) most_line_bytes h
 
-module _ {S : Type 0} (gives : S → List ℕ → List ℕ → S → Type 0) where
-  -- one run after another
-  pub Run-append : (old mid new : S) (xs ys cs bs : List (List ℕ)) → Run gives old xs cs mid → Run gives mid ys bs new → Run gives old (xs ++ ys) (cs ++ bs) new
-  Run-append old mid new [] ys [] bs p q = subst (λ s. Run gives s ys bs new) p q
-  Run-append old mid new [] ys (a ∷ cs) bs p q = absurd p
-  Run-append old mid new (x ∷ xs) ys [] bs p q = absurd p
-  Run-append old mid new (x ∷ xs) ys (a ∷ cs) bs p q = (p.0, p.1, Run-append p.0 mid new xs ys cs bs p.2 q)
-
+module _ {S : Type 0} (gives : Gives S) (laws : Composes gives) where
   -- as many answers as lines
-  pub as_many : (old new : S) (xs cs : List (List ℕ)) → Run gives old xs cs new → length xs ≡ length cs
-  as_many old new [] [] p = refl
-  as_many old new [] (a ∷ cs) p = absurd p
-  as_many old new (x ∷ xs) [] p = absurd p
-  as_many old new (x ∷ xs) (a ∷ cs) p = ap suc (as_many p.0 new xs cs p.2)
+  pub as_many : (old new : S) (xs cs : List (List ℕ)) → gives old xs cs new → length xs ≡ length cs
+  as_many old new xs cs p = sym (laws.each old new xs cs p)
 
-  -- the run over one line that has bytes
-  pub Run-one : (old new : S) (line answer : List ℕ) → has_bytes line ≡ true → gives old line answer new → Run gives old (filter has_bytes (line ∷ [])) (answer ∷ []) new
-  Run-one old new line answer h p = subst (λ t. Run gives old (cond t (line ∷ []) []) (answer ∷ []) new) (sym h) (new, p, refl)
+  -- one line that has bytes
+  pub gives-one : (old new : S) (line : List ℕ) (texts : List (List ℕ)) → has_bytes line ≡ true → gives old (line ∷ []) texts new → gives old (filter has_bytes (line ∷ [])) texts new
+  gives-one old new line texts h p = subst (λ t. gives old (cond t (line ∷ []) []) texts new) (sym h) p
 
 pub printed-append : (cs bs : List (List ℕ)) → written print (cs ++ bs) ≡ written print cs ++ written print bs
 printed-append [] bs = refl

@@ -20,7 +20,11 @@ most_bytes = most_lines * (most_line_bytes + 1) + 1
 
 -- the most bytes that are read at once
 abbrev pub piece_bytes : ℕ
-piece_bytes = 8192
+piece_bytes = 65536
+
+-- the most lines that are handed on together
+abbrev pub most_together : ℕ
+most_together = 64
 
 -- a byte before the first line; with no line after it, it begins the last one, which ends with the input
 abbrev pub begin_with : Bool → ℕ → List (List ℕ) → List (List ℕ)

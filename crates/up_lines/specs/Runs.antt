@@ -17,6 +17,17 @@ Run {S} gives old (item ∷ items) (answer ∷ answers) new = (mid : S) × gives
 Run gives old [] (answer ∷ answers) new = ⊥
 Run gives old (item ∷ items) [] new = ⊥
 
+-- what answers lists of items: in a state these items may have these answers, which leave the new state
+abbrev pub GivesAll : Type 0 → Type 0 → Type 1
+GivesAll S I = S → List I → List (List ℕ) → S → Type 0
+
+-- each item has an answer, no items leave the state as it is, and two lists one after another are one list
+pub record Composes {S I : Type 0} (gives : GivesAll S I) : Type 0 where
+  pub each : (old new : S) (items : List I) (texts : List (List ℕ)) → gives old items texts new → length texts ≡ length items
+  pub none : (s : S) → gives s [] [] s
+  pub both : (old mid new : S) (some more : List I) (texts others : List (List ℕ)) → gives old some texts mid → gives mid more others new
+      → gives old (some ++ more) (texts ++ others) new
+
 -- answers, each written so, one after another
 abbrev pub written : (List ℕ → List ℕ) → List (List ℕ) → List ℕ
 written print answers = flat_map print answers
@@ -55,25 +66,26 @@ BlamesWriter cause failed stands = Blames cause ⊥ ⊤ failed stands
 abbrev pub BreaksOff : {S I : Type 0} → (S → I → List ℕ → S → Type 0) → (List ℕ → List ℕ) → ScriptCause → Option I → At S → At S → Type 0
 BreaksOff gives print cause next old new = (prefix : List ℕ) × Breaks gives print cause next old.state new.state prefix × Appends old.held new.held prefix
 
--- what a run that ended early leaves: these items are the first, each has its answer, written whole, and this became of the next one
-pub record AnswersUpTo {S I : Type 0} (gives : S → I → List ℕ → S → Type 0) (print : List ℕ → List ℕ) (AreFirst : List I → Option I → Type 0) (cause : ScriptCause) (first : At S) (answered : ℕ) (now : At S) : Type 0 where
+-- What a run that ended early leaves: these items are the first, each has its answer, written whole, and this became of what was handed on
+-- behind them.
+pub record AnswersUpTo {S I N : Type 0} (gives : GivesAll S I) (print : List ℕ → List ℕ) (Breaks : N → S → S → List ℕ → Type 0) (AreFirst : List I → N → Type 0) (first : At S) (answered : ℕ) (now : At S) : Type 0 where
   pub done : List I
-  pub next : Option I
+  pub next : N
   pub answers : List (List ℕ)
   pub last : S
   pub prefix : List ℕ
   pub first_ones : AreFirst done next
-  pub run : Run gives first.state done answers last
-  pub breaks : Breaks gives print cause next last now.state prefix
+  pub run : gives first.state done answers last
+  pub breaks : Breaks next last now.state prefix
   pub answered_is : answered ≡ length answers
   pub wrote : Appends first.held now.held (written print answers ++ prefix)
 
 -- what a run that ended well leaves: each item has its answer, in order, and nothing else is written
-pub record Finished {S I : Type 0} (gives : S → I → List ℕ → S → Type 0) (print : List ℕ → List ℕ) (AreAll : List I → Type 0) (first : At S) (answered : ℕ) (now : At S) : Type 0 where
+pub record Finished {S I : Type 0} (gives : GivesAll S I) (print : List ℕ → List ℕ) (AreAll : List I → Type 0) (first : At S) (answered : ℕ) (now : At S) : Type 0 where
   pub items : List I
   pub answers : List (List ℕ)
   pub all : AreAll items
-  pub run : Run gives first.state items answers now.state
+  pub run : gives first.state items answers now.state
   pub answered_is : answered ≡ length answers
   pub wrote : Appends first.held now.held (written print answers)
 

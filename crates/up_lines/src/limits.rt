@@ -10,4 +10,7 @@ pub const MOST_LINE_BYTES: usize = 2_097_152;
 pub const MOST_BYTES: u64 = 209_715_300_001;
 
 /// How many bytes are read at once.
-pub const PIECE_BYTES: usize = 8_192;
+pub const PIECE_BYTES: usize = 65_536;
+
+/// The most lines that are handed on together.
+pub const MOST_TOGETHER: usize = 64;

@@ -1,23 +1,24 @@
 //! Lines cut from a reader, and their answers written to a writer.
-ghost use Rattle.std.specs.Prelude.{◌⊎◌, [], false, true};
+ghost use Rattle.std.specs.Prelude.{◌≡◌, ◌⊎◌, ◌<◌, ◌≤◌, [], length, MatchBool, false, true};
 ghost use Rattle.up_lines.specs.LineRuns.{RanLines, RunsLines};
-ghost use Rattle.up_lines.specs.Progress.{Takes, Stops, Completes, Step, IsFresh, run_result};
+ghost use Rattle.up_lines.specs.Lines.{most_lines, piece_bytes};
+ghost use Rattle.up_lines.specs.Progress.{Settles, BreaksOff, Takes, Stops, Completes, Step, IsFresh, run_result};
 ghost use Rattle.up_lines.specs.Runs.{EndsRun};
 
-use crate::cut::cut_line;
-use crate::ending::end_line;
+use crate::cut::has_line;
+use crate::ending::{end_line, end_lines};
 use crate::fault::{ScriptCause, ScriptFault};
 use crate::interpret::Interpret;
-use crate::limits::{MOST_BYTES, PIECE_BYTES};
-use crate::part::{take_line, take_part};
+use crate::limits::{MOST_BYTES, MOST_LINES, PIECE_BYTES};
+use crate::part::{behind_empty, take_bytes};
 use crate::progress::Progress;
 use std::alloc::Global;
 use up_pieces::read_piece;
 use up_pieces::sink::Sink;
 use up_pieces::source::Source;
 
-/// Takes the bytes of a piece: answers each line that is whole then, in order, and writes each answer and a newline. Nothing is taken
-/// after an error.
+/// Takes the bytes of a piece: answers the lines that are whole then, in order and up to 64 together, and writes each answer and a
+/// newline. Nothing is taken after an error.
 pub fn take_piece<S, I: Interpret<S>, W: Sink>(
     alloc: Global,
     interpreter: &I,
@@ -26,18 +27,54 @@ pub fn take_piece<S, I: Interpret<S>, W: Sink>(
     progress: &mut Progress,
     piece: &[u8],
 ) -> Result<(), ScriptCause>
-    requires { W.can_write writer.old }
+    requires few { length piece.now ≤ piece_bytes }
+    requires can_write { W.can_write writer.old }
     ensures { Step (Takes I.gives piece.now) (λ cause. Stops I.gives cause false piece.now)
         progress.old (record { state = state.old; held = W.contents writer.old })
         progress.new (record { state = state.new; held = W.contents writer.new })
         (W.has_failed writer.new) (W.can_write writer.new) result }
 {
     let mut rest = piece;
-    while let Some((line, behind)) = cut_line(rest) {
-        take_line(alloc, interpreter, state, writer, progress, line)?;
+    while let Some(behind) = behind_empty(progress, rest) {
+        progress.counted += 1;
         rest = behind;
     }
-    take_part(progress, rest)
+    take_bytes(progress, rest)?;
+    answer_whole(alloc, interpreter, state, writer, progress)
+}
+
+/// Answers the lines that are whole.
+fn answer_whole<S, I: Interpret<S>, W: Sink>(
+    alloc: Global,
+    interpreter: &I,
+    state: &mut S,
+    writer: &mut W,
+    progress: &mut Progress,
+) -> Result<(), ScriptCause>
+    requires { W.can_write writer.old }
+    ensures { Step (Settles I.gives) (BreaksOff I.gives)
+        progress.old (record { state = state.old; held = W.contents writer.old })
+        progress.new (record { state = state.new; held = W.contents writer.new })
+        (W.has_failed writer.new) (W.can_write writer.new) result }
+{
+    while has_line(progress.line.as_slice()) {
+        if progress.counted == MOST_LINES {
+            return Err(ScriptCause::TooLong);
+        }
+        end_lines(alloc, interpreter, state, writer, progress)?;
+    }
+    if is_past(progress) {
+        return Err(ScriptCause::TooLong);
+    }
+    Ok(())
+}
+
+/// Whether a line is begun behind the last one.
+fn is_past(progress: &Progress) -> bool
+    ensures { MatchBool result ((progress.now.counted ≡ most_lines) × (0 < length progress.now.line.items))
+        (progress.now.counted ≡ most_lines → progress.now.line.items ≡ []) }
+{
+    progress.counted == MOST_LINES && !progress.line.is_empty()
 }
 
 /// Ends the line that the input's end ends, if one is begun.
@@ -56,6 +93,9 @@ fn finish<S, I: Interpret<S>, W: Sink>(
 {
     if progress.line.is_empty() {
         return Ok(());
+    }
+    if progress.counted == MOST_LINES {
+        return Err(ScriptCause::TooLong);
     }
     end_line(alloc, interpreter, state, writer, progress)
 }

@@ -1,63 +1,61 @@
-//! Parts of lines, as they are cut from pieces.
-ghost use Rattle.std.specs.Prelude.{◌≡◌, ◌≤◌, [], ◌∷◌, ◌++◌, ℕ, List, IfErr, OnOk, false, true};
-ghost use Rattle.std.specs.List.{list_all};
-ghost use Rattle.up_lines.specs.Lines.{newline};
-ghost use Rattle.up_lines.specs.Progress.{Grows, Refuses, Takes, Step, Stops, is_inside};
+//! The bytes of a piece.
+ghost use Rattle.std.specs.Prelude.{◌≡◌, ◌<◌, ◌≤◌, [], ◌∷◌, ℕ, List, IfErr, OnOk, length, MatchOption};
+ghost use Rattle.up_lines.specs.Lines.{most_lines, newline, piece_bytes};
+ghost use Rattle.up_lines.specs.Progress.{Grows, IsPart, Refuses};
 
-use crate::ending::end_line;
+use crate::cut::cut_line;
 use crate::fault::ScriptCause;
-use crate::interpret::Interpret;
-use crate::limits::{MOST_LINE_BYTES, MOST_LINES};
+use crate::limits::{MOST_LINE_BYTES, MOST_LINES, PIECE_BYTES};
 use crate::progress::Progress;
-use std::alloc::Global;
-use up_pieces::sink::Sink;
 
-/// Takes a part of a line, whole or not at all.
-pub(crate) fn take_part(progress: &mut Progress, part: &[u8]) -> Result<(), ScriptCause>
-    ensures ok { OnOk result (Grows part.now progress.old progress.new) }
-    ensures err { IfErr result (λ cause. (progress.new.answered ≡ progress.old.answered)
-        × Refuses cause part.now progress.old) }
+/// What stands behind a newline, where no line is begun and another may be: an empty line.
+pub(crate) fn behind_empty<'a>(progress: &Progress, piece: &'a [u8]) -> Option<&'a [u8]>
+    ensures { MatchOption result
+        (progress.now.line.items ≡ [] → progress.now.counted < most_lines → (more : List ℕ) → piece.now ≡ newline ∷ more → ⊥)
+        (λ behind. (progress.now.line.items ≡ []) × (progress.now.counted < most_lines) × (piece.now ≡ newline ∷ behind.now)) }
 {
-    if progress.counted == MOST_LINES && !part.is_empty() {
-        return Err(ScriptCause::TooLong);
+    if !progress.line.is_empty() || progress.counted == MOST_LINES {
+        return None;
     }
-    if progress.line.len() + part.len() > MOST_LINE_BYTES {
-        return Err(ScriptCause::TooLong);
+    match cut_line(piece) {
+        Some((line, behind)) => { if line.is_empty() { Some(behind) } else { None } }
+        None => None,
     }
-    // No bytes take no memory, so none may be refused for them.
-    if part.is_empty() {
-        return Ok(());
-    }
-    // The first byte of all makes room for any line, so memory isn't refused for a line behind others.
-    let more = MOST_LINE_BYTES - progress.line.len();
-    if progress.line.reserve_exact(more).is_err() {
-        return Err(ScriptCause::Memory);
-    }
-    progress.line.extend_from_slice(part).unwrap();
-    Ok(())
 }
 
-/// Takes the last part of a line and its newline.
-pub(crate) fn take_line<S, I: Interpret<S>, W: Sink>(
-    alloc: Global,
-    interpreter: &I,
-    state: &mut S,
-    writer: &mut W,
-    progress: &mut Progress,
-    part: &[u8],
-) -> Result<(), ScriptCause>
-    requires own { list_all is_inside part.now ≡ true }
-    requires can_write { W.can_write writer.old }
-    ensures { Step (Takes I.gives (part.now ++ newline ∷ []))
-        (λ cause old before new after. (more : List ℕ)
-        → Stops I.gives cause false (part.now ++ newline ∷ more) old before new after)
-        progress.old (record { state = state.old; held = W.contents writer.old })
-        progress.new (record { state = state.new; held = W.contents writer.new })
-        (W.has_failed writer.new) (W.can_write writer.new) result }
+/// Puts a piece behind the line that is begun, all of it or nothing. No empty line is at its front.
+pub(crate) fn take_bytes(progress: &mut Progress, piece: &[u8]) -> Result<(), ScriptCause>
+    requires few { length piece.now ≤ piece_bytes }
+    requires begun { progress.old.line.items ≡ [] → progress.old.counted < most_lines → (more : List ℕ)
+        → piece.now ≡ newline ∷ more → ⊥ }
+    ensures ok { OnOk result (Grows piece.now progress.old progress.new) }
+    ensures err { IfErr result (λ cause. (progress.new.answered ≡ progress.old.answered)
+        × Refuses cause piece.now progress.old) }
 {
-    take_part(progress, part)?;
+    if piece.is_empty() {
+        return Ok(());
+    }
     if progress.counted == MOST_LINES {
         return Err(ScriptCause::TooLong);
     }
-    end_line(alloc, interpreter, state, writer, progress)
+    if progress.line.len() + part_of(piece) > MOST_LINE_BYTES {
+        return Err(ScriptCause::TooLong);
+    }
+    // The first byte of all makes room for any line and a piece, so memory isn't refused for a line behind others.
+    let more = MOST_LINE_BYTES + PIECE_BYTES - progress.line.len();
+    if progress.line.reserve_exact(more).is_err() {
+        return Err(ScriptCause::Memory);
+    }
+    progress.line.extend_from_slice(piece).unwrap();
+    Ok(())
+}
+
+/// How many bytes stand before the first newline.
+fn part_of(piece: &[u8]) -> usize
+    ensures { (p : IsPart piece.now) × (result ≡ length p.part) }
+{
+    match cut_line(piece) {
+        Some((line, _)) => line.len(),
+        None => piece.len(),
+    }
 }

@@ -1,1 +1,4 @@
+pub mod Alike
+pub mod Answered
 pub mod Clients
+pub mod Groups

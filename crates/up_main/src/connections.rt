@@ -1,75 +1,87 @@
 //! Connections, served at once.
 ghost use Rattle.std.specs.Prelude.{◌≡◌, IfErr};
-ghost use Rattle.up_main.specs.Clients.{ServesClients};
+ghost use Rattle.up_main.specs.Clients.{Does, ServesClients};
+ghost use Rattle.up_sockets.specs.Served.{IsServed};
 
+use crate::at_desk::AtDesk;
 use crate::laws::clients_outlast_crashes;
 use crate::log::Log;
-use mio::net::TcpListener;
+use mio::net::{TcpListener, UnixListener};
 use sqlite::Alter;
-use std::alloc::AllocError;
+use std::io;
 use std::net::{IpAddr, Ipv4Addr, SocketAddr};
-use up_connections::connection::Connection;
 use up_desk::desk::Desk;
-use up_lines::fault::ScriptCause;
 use up_program::failure::{Failure, told};
 use up_program::line::write_line;
-use up_program::messages::{connection_fault, listening};
-use up_service::response::Responder;
+use up_program::messages::listening;
 use up_sign::scheme::Scheme;
-use up_sockets::service::Service;
-use up_sockets::serving;
+use up_sockets::{serving, socket_file};
 
-/// Answers requests at a desk, and tells on standard error what failed.
+/// Where connections are served.
 #[derive(Drop)]
-struct AtDesk<'a> {
-    rt: &'a HostRuntime,
-    log: Log<'a>,
+pub(crate) struct Place {
+    /// The port of 127.0.0.1 at which HTTP is answered.
+    pub port: u16,
+    /// On how many connections.
+    pub count: u32,
+    /// The path of the Unix socket at which scripts are carried out, if there is one.
+    pub socket: Option<String>,
 }
 
-impl<K: Scheme, D: Alter> Service<Desk<K, D>> for AtDesk<'_> {
-    ghost use Rattle.up_service.specs.Desks.{Calls};
-    ghost use Rattle.up_service.specs.Told.{TellsNext};
-
-    ghost gives = { λ _ at. TellsNext (Calls (K.rules) D.Store) at };
-
-    fn answer(
-        &self,
-        desk: &mut Desk<K, D>,
-        at: u64,
-        connection: &mut Connection,
-    ) -> Result<(), AllocError> {
-        let responder = Responder { at, log: &self.log };
-        connection.answer(&responder, desk)
-    }
-
-    fn tell(&self, number: u64, cause: ScriptCause) {
-        write_line(&mut self.rt.stderr(), &connection_fault(number, cause));
-    }
-}
-
-/// Answers HTTP at a port of this host, on so many connections. However it ended, requests were answered, one after another, and
-/// nothing else was done: a crash behind it loses nothing that was answered.
+/// Answers HTTP at a port of this host, on so many connections, and scripts at a Unix socket, if there is a path for one. However it
+/// ended, requests were answered, groups of deliveries carried out and lines of scripts answered, one after another, and nothing
+/// else was done: a crash behind it loses nothing that was answered.
 pub(crate) fn serve<K: Scheme, D: Alter>(
     rt: &HostRuntime,
     desk: &mut Desk<K, D>,
-    port: u16,
-    count: u32,
+    place: &Place,
 ) -> Result<(), Failure>
     ensures served { ServesClients (K.rules) D.Store desk.old desk.new }
     ensures unheard { IfErr result (λ failure. failure ≡ Failure.Unheard) }
 {
     clients_outlast_crashes::<K, D>();
-    let host = SocketAddr::new(IpAddr::V4(Ipv4Addr::new(127, 0, 0, 1)), port);
-    let Ok(listener) = TcpListener::bind(rt, host) else {
-        return told(&mut rt.stderr(), Err(Failure::Unheard));
-    };
-    write_line(&mut rt.stdout(), &listening(port));
+    match serve_at(rt, desk, place) {
+        Ok(()) => Ok(()),
+        Err(_) => told(&mut rt.stderr(), Err(Failure::Unheard)),
+    }
+}
+
+/// Listens, and serves who calls.
+#[tactic(auto, using(up_sockets::proofs::Joined::served_none))]
+fn serve_at<K: Scheme, D: Alter>(
+    rt: &HostRuntime,
+    desk: &mut Desk<K, D>,
+    place: &Place,
+) -> io::Result<()>
+    ensures { IsServed (Does (K.rules) D.Store) desk.old desk.new }
+{
+    let host = SocketAddr::new(IpAddr::V4(Ipv4Addr::new(127, 0, 0, 1)), place.port);
+    let listener = TcpListener::bind(rt, host)?;
+    match &place.socket {
+        None => serve_both(rt, desk, place, listener, None),
+        Some(path) => {
+            let operators = socket_file::listen(rt, path.as_str())?;
+            let served = serve_both(rt, desk, place, listener, Some(operators));
+            socket_file::take_away(rt, path.as_str());
+            served
+        }
+    }
+}
+
+/// Serves clients, and operators if there is a listener for them.
+fn serve_both<K: Scheme, D: Alter>(
+    rt: &HostRuntime,
+    desk: &mut Desk<K, D>,
+    place: &Place,
+    listener: TcpListener,
+    operators: Option<UnixListener>,
+) -> io::Result<()>
+    ensures { IsServed (Does (K.rules) D.Store) desk.old desk.new }
+{
+    write_line(&mut rt.stdout(), &listening(place.port));
     let service = AtDesk {
         rt,
         log: Log::new(rt),
     };
-    match serving::serve(rt, &service, desk, listener, count) {
-        Ok(()) => Ok(()),
-        Err(_) => told(&mut rt.stderr(), Err(Failure::Unheard)),
-    }
+    serving::serve(rt, &service, desk, listener, operators, place.count)
 }

@@ -4,7 +4,7 @@ ghost use Rattle.up_file.specs.Schemes.{IsTakenFor};
 ghost use Rattle.sqlite.specs.Files.{file_state};
 ghost use Rattle.sqlite.specs.Held.{state};
 
-use crate::connections::serve;
+use crate::connections::{Place, serve};
 use crate::scripts::answer_lines;
 use sqlite::{Alter, Connection, FileFrom, FileStore, Unknown};
 use sqlite_disk::Disk;
@@ -22,12 +22,12 @@ use up_program::unopened::Unopened;
 use up_sign::scheme::Scheme;
 
 /// What is done over a database.
-#[derive(Clone, Copy)]
+#[derive(Drop)]
 pub(crate) enum Work {
     /// The script on standard input is carried out.
     Script,
-    /// HTTP is answered at this port of 127.0.0.1, on so many connections.
-    Serve { port: u16, count: u32 },
+    /// HTTP is answered there, and scripts.
+    Serve(Place),
 }
 
 /// Works over the database of this name: `:memory:` is one in memory, any other name a file's. Its tables are made where they
@@ -173,6 +173,6 @@ fn work_at<K: Scheme, D: Alter>(
 ) -> Result<(), Failure> {
     match work {
         Work::Script => answer_lines(rt, desk),
-        Work::Serve { port, count } => serve(rt, desk, port, count),
+        Work::Serve(place) => serve(rt, desk, &place),
     }
 }

@@ -2,6 +2,7 @@
 //! length and the digests of a file. Each program names its scheme, and does nothing else.
 #![tactic(auto)]
 
+mod at_desk;
 mod connections;
 mod databases;
 mod files;

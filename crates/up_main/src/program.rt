@@ -1,6 +1,7 @@
 //! What a program does, by its words.
 ghost use Rattle.std.specs.Prelude.{◌≡◌, Err, IsNone};
 
+use crate::connections::Place;
 use crate::databases::{Work, work_over};
 use crate::files::digest;
 use std::env;
@@ -45,8 +46,17 @@ fn carried_out<K: Scheme>(rt: &HostRuntime, scheme: K, job: Option<Job>) -> Resu
 {
     match job {
         Some(Job::Run(file)) => work_over(rt, scheme, file.as_str(), Work::Script),
-        Some(Job::Serve(file, port, count)) => {
-            work_over(rt, scheme, file.as_str(), Work::Serve { port, count })
+        Some(Job::Serve(file, port, count, socket)) => {
+            work_over(
+                rt,
+                scheme,
+                file.as_str(),
+                Work::Serve(Place {
+                    port,
+                    count,
+                    socket,
+                }),
+            )
         }
         Some(Job::Digest(file)) => digest(rt, file.as_str()),
         None => told(&mut rt.stderr(), Err(Failure::Usage)),

@@ -16,7 +16,7 @@ cause_word TooLong = codes "line limit"
 
 -- the line that tells a failure
 abbrev pub failure_line : Failure → List ℕ
-failure_line Usage = codes "usage: uptane_desk run FILE | serve FILE PORT COUNT | digest FILE\n"
+failure_line Usage = codes "usage: uptane_desk run FILE | serve FILE PORT COUNT [SOCKET] | digest FILE\n"
 failure_line (Unopened cause) = codes "uptane_desk: cannot open the database: " ++ unopened_words cause ++ codes "\n"
 failure_line (Stopped fault) = codes "uptane_desk: stopped after " ++ decimal fault.lines ++ codes " lines: " ++ cause_word fault.cause ++ codes "\n"
 failure_line Unread = codes "uptane_desk: cannot read the file\n"

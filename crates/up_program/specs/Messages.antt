@@ -6,6 +6,7 @@ use Rattle.up_lines.specs.declared.fault.ScriptCause.{ScriptCause}
 use Rattle.up_pieces.specs.Prefixes.{IsProperPrefix}
 use Rattle.up_program.specs.declared.digests.Digests.{Digests}
 use Rattle.up_program.specs.declared.failure.Failure.{Failure}
+use Rattle.up_program.specs.declared.status.Status.{Status}
 use Rattle.up_program.specs.declared.failure.Failure.TheVariants.{Unread}
 use Rattle.up_program.specs.Failures.{cause_word}
 
@@ -16,6 +17,11 @@ listening_line port = codes "listening " ++ decimal port ++ codes "\n"
 -- why the connection of this number failed
 abbrev pub connection_line : ℕ → ScriptCause → List ℕ
 connection_line number cause = codes "uptane_desk: connection " ++ decimal number ++ codes ": " ++ cause_word cause ++ codes "\n"
+
+-- how a service stands
+abbrev pub status_line : Status → List ℕ
+status_line s = codes "{\"commands\":" ++ decimal s.commands ++ codes ",\"groups\":" ++ decimal s.groups ++ codes ",\"open\":" ++ decimal s.open
+    ++ codes ",\"seconds\":" ++ decimal s.seconds ++ codes ",\"served\":" ++ decimal s.served ++ codes "}\n"
 
 -- a file's length in decimal, its SHA-256 and its SHA-512, both in lower case hex
 abbrev pub digests_line : ℕ → List ℕ → List ℕ → List ℕ

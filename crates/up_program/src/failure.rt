@@ -47,7 +47,7 @@ impl Failure {
         let mut line = Line::new();
         match self {
             Failure::Usage => line.push_str(
-                "usage: uptane_desk run FILE | serve FILE PORT COUNT | digest FILE\n",
+                "usage: uptane_desk run FILE | serve FILE PORT COUNT [SOCKET] | digest FILE\n",
             ),
             Failure::Unopened(cause) => {
                 line.push_str("uptane_desk: cannot open the database: ");

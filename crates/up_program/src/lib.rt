@@ -7,6 +7,7 @@ pub mod failure;
 pub mod files;
 pub mod line;
 pub mod messages;
+pub mod status;
 pub mod times;
 pub mod unopened;
 pub mod version;

@@ -28,7 +28,7 @@ use Rattle.up_script.specs.PrintedLines.{answer_text, refused_text}
 use Rattle.up_heads.specs.Responses.{refusal_response_of}
 use Rattle.up_service.specs.Answers.{answered_as, HoldsNext, IsCommitted, IsAnswerOrFailed, AnswersAs}
 use Rattle.up_desk.specs.Calls.{IsCalled}
-use Rattle.up_service.specs.LineAnswers.{line_answer, answer_to, carried_out, command_answer, viewed, shown_in, shown_text, AnswersLine, IsViewText, IsTextOf, IsReadAs, Prints, Lines}
+use Rattle.up_service.specs.LineAnswers.{line_answer, answer_to, carried_out, command_answer, viewed, shown_in, shown_text, AnswersLine, IsViewText, IsTextOf, IsReadAs, Prints, Line}
 use Rattle.up_service.specs.Responses.{answer_response, AnswersCall}
 use Rattle.up_service.proofs.Showing.{Sees}
 use Rattle.up_service.proofs.Failing.{AreApart, TellsApart, refused_by, not_committed, failed_refusal, failed_answer, lines_apart, responses_apart, lines_tell_apart, responses_tell_apart}
@@ -118,7 +118,7 @@ memory_by Memory h = refl
 memory_by other h = cc
 
 pub refused_line : {K D : Type 0} (rules : K → Rules) (g : Ghosts D) (line : List ℕ) (r : Refusal) (t : List ℕ) (desk : DeskView K D)
-    → IsReadAs (rules desk.scheme) line (Err r) → t ≡ refused_text r → Lines rules g desk line t desk
+    → IsReadAs (rules desk.scheme) line (Err r) → t ≡ refused_text r → Line rules g desk line t desk
 unfolding line_answer
 refused_line rules g line r t desk read is = (
   refl,
@@ -150,7 +150,7 @@ refused_line rules g line r t desk read is = (
 
 -- a line that is read as this is answered as that is
 pub asked_line : {K D : Type 0} (rules : K → Rules) (g : Ghosts D) (line : List ℕ) (asked : Asked) (t : List ℕ) (old new : DeskView K D) → IsReadAs (rules old.scheme) line (Ok asked)
-    → Prints rules g (λ k. IsTextOf k asked.at asked.what) (λ k s. carried_out k s asked.at asked.what) old t new → Lines rules g old line t new
+    → Prints rules g (λ k. IsTextOf k asked.at asked.what) (λ k s. carried_out k s asked.at asked.what) old t new → Line rules g old line t new
 unfolding line_answer
 asked_line rules g line asked t old new is h = (
   h.0,

@@ -7,3 +7,5 @@ pub mod Reopening
 pub mod Showing
 pub mod Telling
 pub mod Weaker
+pub mod Stretches
+pub mod Grouped

@@ -1,5 +1,5 @@
 -- What a desk answered and showed, told as it was, is what is due.
-use Rattle.std.proofs.Common.{◌≡◌, inl, inr, ℕ, List, Bool, Option, Some, None, Result, Ok, Err, refl, sym, subst, ap, ◌∙◌}
+use Rattle.std.proofs.Common.{◌≡◌, inl, inr, ℕ, List, [], ◌∷◌, Bool, Option, Some, None, Result, Ok, Err, refl, sym, subst, ap, ◌∙◌}
 use Rattle.std.specs.Prelude.{⊤, IsTrue, MatchBool}
 use Rattle.sqlite_trees.specs.declared.store.Store.{Ghosts}
 use Rattle.up_canon.specs.Names.{Name}
@@ -28,8 +28,10 @@ use Rattle.up_http.specs.declared.asked.Next.{Next}
 use Rattle.up_http.specs.declared.asked.What.{What as Requested}
 use Rattle.up_http.specs.declared.asked.What.TheVariants.{Call as Request, Fixed}
 use Rattle.up_service.specs.Desks.{Calls, Finds}
-use Rattle.up_service.specs.LineAnswers.{IsReadAs, rows_text, shown_in, shown_text, viewed, carried_out, AnswersLine, IsViewText, IsTextOf, Prints, Lines}
+use Rattle.up_service.specs.LineAnswers.{IsReadAs, rows_text, shown_in, shown_text, viewed, carried_out, AnswersLine, IsViewText, IsTextOf, Prints, Line}
 use Rattle.up_service.specs.Responses.{IsResponseTo, Responses}
+use Rattle.up_lines.specs.LineRuns.{Gives}
+use Rattle.up_service.specs.Together.{AreParts, InParts, IsPart, Lines, LinesAsOne, Part, alone, as_one}
 use Rattle.up_service.specs.Told.{ShowsPlan, ShowsRows, ShowsFound, Shows, TellsWhat, TellsAsked, TellsLine, TellsRequest, TellsNext}
 use Rattle.up_service.proofs.Answering.{printed, responded, refused_line, asked_line, no_view, told_view, told_refusal}
 use Rattle.up_service.proofs.Showing.{GivesShown, Sees, seen_by, seen_in_fault, sees_then, sees_weaker, told_fault, no_vehicle, rows_shown}
@@ -160,12 +162,31 @@ what_told rules g law old at (Show vehicle) text new it =
     (view.scheme, view.text, view_told (rules old.scheme) vehicle it.0 (state g old.store) (state g new.store) view.sees view.blame)
 
 pub line_told : {K D : Type 0} (rules : K → Rules) (g : Ghosts D) → InstalledIsOfTheVehicle → (old new : DeskView K D) (line text : List ℕ)
-    → TellsLine (λ (d : DeskView K D). IsReadAs (rules d.scheme)) (Calls rules g) (Finds g vehicle_rows) (Finds g assigned_to) old line text new → Lines rules g old line text new
+    → TellsLine (λ (d : DeskView K D). IsReadAs (rules d.scheme)) (Calls rules g) (Finds g vehicle_rows) (Finds g assigned_to) old line text new → Line rules g old line text new
 line_told {K} {D} rules g law old new line text it = by_read it.0 it.1 it.2
   where
-    by_read : (read : Result Asked Refusal) → IsReadAs (rules old.scheme) line read → TellsAsked (Calls rules g) (Finds g vehicle_rows) (Finds g assigned_to) old read text new → Lines rules g old line text new
+    by_read : (read : Result Asked Refusal) → IsReadAs (rules old.scheme) line read → TellsAsked (Calls rules g) (Finds g vehicle_rows) (Finds g assigned_to) old read text new → Line rules g old line text new
     by_read (Ok asked) is h = asked_line rules g line asked text old new is (what_told rules g law old asked.at asked.what text new h)
-    by_read (Err r) is h = subst (λ (d : DeskView K D). Lines rules g old line text d) (sym h.1) (refused_line rules g line r text old is h.0)
+    by_read (Err r) is h = subst (λ (d : DeskView K D). Line rules g old line text d) (sym h.1) (refused_line rules g line r text old is h.0)
+
+-- parts, of which each line that is answered by itself is told so
+parts_told : {S : Type 0} (P Q : S → List ℕ → List ℕ → S → Type 0) (AsOne : Gives S) → ((old new : S) (line text : List ℕ) → P old line text new → Q old line text new) → (ps : List Part) (old new : S)
+    → AreParts P AsOne old ps new → AreParts Q AsOne old ps new
+parts_told {S} P Q AsOne weaker [] old new parts = parts
+parts_told {S} P Q AsOne weaker (p ∷ ps) old new parts = (parts.0, by_part parts.1, parts_told P Q AsOne weaker ps parts.0 new parts.2)
+  where
+    by_part : {mid : S} → IsPart P AsOne old p mid → IsPart Q AsOne old p mid
+    by_part {mid} (alone line text is gave) = alone line text is (weaker old mid line text gave)
+    by_part (as_one count gave) = as_one count gave
+
+pub lines_told : {K D : Type 0} (rules : K → Rules) (g : Ghosts D) → InstalledIsOfTheVehicle → (lines texts : List (List ℕ)) (old new : DeskView K D)
+    → InParts (TellsLine (λ (d : DeskView K D). IsReadAs (rules d.scheme)) (Calls rules g) (Finds g vehicle_rows) (Finds g assigned_to)) (LinesAsOne rules g) old lines texts new → Lines rules g old lines texts new
+lines_told rules g law lines texts old new h = record {
+  parts = h.parts;
+  lines_are = h.lines_are;
+  texts_are = h.texts_are;
+  told = parts_told _ _ (LinesAsOne rules g) (λ old new line text. line_told rules g law old new line text) h.parts old new h.told;
+}
 
 -- ---- requests
 

@@ -8,7 +8,7 @@ use Rattle.up_http.specs.declared.fault.ServeFault.{ServeFault}
 use Rattle.up_http.specs.declared.served.Served.{Served}
 use Rattle.up_lines.specs.LineRuns as lines
 use Rattle.up_lines.specs.Lines.{piece_bytes}
-use Rattle.up_lines.specs.Runs.{At, Run, Breaks, AnswersUpTo, Finished, LastRead}
+use Rattle.up_lines.specs.Runs.{At, GivesAll, Run, Breaks, AnswersUpTo, Finished, LastRead}
 use Rattle.up_lines.specs.declared.fault.ScriptCause.{ScriptCause}
 use Rattle.up_lines.specs.declared.fault.ScriptFault.{ScriptFault}
 
@@ -27,35 +27,43 @@ breaks_weaker : {S I : Type 0} (P Q : S → I → List ℕ → S → Type 0) →
 breaks_weaker P Q weaker print cause None old new prefix breaks = breaks
 breaks_weaker P Q weaker print cause (Some item) old new prefix breaks = (breaks.0, weaker old new item breaks.0 breaks.1, breaks.2)
 
-finished_weaker : {S I : Type 0} (P Q : S → I → List ℕ → S → Type 0) → IsWeaker P Q → (print : List ℕ → List ℕ) (AreAll : List I → Type 0) (first now : At S) (answered : ℕ)
+-- the same of lists
+abbrev pub AreWeaker : {S I : Type 0} → GivesAll S I → GivesAll S I → Type 0
+AreWeaker {S} {I} P Q = (items : List I) (texts : List (List ℕ)) (old new : S) → P old items texts new → Q old items texts new
+
+lines_break : {S : Type 0} (P Q : lines.Gives S) → AreWeaker P Q → (cause : ScriptCause) (next : List (List ℕ)) (old new : S) (prefix : List ℕ) → lines.Breaks P cause next old new prefix → lines.Breaks Q cause next old new prefix
+lines_break P Q weaker cause [] old new prefix breaks = breaks
+lines_break P Q weaker cause (line ∷ next) old new prefix breaks = (breaks.0, weaker (line ∷ next) breaks.0 old new breaks.1, breaks.2)
+
+finished_weaker : {S I : Type 0} (P Q : GivesAll S I) → AreWeaker P Q → (print : List ℕ → List ℕ) (AreAll : List I → Type 0) (first now : At S) (answered : ℕ)
     → Finished P print AreAll first answered now → Finished Q print AreAll first answered now
 finished_weaker P Q weaker print AreAll first now answered h = record {
   items = h.items;
   answers = h.answers;
   all = h.all;
-  run = run_weaker P Q weaker h.items h.answers first.state now.state h.run;
+  run = weaker h.items h.answers first.state now.state h.run;
   answered_is = h.answered_is;
   wrote = h.wrote;
 }
 
-up_to_weaker : {S I : Type 0} (P Q : S → I → List ℕ → S → Type 0) → IsWeaker P Q → (print : List ℕ → List ℕ) (AreFirst : List I → Option I → Type 0) (cause : ScriptCause) (first now : At S) (answered : ℕ)
-    → AnswersUpTo P print AreFirst cause first answered now → AnswersUpTo Q print AreFirst cause first answered now
-up_to_weaker P Q weaker print AreFirst cause first now answered h = record {
+up_to_weaker : {S I N : Type 0} (P Q : GivesAll S I) → AreWeaker P Q → (print : List ℕ → List ℕ) (B C : N → S → S → List ℕ → Type 0) → ((next : N) (old new : S) (prefix : List ℕ) → B next old new prefix → C next old new prefix)
+    → (AreFirst : List I → N → Type 0) (first now : At S) (answered : ℕ) → AnswersUpTo P print B AreFirst first answered now → AnswersUpTo Q print C AreFirst first answered now
+up_to_weaker P Q weaker print B C broke AreFirst first now answered h = record {
   done = h.done;
   next = h.next;
   answers = h.answers;
   last = h.last;
   prefix = h.prefix;
   first_ones = h.first_ones;
-  run = run_weaker P Q weaker h.done h.answers first.state h.last h.run;
-  breaks = breaks_weaker P Q weaker print cause h.next h.last now.state h.prefix h.breaks;
+  run = weaker h.done h.answers first.state h.last h.run;
+  breaks = broke h.next h.last now.state h.prefix h.breaks;
   answered_is = h.answered_is;
   wrote = h.wrote;
 }
 
 -- ---- over a reader and a writer
 
-lines_weaker : {S : Type 0} (P Q : lines.Gives S) → IsWeaker P Q → (had has : Option (List ℕ)) (first now : At S) (result : Result ℕ ScriptFault)
+lines_weaker : {S : Type 0} (P Q : lines.Gives S) → AreWeaker P Q → (had has : Option (List ℕ)) (first now : At S) (result : Result ℕ ScriptFault)
     → lines.RanLines P had has first now result → lines.RanLines Q had has first now result
 lines_weaker P Q weaker had has first now result ran = record {
   came = ran.came;
@@ -72,14 +80,14 @@ lines_weaker P Q weaker had has first now result ran = record {
         → MatchResult r (λ answered. (ran.ended ≡ true) × lines.FinishedLines Q ran.came answered first now)
         (λ fault. lines.Stopped Q ran.came ran.ended fault first now × LastRead piece_bytes (lines.WantsMore fault.lines) ran.came ran.ended)
     by_result (Ok answered) h = (h.0, finished_weaker P Q weaker lines.print (lines.AreAll ran.came) first now answered h.1)
-    by_result (Err fault) h = (up_to_weaker P Q weaker lines.print _ fault.cause first now fault.lines h.0, h.1)
+    by_result (Err fault) h = (up_to_weaker P Q weaker lines.print _ _ (lines_break P Q weaker fault.cause) _ first now fault.lines h.0, h.1)
 
-pub runs_lines : {S : Type 0} (P Q : lines.Gives S) → IsWeaker P Q → (had has : Option (List ℕ)) (first now : At S) (result : Result ℕ ScriptFault)
+pub runs_lines : {S : Type 0} (P Q : lines.Gives S) → AreWeaker P Q → (had has : Option (List ℕ)) (first now : At S) (result : Result ℕ ScriptFault)
     → lines.RunsLines P had has first now result → lines.RunsLines Q had has first now result
 runs_lines P Q weaker had has first now result h = record {
   ran = lines_weaker P Q weaker had has first now result h.ran;
   whole = IfOk-weaker result _ _ (λ answered known. IfSome_then had known (λ input run. finished_weaker P Q weaker lines.print _ first now answered run)) h.whole;
-  prefix = IfErr-weaker result _ _ (λ fault known. IfSome_then had known (λ input run. up_to_weaker P Q weaker lines.print _ fault.cause first now fault.lines run)) h.prefix;
+  prefix = IfErr-weaker result _ _ (λ fault known. IfSome_then had known (λ input run. up_to_weaker P Q weaker lines.print _ _ (lines_break P Q weaker fault.cause) _ first now fault.lines run)) h.prefix;
   too_long = h.too_long;
 }
 
@@ -101,13 +109,13 @@ requests_weaker P Q weaker had has first now result ran = record {
         → MatchResult r (λ served. ((more : List ℕ) → (ran.ended ≡ true → more ≡ []) → serving.FinishedRequests Q (ran.came ++ more) served.requests first now)
         × LastRead serving.piece_bytes (serving.WantsMore served.requests) ran.came ran.ended)
         (λ fault. serving.Stopped Q ran.came ran.ended fault first now × LastRead serving.piece_bytes (serving.WantsMore fault.answered) ran.came ran.ended)
-    by_result (Ok served) h = (λ more ended. finished_weaker P Q weaker serving.plain _ first now served.requests (h.0 more ended), h.1)
-    by_result (Err fault) h = (up_to_weaker P Q weaker serving.plain _ (serving.cause_of fault.cause) first now fault.answered h.0, h.1)
+    by_result (Ok served) h = (λ more ended. finished_weaker (Run P) (Run Q) (run_weaker P Q weaker) serving.plain _ first now served.requests (h.0 more ended), h.1)
+    by_result (Err fault) h = (up_to_weaker (Run P) (Run Q) (run_weaker P Q weaker) serving.plain _ _ (breaks_weaker P Q weaker serving.plain (serving.cause_of fault.cause)) _ first now fault.answered h.0, h.1)
 
 pub runs_requests : {S : Type 0} (P Q : serving.Gives S) → IsWeaker P Q → (had has : Option (List ℕ)) (first now : At S) (result : Result Served ServeFault)
     → serving.RunsRequests P had has first now result → serving.RunsRequests Q had has first now result
 runs_requests P Q weaker had has first now result h = record {
   ran = requests_weaker P Q weaker had has first now result h.ran;
-  whole = IfOk-weaker result _ _ (λ served known. IfSome_then had known (λ input run. finished_weaker P Q weaker serving.plain _ first now served.requests run)) h.whole;
-  prefix = IfErr-weaker result _ _ (λ fault known. IfSome_then had known (λ input run. up_to_weaker P Q weaker serving.plain _ (serving.cause_of fault.cause) first now fault.answered run)) h.prefix;
+  whole = IfOk-weaker result _ _ (λ served known. IfSome_then had known (λ input run. finished_weaker (Run P) (Run Q) (run_weaker P Q weaker) serving.plain _ first now served.requests run)) h.whole;
+  prefix = IfErr-weaker result _ _ (λ fault known. IfSome_then had known (λ input run. up_to_weaker (Run P) (Run Q) (run_weaker P Q weaker) serving.plain _ _ (breaks_weaker P Q weaker serving.plain (serving.cause_of fault.cause)) _ first now fault.answered run)) h.prefix;
 }

@@ -10,3 +10,4 @@ pub mod Scripts
 pub mod Streams
 pub mod Tallies
 pub mod Told
+pub mod Together

@@ -123,5 +123,5 @@ Prints rules g IsText answer old text new =
     × AnswersLine (answer (rules old.scheme)) (rules old.scheme) text (state g old.store) (state g new.store)
 
 -- what a desk may answer a line, and how it leaves it
-abbrev pub Lines : {K D : Type 0} → (K → Rules) → Ghosts D → DeskView K D → List ℕ → List ℕ → DeskView K D → Type 0
-Lines rules g old line text new = Prints rules g (λ k t. IsLine k old line t new) (λ k s. line_answer k s line) old text new
+abbrev pub Line : {K D : Type 0} → (K → Rules) → Ghosts D → DeskView K D → List ℕ → List ℕ → DeskView K D → Type 0
+Line rules g old line text new = Prints rules g (λ k t. IsLine k old line t new) (λ k s. line_answer k s line) old text new

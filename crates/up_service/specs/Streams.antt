@@ -1,5 +1,5 @@
 -- What a whole stream of requests comes to.
-use Rattle.std.specs.Prelude.{◌≡◌, ℕ, Bool, true, List, [], ◌++◌, Option, None, Result}
+use Rattle.std.specs.Prelude.{◌≡◌, ℕ, Bool, true, false, List, [], ◌++◌, Option, None, Result}
 use Rattle.sqlite_trees.specs.declared.store.Store.{Ghosts}
 use Rattle.up_sign.specs.Schemes.{Rules}
 use Rattle.up_machine.specs.State.{State}
@@ -10,7 +10,7 @@ use Rattle.up_http.specs.declared.asked.What.{What}
 use Rattle.up_http.specs.declared.asked.What.TheVariants.{Call, Fixed}
 use Rattle.up_http.specs.declared.fault.ServeFault.{ServeFault}
 use Rattle.up_http.specs.declared.served.Served.{Served}
-use Rattle.up_lines.specs.Runs.{At, Ran}
+use Rattle.up_lines.specs.Runs.{At, Ran, listed}
 use Rattle.up_desk.specs.Desks.{DeskView}
 use Rattle.up_service.specs.Answers.{Answered, answered_as}
 use Rattle.up_service.specs.Responses.{Responses, answer_response}
@@ -27,6 +27,7 @@ request_service k at = record {
   rules = k;
   answer = λ s next. request_answer k at s next.what next.last next.head;
   tell = λ next r. refusal_response_of r next.last next.head;
+  together = false;
 }
 
 -- the law of runs, of requests
@@ -37,13 +38,13 @@ RequestsLast rules g = (at : ℕ) → RunsLast (λ q. request_service (rules q) 
 abbrev pub FinishedLast : {K D : Type 0} → (K → Rules) → Ghosts D → ℕ → List ℕ → ℕ → At (DeskView K D) → At (DeskView K D) → Type 0
 FinishedLast rules g at input answered first now =
     (run : FinishedRequests (Responses rules g at) input answered first now)
-    × LastsFrom (λ q. request_service (rules q) at) g first.state run.items run.answers None now.state
+    × LastsFrom (λ q. request_service (rules q) at) g first.state run.items run.answers [] now.state
 
 -- a stream that ended early: a run over its first requests, and what lasts of it
 abbrev pub StoppedLast : {K D : Type 0} → (K → Rules) → Ghosts D → ℕ → List ℕ → Bool → ServeFault → At (DeskView K D) → At (DeskView K D) → Type 0
 StoppedLast rules g at came ended fault first now =
     (run : Stopped (Responses rules g at) came ended fault first now)
-    × LastsFrom (λ q. request_service (rules q) at) g first.state run.done run.answers run.next now.state
+    × LastsFrom (λ q. request_service (rules q) at) g first.state run.done run.answers (listed run.next) now.state
 
 -- what lasts of a run over a reader and a writer
 abbrev pub StreamLasts : {K D : Type 0} → (K → Rules) → Ghosts D → ℕ → Option (List ℕ) → Option (List ℕ)

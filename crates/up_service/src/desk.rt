@@ -1,5 +1,6 @@
 //! What answers commands, reads lines and shows vehicles: a desk, of which nothing is known here but what it tells.
-ghost use Rattle.std.specs.Prelude.{ℕ, IfOk, IsTrue, List, Option, Result};
+ghost use Rattle.std.specs.Prelude.{◌≡◌, ℕ, IfOk, IsTrue, List, OnErr, Option, Result, length};
+ghost use Rattle.std.specs.List.{AllByRecursion};
 ghost use Rattle.up_canon.specs.Names.{Name};
 ghost use Rattle.up_canon.specs.declared.refusal.Refusal.{Refusal};
 ghost use Rattle.up_plan.specs.declared.assigned.Plan.{Plan};
@@ -12,7 +13,7 @@ ghost use Rattle.up_script.specs.AskedLines.{asks_running};
 ghost use Rattle.up_script.specs.declared.asked.Asked.{Asked};
 
 use sqlite::Alter;
-use std::alloc::Global;
+use std::alloc::{AllocError, Global};
 use up_canon::ident::Ident;
 use up_canon::refusal::Refusal;
 use up_desk::desk::Desk;
@@ -29,10 +30,24 @@ pub(crate) trait Called {
     /// A command at a moment may have this answer, which leaves this.
     ghost gives: { Self → ℕ → Command → Answer → Self → Type 0 };
 
+    /// These commands may have these answers, which leave this.
+    ghost gives_each: { Self → List (ℕ × Command) → List Answer → Self → Type 0 };
+
     /// Answers a command at a moment.
     fn call(&mut self, alloc: Global, at: u64, command: &Command) -> Answer
         requires { IsTrue (opens_running command.now) }
         ensures { gives self.old at command.now result self.new };
+
+    /// Answers commands one after another, which may share a commit. An error means that nothing was done.
+    fn call_each(
+        &mut self,
+        alloc: Global,
+        commands: &[(u64, Command)],
+    ) -> Result<Vec<Answer>, AllocError>
+        requires { AllByRecursion (λ c. IsTrue (opens_running c.1)) commands.now }
+        ensures ok { IfOk result (λ answers. gives_each self.old commands.now answers.items self.new
+            × (length answers.items ≡ length commands.now)) }
+        ensures err { OnErr result (self.new ≡ self.old) };
 }
 
 /// What reads lines.
@@ -65,11 +80,24 @@ pub(crate) trait Viewed {
 
 impl<K: Scheme, D: Alter> Called for Desk<K, D> {
     ghost use Rattle.up_service.specs.Desks.{Calls};
+    ghost use Rattle.up_service.specs.Together.{CallsEach};
 
     ghost gives = { Calls (K.rules) D.Store };
 
+    ghost gives_each = { CallsEach (K.rules) D.Store };
+
     fn call(&mut self, alloc: Global, at: u64, command: &Command) -> Answer {
         Desk::call(self, alloc, at, command)
+    }
+
+    fn call_each(
+        &mut self,
+        alloc: Global,
+        commands: &[(u64, Command)],
+    ) -> Result<Vec<Answer>, AllocError> {
+        let mut answers = Vec::new(alloc);
+        Desk::run(self, alloc, commands, &mut answers)?;
+        Ok(answers)
     }
 }
 

@@ -7,20 +7,21 @@ ghost use Rattle.up_service.specs.Streams.{RequestsLast};
 
 use sqlite::Alter;
 use sqlite_disk::Disk;
-use up_machine::laws::refusals_change_nothing;
+use up_machine::laws::{refusals_change_nothing, repeats_change_nothing};
 use up_sign::scheme::Scheme;
 
 /// What a desk answered to the lines of a script stays. It is said of every run over lines: of a whole script, of its first
-/// lines as far as they were answered, and of these and the next one, of whose answer nothing or a part was written.
+/// lines as far as they were answered, and of these and the next ones, of whose answers nothing or a part was written.
 ///
 /// From each state that the tables showed before the run: each text is the answer in the state behind the lines before it, or tells
 /// that memory or the database refused, and then that line changed nothing. A crash leaves what it could leave before, or what
-/// one of the lines makes of the state behind those before it. Behind each `done`, and each reply to a new manifest, it leaves the
-/// state behind that line, or what one of the lines that follow makes from there on.
+/// one of the lines makes of the state behind those before it, or some of them that share a commit. Behind each `done`, and each
+/// reply to a new manifest, it leaves the state behind that line, or what one of the lines that follow makes from there on.
 pub fn scripts_outlast_crashes<K: Scheme, D: Alter>()
     ensures { LinesLast (K.rules) D.Store }
 {
     refusals_change_nothing();
+    repeats_change_nothing();
 }
 
 /// The same of the requests of a stream, at any moment.

@@ -32,7 +32,7 @@ impl Hears for Deaf {
 }
 
 /// Tells of an answer, where it is a refusal.
-pub(crate) fn tell<L: Hears>(alloc: Global, log: &L, at: u64, command: &Command, answer: &Answer) {
+pub fn tell<L: Hears>(alloc: Global, log: &L, at: u64, command: &Command, answer: &Answer) {
     if let Answer::Refused(refusal) = answer {
         log.hear(alloc, at, command, refusal);
     }

@@ -83,7 +83,7 @@ fn called_response<C: Called, L: Hears>(
 
 /// The response to what a desk answers.
 #[tactic(auto, unfolding(crate::specs::Responses::answer_response))]
-fn answer_response(
+pub fn answer_response(
     alloc: Global,
     answer: &Answer,
     last: bool,

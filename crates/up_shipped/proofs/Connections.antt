@@ -1,45 +1,50 @@
--- Many connections over one desk are one run of the plain machine.
-use Rattle.std.proofs.Common.{◌≡◌, inl, ℕ, List, [], ◌∷◌, ◌++◌, map, Bool, true, false, Option, Some, None, refl, sym, ap, ◌∙◌, subst}
-use Rattle.std.specs.Prelude.{flat_map, ◌==◌, if◌then◌else◌, bytes_eq, ◌||◌}
+-- What many connections and operators' scripts ask of one desk is one run of the plain machine.
+use Rattle.std.proofs.Common.{◌≡◌, ◌⊎◌, inl, inr, ℕ, List, [], ◌∷◌, ◌++◌, map, Bool, true, false, Option, Some, None, length, refl, sym, ap, ◌∙◌, subst, arith}
+use Rattle.std.specs.Prelude.{flat_map, ◌==◌, if◌then◌else◌, MatchBool}
 use Rattle.std.specs.List.{AllByRecursion}
-use Rattle.std.specs.Cmp.Lexicographic.{bytes_decides}
 use Rattle.std.proofs.lemmas.Bool.{eqb-false}
+use Rattle.std.proofs.Math.Logic.{∥∥₁_map}
+use Rattle.sqlite_disk.specs.declared.Disk.{Ghosts as DiskGhosts}
+use Rattle.sqlite.specs.Files.{over_files, file_state}
+use Rattle.sqlite.specs.Tree.{Trees}
 use Rattle.sqlite_trees.specs.declared.store.Store.{Ghosts}
-use Rattle.up_canon.specs.declared.refusal.Refusal.{Refusal}
-use Rattle.up_canon.specs.declared.refusal.Refusal.TheVariants.{Memory, Store}
 use Rattle.up_sign.specs.Schemes.{Rules}
-use Rattle.up_machine.specs.declared.answer.Answer.TheVariants.{Refused}
-use Rattle.up_machine.specs.declared.command.Command.{Command}
+use Rattle.up_machine.specs.Commands.{is_command}
 use Rattle.up_machine.specs.Laws.{RefusalsChangeNothing}
-use Rattle.up_machine.specs.Repeats.{KeptEntry, repeat_of, serve, served_as}
+use Rattle.up_machine.specs.RepeatLaws.{ServedIsThinned}
+use Rattle.up_machine.specs.Repeats.{Met, Sent, expected, meet, serve}
+use Rattle.up_machine.specs.Repeats as machine
+use Rattle.up_machine.specs.Sound.{IsSound}
 use Rattle.up_machine.specs.State.{State}
-use Rattle.up_heads.specs.Responses.{check_response_of, refusal_response_of}
+use Rattle.up_machine.specs.declared.answer.Answer.{Answer}
+use Rattle.up_machine.specs.declared.command.Command.{Command}
 use Rattle.up_http.specs.Feeding.{Fed, Feeds, Ends}
 use Rattle.up_http.specs.Serving.{Gives}
 use Rattle.up_http.specs.Talks.{Event, Came, Ended, Told, Wrote, ConversationsKeepOrder, asked_at}
 use Rattle.up_http.specs.declared.asked.Next.{Next}
-use Rattle.up_http.specs.declared.asked.What.{What as Requested}
-use Rattle.up_http.specs.declared.asked.What.TheVariants.{Call as Request, Fixed}
 use Rattle.up_lines.specs.Runs.{listed}
-use Rattle.up_records.specs.Connected.{is_fault}
-use Rattle.up_records.specs.Standing.{Standing, state}
+use Rattle.up_rows.specs.StateRows.{rows_of_state}
+use Rattle.up_records.specs.Standing.{HoldsState, Standing, HasCleanDisk, IfClean, ShowsState, state}
 use Rattle.up_desk.specs.Desks.{DeskView}
-use Rattle.up_desk.proofs.Runs.{ListLaws}
-use Rattle.up_service.specs.Answers.{AnswersAs, HoldsNext}
-use Rattle.up_service.specs.Responses.{Responses, IsResponseTo, answer_response}
-use Rattle.up_service.specs.Runs.{Service, Told as Texted, tells_fault, RunsLast}
-use Rattle.up_service.specs.Streams.{request_answer}
-use Rattle.up_service.proofs.Answering.{survives_same}
-use Rattle.up_service.proofs.Failing.{not_committed, responses_apart}
-use Rattle.up_service.proofs.Lasting.{ChangesNothing, FaultsChangeNothing, Serves, runs_last}
+use Rattle.up_desk.specs.Runs.{ServesEach, sent, timed, unless_failed}
+use Rattle.up_desk.specs.Serving.{IsAnswered, is_failed}
+use Rattle.up_desk.proofs.Runs.{ListLaws, ran_all}
+use Rattle.up_service.specs.Responses.{answer_response}
+use Rattle.up_service.specs.Runs.{HoldsSome, IsMadeBySome, Lasts, Service, after, behind, told}
+use Rattle.up_service.specs.Runs as runs
+use Rattle.up_service.specs.Scripts.{LinesLast, line_service}
+use Rattle.up_service.specs.Streams.{request_service}
 use Rattle.up_connections.specs.Lines.{Line, HappensTo, fresh}
-use Rattle.up_connections.specs.Interleaved.{On, Lines, AllHappen, Answered, GivesEach, answered_of, events_of}
-use Rattle.up_connections.proofs.Apart.{apart}
-use Rattle.up_shipped.specs.Shipped.{requests_ask}
-use Rattle.up_shipped.specs.Connections.{connection_service, connections_ask, ConnectionsAreRuns}
-use Rattle.up_shipped.proofs.Fitting.{first_fits}
-use Rattle.up_shipped.proofs.Items.{Agrees, Fits, shipped}
-use Rattle.up_shipped.proofs.Shipped.{requests_agree}
+use Rattle.up_sockets.specs.Served.{Done, Single, Group, Lines, Steps}
+use Rattle.up_sockets.specs.Apart.{AllHappen, AllLines, Alone, Answered, Does as Deeds, Happening, HappensOnce, Member, On, Script, Tells, Together, answered_in, answered_of, answered_on, done_in, events_at, events_on, nothing, own, texts_told, told_of}
+use Rattle.up_sockets.proofs.Apart.{apart}
+use Rattle.up_main.specs.Clients.{AllStay, ClientsLast, Does, HoldsOne, Part, PartStays, behind_all, part_of}
+use Rattle.up_main.proofs.Clients.{clean_between, done_last, done_scheme}
+use Rattle.up_shipped.specs.Shipped.{lines_ask, requests_ask}
+use Rattle.up_shipped.specs.Connections.{ConnectionsAreRuns, IsMadeByOne, ReopenedAll, TellsAll, TellsAt, commands_at, commands_of}
+use Rattle.up_shipped.proofs.Fitting.{first_fits, lines_fit}
+use Rattle.up_shipped.proofs.Items.{Fits, all_called}
+use Rattle.up_shipped.proofs.Shipped.{lines_agree, lines_count, requests_agree}
 
 -- ---- what they ask is within the limits of commands
 
@@ -71,126 +76,243 @@ first_ones P [] ys all = tt
 first_ones P (x ∷ xs) ys all = (all.0, first_ones P xs ys all.1)
 
 -- all that one connection gave
-all_fit : {S : Type 0} (t : ℕ) (gives : ℕ → Gives S) (xs : List On) (s : S) (old : Lines) (now : S) (new : Lines) → AllHappen gives s old xs now new → (n : ℕ)
-    → AllByRecursion (Fits (requests_ask t)) (flat_map asked_at (events_of n xs))
-all_fit t gives [] s old now new h n = tt
-all_fit t gives (x ∷ xs) s old now new (mid, lines, here, rest) n = by_number (all_fit t gives xs mid lines now new rest n) (x.number == n)
-  where
-    by_number : AllByRecursion (Fits (requests_ask t)) (flat_map asked_at (events_of n xs)) → (b : Bool)
-        → AllByRecursion (Fits (requests_ask t)) (flat_map asked_at (if b then x.event ∷ events_of n xs else events_of n xs))
-    by_number more true =
-        both (Fits (requests_ask t)) (asked_at x.event) (flat_map asked_at (events_of n xs)) (given_fits t (gives x.number) s (old x.number) x.event mid (lines x.number) here.here) more
-    by_number more false = more
+module _ {S : Type 0} (does : S → Done → S → Type 0) (tells : Tells) (at : ℕ → ℕ) where
+  given_at : (n : ℕ) (x : Happening) (s : S) (old : AllLines) (now : S) (new : AllLines) (more : List Event) → HappensOnce does tells at s old x now new
+      → AllByRecursion (Fits (requests_ask (at n))) (flat_map asked_at more) → AllByRecursion (Fits (requests_ask (at n))) (flat_map asked_at (events_at tells n x ++ more))
+  given_at n (On m e) s old now new more h rest = by_number (m == n)
+    where
+      by_number : (b : Bool) → AllByRecursion (Fits (requests_ask (at n))) (flat_map asked_at ((if b then e ∷ [] else []) ++ more))
+      by_number true = both (Fits (requests_ask (at n))) (asked_at e) (flat_map asked_at more) (given_fits (at n) nothing s (old m) e now (new m) h.changed) rest
+      by_number false = rest
+  given_at n (Deeds d) s old now new more h rest = by_texts (texts_told (own n (answered_of tells d)))
+    where
+      by_texts : (texts : List (List ℕ)) → AllByRecursion (Fits (requests_ask (at n))) (flat_map asked_at (map Told texts ++ more))
+      by_texts [] = rest
+      by_texts (text ∷ texts) = by_texts texts
+
+  all_given : (n : ℕ) (xs : List Happening) (s : S) (old : AllLines) (now : S) (new : AllLines) → AllHappen does tells at s old xs now new
+      → AllByRecursion (Fits (requests_ask (at n))) (flat_map asked_at (events_on tells n xs))
+  all_given n [] s old now new h = tt
+  all_given n (x ∷ xs) s old now new (mid, lines, here, rest) = given_at n x s old mid lines (events_on tells n xs) here (all_given n xs mid lines now new rest)
 
 -- so those that were answered, of each connection
-each_fits : (at : ℕ → ℕ) (answered : List Answered) → ((n : ℕ) → AllByRecursion (Fits (requests_ask (at n))) (map (λ a. a.asked.request) (answered_of n answered)))
-    → AllByRecursion (Fits (connections_ask at)) (map (λ a. a.asked) answered)
-each_fits at [] h = tt
-each_fits at (a ∷ more) h = (here (a.asked.number == a.asked.number) refl (h a.asked.number), each_fits at more (λ n. later n (a.asked.number == n) (h n)))
-  where
-    here : (b : Bool) → (a.asked.number == a.asked.number) ≡ b
-        → AllByRecursion (Fits (requests_ask (at a.asked.number))) (map (λ a. a.asked.request) (if b then a ∷ answered_of a.asked.number more else answered_of a.asked.number more))
-        → Fits (connections_ask at) a.asked
-    here true is h = h.0
-    here false is h = absurd (eqb-false a.asked.number a.asked.number is refl)
+abbrev FitsAt : (ℕ → ℕ) → Answered → Type 0
+FitsAt at a = Fits (requests_ask (at a.number)) a.request
 
-    later : (n : ℕ) (b : Bool) → AllByRecursion (Fits (requests_ask (at n))) (map (λ a. a.asked.request) (if b then a ∷ answered_of n more else answered_of n more))
-        → AllByRecursion (Fits (requests_ask (at n))) (map (λ a. a.asked.request) (answered_of n more))
+each_fits : (at : ℕ → ℕ) (rs : List Answered) → ((n : ℕ) → AllByRecursion (Fits (requests_ask (at n))) (map (λ a. a.request) (own n rs))) → AllByRecursion (FitsAt at) rs
+each_fits at [] h = tt
+each_fits at (a ∷ more) h = (here (a.number == a.number) refl (h a.number), each_fits at more (λ n. later n (a.number == n) (h n)))
+  where
+    here : (b : Bool) → (a.number == a.number) ≡ b → AllByRecursion (Fits (requests_ask (at a.number))) (map (λ a. a.request) (if b then a ∷ own a.number more else own a.number more)) → FitsAt at a
+    here true is h = h.0
+    here false is h = absurd (eqb-false a.number a.number is refl)
+
+    later : (n : ℕ) (b : Bool) → AllByRecursion (Fits (requests_ask (at n))) (map (λ a. a.request) (if b then a ∷ own n more else own n more))
+        → AllByRecursion (Fits (requests_ask (at n))) (map (λ a. a.request) (own n more))
     later n true h = h.1
     later n false h = h
 
--- ---- each is answered at its connection's moment
+-- so what is done
+abbrev DoneFits : Done → Type 0
+DoneFits (Single at next text) = Fits (requests_ask at) next
+DoneFits (Group commands answers) = AllByRecursion (λ (c : ℕ × Command). is_command c.1 ≡ true) commands
+DoneFits (Lines lines texts) = Unit {0}
 
-connections_agree : (k : Rules) (at : ℕ → ℕ) → Agrees (connection_service k at) (connections_ask at)
-connections_agree k at = record {
-  tells = λ i r. (requests_agree k (at i.number)).tells i.request r;
-  quiet = λ s i none. (requests_agree k (at i.number)).quiet s i.request none;
-  asked = λ s i c asks. (requests_agree k (at i.number)).asked s i.request c asks;
-}
+group_fits : (at : ℕ → ℕ) (tells : Tells) (ms : List Member) (more : List Answered) → AllByRecursion (FitsAt at) (map (told_of tells) ms ++ more)
+    → AllByRecursion (λ (c : ℕ × Command). is_command c.1 ≡ true) (map (λ m. (at m.number, m.command)) ms) × AllByRecursion (FitsAt at) more
+group_fits at tells [] more all = (tt, all)
+group_fits at tells (m ∷ ms) more all = let rest = group_fits at tells ms more all.1 in ((all.0 (at m.number, m.command) refl, rest.0), rest.1)
 
--- the fault that a text tells
-fault_told : {I : Type 0} (v : Service I) (m : Texted I) → tells_fault v m ≡ true → (r : Refusal) × (is_fault r ≡ true) × (m.text ≡ v.tell m.item r)
-fault_told v m tells = by_first (bytes_eq m.text (v.tell m.item Memory)) refl
+done_fits : (at : ℕ → ℕ) (tells : Tells) (xs : List Happening) → AllByRecursion (FitsAt at) (flat_map (answered_in tells) xs) → AllByRecursion DoneFits (done_in at xs)
+done_fits at tells [] all = tt
+done_fits at tells (On n e ∷ xs) all = done_fits at tells xs all
+done_fits at tells (Deeds (Alone a) ∷ xs) all = (all.0, done_fits at tells xs all.1)
+done_fits at tells (Deeds (Together ms) ∷ xs) all = let it = group_fits at tells ms (flat_map (answered_in tells) xs) all in (it.0, done_fits at tells xs it.1)
+done_fits at tells (Deeds (Script lines texts) ∷ xs) all = (tt, done_fits at tells xs all)
+
+-- ---- what is done at once is a run
+
+serves_both : (k : Rules) (old mid new : State) (cs ds : List (ℕ × Command)) (rs qs : List Answer) → ServesEach k old cs rs mid → ServesEach k mid ds qs new → ServesEach k old (cs ++ ds) (rs ++ qs) new
+serves_both k old mid new [] ds [] qs first later = subst (λ s. ServesEach k s ds qs new) first later
+serves_both k old mid new [] ds (a ∷ rs) qs first later = absurd first
+serves_both k old mid new (c ∷ cs) ds [] qs first later = absurd first
+serves_both k old mid new (c ∷ cs) ds (a ∷ rs) qs first later = (first.0, first.1, first.2, serves_both k first.0 mid new cs ds rs qs first.3 later)
+
+some_is : {A : Type 0} (x y : A) → Some x ≡ Some y → x ≡ y
+some_is x y h = cc
+
+heads_of : {A : Type 0} (x y : A) (xs ys : List A) → x ∷ xs ≡ y ∷ ys → (x ≡ y) × (xs ≡ ys)
+heads_of x y xs ys h = (cc, cc)
+
+answered_is : (k : Rules) (s : State) (c : ℕ × Command) (a : Answer) → unless_failed a ≡ (meet k s (record { item = timed c; lost = is_failed a })).answer
+    → IsAnswered a s (meet k s (record { item = timed c; lost = is_failed a })).next (serve k s c.0 c.1)
+answered_is k s c a same = by_loss (is_failed a) refl
   where
-    by_first : (b : Bool) → bytes_eq m.text (v.tell m.item Memory) ≡ b → (r : Refusal) × (is_fault r ≡ true) × (m.text ≡ v.tell m.item r)
-    by_first true same = (Memory, refl, (bytes_decides m.text (v.tell m.item Memory)).0 same)
-    by_first false same = (Store, refl, (bytes_decides m.text (v.tell m.item Store)).0 (sym (ap (λ b. b || bytes_eq m.text (v.tell m.item Store)) same) ∙ tells))
+    met : Bool → Met
+    met b = meet k s (record { item = timed c; lost = b })
 
--- a command that is refused changes nothing
-refused_serve : RefusalsChangeNothing → (k : Rules) (s : State) (at : ℕ) (c : Command) (q : Refusal) → (serve k s at c).answer ≡ Refused q → (serve k s at c).next ≡ s
-unfolding serve
-refused_serve law k s at c q is = by_repeat (repeat_of k s at c) is
-  where
-    by_repeat : (o : Option KeptEntry) → (served_as k s at c o).answer ≡ Refused q → (served_as k s at c o).next ≡ s
-    by_repeat None h = law k s at c q h
-    by_repeat (Some kept) h = refl
+    by_loss : (b : Bool) → is_failed a ≡ b → IsAnswered a s (met (is_failed a)).next (serve k s c.0 c.1)
+    by_loss true is = subst (λ b. MatchBool b ((met b).next ≡ s) ((a ≡ (serve k s c.0 c.1).answer) × ((met b).next ≡ (serve k s c.0 c.1).next))) (sym is) refl
+    by_loss false is =
+        let given : Some a ≡ Some (serve k s c.0 c.1).answer = sym (ap (λ (b : Bool). if◌then◌else◌ {A = Option Answer} b None (Some a)) is) ∙ same ∙ ap (λ b. (met b).answer) is in
+        subst (λ b. MatchBool b ((met b).next ≡ s) ((a ≡ (serve k s c.0 c.1).answer) × ((met b).next ≡ (serve k s c.0 c.1).next))) (sym is) (some_is a (serve k s c.0 c.1).answer given, refl)
 
--- what tells a fault changes nothing
-connections_calm : RefusalsChangeNothing → (k : Rules) (at : ℕ → ℕ) → FaultsChangeNothing (connection_service k at)
-connections_calm law k at s asked tells = by_what asked.request.what told.0 told.1 told.2
-  where
-    last : Bool
-    last = asked.request.last
+serves_of : (k : Rules) (s : State) (cs : List (ℕ × Command)) (answers : List Answer) → length answers ≡ length cs → map unless_failed answers ≡ expected k s (sent cs answers)
+    → AllByRecursion (λ (c : ℕ × Command). is_command c.1 ≡ true) cs → ServesEach k s cs answers (machine.after k s (sent cs answers))
+serves_of k s [] [] count told fits = refl
+serves_of k s [] (a ∷ answers) count told fits = absurd (omega (arith, count))
+serves_of k s (c ∷ cs) [] count told fits = absurd (omega (arith, count))
+serves_of k s (c ∷ cs) (a ∷ answers) count told fits =
+    let x : Sent = record { item = timed c; lost = is_failed a } in
+    let same = heads_of (unless_failed a) (meet k s x).answer (map unless_failed answers) (expected k (meet k s x).next (sent cs answers)) told in
+    ((meet k s x).next, answered_is k s c a same.0, fits.0, serves_of k (meet k s x).next cs answers (omega (arith, count)) same.1 fits.1)
 
-    head : Bool
-    head = asked.request.head
+record Ran (k : Rules) (s : State) (d : Done) (new : Standing) : Type 0 where
+  answers : List Answer
+  told_so : TellsAt k d answers
+  next : State
+  ran : ServesEach k s (commands_at k d) answers next
+  sound : IsSound k next
+  shown : ShowsState k next new
 
-    told : (r : Refusal) × (is_fault r ≡ true) × ((request_answer k (at asked.number) s asked.request.what last head).text ≡ refusal_response_of r last head)
-    told = fault_told (connection_service k at) (record { item = asked; text = (request_answer k (at asked.number) s asked.request.what last head).text }) tells
+record AllRan (k : Rules) (s : State) (done : List Done) (new : Standing) : Type 0 where
+  answers : List Answer
+  told_so : TellsAll k done answers
+  next : State
+  ran : ServesEach k s (commands_of k done) answers next
+  sound : IsSound k next
+  shown : ShowsState k next new
 
-    by_what : (w : Requested) (r : Refusal) → is_fault r ≡ true → (request_answer k (at asked.number) s w last head).text ≡ refusal_response_of r last head
-        → ChangesNothing s (request_answer k (at asked.number) s w last head)
-    by_what (Request c) r fault same =
-        let o = serve k s (at asked.number) c in
-        let refused = responses_apart last head r o.answer fault (sym same) in
-        (refused_serve law k s (at asked.number) c refused.0 refused.1, λ commit. not_committed (λ q. refusal_response_of q last head) (λ a. answer_response a last head) (responses_apart last head) r o.answer s o.next fault commit (sym same))
-    by_what (Fixed check) r fault same = (refl, λ commit. commit)
+module _ {K D : Type 0} (rules : K → Rules) (g : Ghosts D) (law : RefusalsChangeNothing) (thin : ServedIsThinned) (lines_last : LinesLast rules g) where
+  done_ran : (d : Done) (old new : DeskView K D) → Does rules g old d new → DoneFits d → HasCleanDisk (state g new.store)
+      → (s : State) → IsSound (rules old.scheme) s → IfClean (ShowsState (rules old.scheme) s) (state g old.store) → Ran (rules old.scheme) s d (state g new.store)
+  done_ran (Single at next text) old new h fits clean s sound was =
+      let k = rules old.scheme in
+      let it : Lasts (request_service k at) s (told (next ∷ []) (text ∷ [])) [] (state g old.store) (state g new.store) =
+      done_last rules g law thin lines_last false false (Single at next text) old new h s sound was in
+      let all = all_called (request_service k at) (requests_ask at) (requests_agree k at) s (next ∷ []) (text ∷ []) (fits, tt) refl (it.due clean) in
+      let shown = it.shown clean in
+      record {
+        answers = all.answers;
+        told_so = all.tell;
+        next = after (request_service k at) s (told (next ∷ []) (text ∷ []));
+        ran = all.ran;
+        sound = subst (IsSound k) shown.1 shown.2;
+        shown = subst (λ q. ShowsState k q (state g new.store)) shown.1 shown.3;
+      }
+  done_ran (Group commands answers) old new h fits clean s sound was =
+      let k = rules old.scheme in
+      let it = h.1.ran clean s sound was in
+      record {
+        answers = answers;
+        told_so = refl;
+        next = machine.after k s (sent commands answers);
+        ran = subst (λ (l : List Answer). ServesEach k s commands l (machine.after k s (sent commands l))) (sym h.1.appended) (serves_of k s commands h.1.told it.1.count it.1.told fits);
+        sound = subst (λ (l : List Answer). IsSound k (machine.after k s (sent commands l))) (sym h.1.appended) (subst (IsSound k) (it.1.state ∙ sym (thin k s (sent commands h.1.told))) it.2);
+        shown = subst (λ (l : List Answer). ShowsState k (machine.after k s (sent commands l)) (state g new.store)) (sym h.1.appended)
+            (subst (λ q. ShowsState k q (state g new.store)) (it.1.state ∙ sym (thin k s (sent commands h.1.told))) it.3);
+      }
+  done_ran (Lines lines texts) old new h fits clean s sound was =
+      let k = rules old.scheme in
+      let it : Lasts (line_service k) s (told lines texts) [] (state g old.store) (state g new.store) = done_last rules g law thin lines_last false false (Lines lines texts) old new h s sound was in
+      let all = all_called (line_service k) (lines_ask k) (lines_agree k) s lines texts (lines_fit k lines) (lines_count rules g old new lines texts h) (it.due clean) in
+      let shown = it.shown clean in
+      record {
+        answers = all.answers;
+        told_so = all.tell;
+        next = after (line_service k) s (told lines texts);
+        ran = all.ran;
+        sound = subst (IsSound k) shown.1 shown.2;
+        shown = subst (λ q. ShowsState k q (state g new.store)) shown.1 shown.3;
+      }
 
--- a fixed answer
-fixed_answers : (tell : Refusal → List ℕ) (k : Rules) (fixed text : List ℕ) (now : Standing) → text ≡ fixed → AnswersAs tell (λ s. record { text = fixed; called = None; next = s }) k text now now
-fixed_answers tell k fixed text now is = record {
-  clean = λ clean. clean;
-  answered = λ clean s sound was. (s, inl (is, refl), sound, was clean);
-  crash = λ s sound was. survives_same (HoldsNext k None s) now;
-  durable = λ s sound was same commit. absurd commit;
-  blame = λ clean s sound was other same. absurd (other is);
-}
+  all_ran : (q : K) (done : List Done) (old new : DeskView K D) → old.scheme ≡ q → Steps (Does rules g) old done new → AllByRecursion DoneFits done → HasCleanDisk (state g new.store)
+      → (s : State) → IsSound (rules q) s → IfClean (ShowsState (rules q) s) (state g old.store) → AllRan (rules q) s done (state g new.store)
+  all_ran q [] old new same steps fits clean s sound was =
+      record {
+        answers = [];
+        told_so = refl;
+        next = s;
+        ran = refl;
+        sound = sound;
+        shown = subst (λ (d : DeskView K D). ShowsState (rules q) s (state g d.store)) (sym steps)
+            (was (subst (λ (d : DeskView K D). HasCleanDisk (state g d.store)) steps clean));
+      }
+  all_ran q (d ∷ done) old new same steps fits clean s sound was =
+      let k = rules q in
+      let mid_clean : HasCleanDisk (state g steps.0.store) = clean_between rules g law thin lines_last false false q d done old steps.0 new same steps.1 steps.2 clean s sound was in
+      let one : Ran k s d (state g steps.0.store) = here same s sound was mid_clean in
+      let rest = all_ran q done steps.0 new (done_scheme rules g law thin lines_last false false d old steps.0 steps.1 ∙ same) steps.2 fits.1 clean one.next one.sound (λ _. one.shown) in
+      record {
+        answers = one.answers ++ rest.answers;
+        told_so = (one.answers, rest.answers, refl, one.told_so, rest.told_so);
+        next = rest.next;
+        ran = serves_both k s one.next rest.next (commands_at k d) (commands_of k done) one.answers rest.answers one.ran rest.ran;
+        sound = rest.sound;
+        shown = rest.shown;
+      }
+    where
+      here : {p : K} → old.scheme ≡ p → (t : State) → IsSound (rules p) t → IfClean (ShowsState (rules p) t) (state g old.store) → HasCleanDisk (state g steps.0.store) → Ran (rules p) t d (state g steps.0.store)
+      here {p} is = subst (λ z. (t : State) → IsSound (rules z) t → IfClean (ShowsState (rules z) t) (state g old.store) → HasCleanDisk (state g steps.0.store) → Ran (rules z) t d (state g steps.0.store)) is
+          (λ t sound_t was_t clean_t. done_ran d old steps.0 steps.1 fits.0 clean_t t sound_t was_t)
 
-connections_serve : {K D : Type 0} (rules : K → Rules) (g : Ghosts D) (at : ℕ → ℕ) → Serves (λ q. connection_service (rules q) at) g (GivesEach (λ n. Responses rules g (at n)))
-connections_serve {K} {D} rules g at old new asked text h = by_what asked.request.what h
-  where
-    last : Bool
-    last = asked.request.last
+-- ---- all of it
 
-    head : Bool
-    head = asked.request.head
-
-    by_what : (w : Requested) → IsResponseTo rules g (at asked.number) old w last head text new
-        → (new.scheme ≡ old.scheme)
-        × AnswersAs (λ r. refusal_response_of r last head) (λ s. request_answer (rules old.scheme) (at asked.number) s w last head) (rules old.scheme) text (state g old.store) (state g new.store)
-    by_what (Request c) is = (is.0, is.2)
-    by_what (Fixed check) is = (
-      ap (λ (d : DeskView K D). d.scheme) is.1,
-      subst (λ (d : DeskView K D). AnswersAs (λ r. refusal_response_of r last head) (λ s. record { text = check_response_of check last head; called = None; next = s }) (rules old.scheme) text (state g old.store)
-          (state g d.store)) (sym is.1) (fixed_answers (λ r. refusal_response_of r last head) (rules old.scheme) (check_response_of check last head) text (state g old.store) is.0),
-    )
-
--- ---- all of them
-
-connections_last : {K D : Type 0} → RefusalsChangeNothing → (rules : K → Rules) (g : Ghosts D) (at : ℕ → ℕ) → RunsLast (λ q. connection_service (rules q) at) g (GivesEach (λ n. Responses rules g (at n)))
-connections_last law rules g at =
-    runs_last (λ q. connection_service (rules q) at) g (GivesEach (λ n. Responses rules g (at n))) (λ q. connections_calm law (rules q) at) (connections_serve rules g at)
-
-pub connections : {K D : Type 0} → ListLaws → RefusalsChangeNothing → ConversationsKeepOrder → (rules : K → Rules) (g : Ghosts D) → ConnectionsAreRuns rules g
-connections laws calm order rules g at first now xs new happen clean s sound was =
+pub connections : {K D : Type 0} → ListLaws → RefusalsChangeNothing → ConversationsKeepOrder → (rules : K → Rules) (g : Ghosts D) → LinesLast rules g → ClientsLast rules g → ConnectionsAreRuns rules g
+connections laws law order rules g lines_last clients_last at first now xs new happen clean s sound was =
     let k = rules first.scheme in
-    let it = apart (λ n. Responses rules g (at n)) order first now xs new happen in
-    let items = map (λ a. a.asked) it.answered in
-    let texts = map (λ a. a.text) it.answered in
+    let it = apart (Does rules g) answer_response at order first now xs new happen in
+    let fits : AllByRecursion (FitsAt at) (flat_map (answered_in answer_response) xs) =
+    each_fits at (flat_map (answered_in answer_response) xs) (λ n. first_ones (Fits (requests_ask (at n))) (map (λ a. a.request) (answered_on answer_response n xs)) (listed (new n).asks)
+    (subst (λ (l : List Next). AllByRecursion (Fits (requests_ask (at n))) l) (it.requests n) (all_given (Does rules g) answer_response at n xs first (λ n. fresh) now new happen))) in
+    let ran = all_ran rules g law laws.served lines_last first.scheme (done_in at xs) first now refl it.steps (done_fits at answer_response xs fits) clean s sound was in
     record {
       apart = it;
-      shipped = shipped laws (connection_service k at) (connections_ask at) (connections_agree k at) (GivesEach (λ n. Responses rules g (at n))) s items texts None first now (state g first.store) (state g now.store)
-          (each_fits at it.answered (λ n. first_ones (Fits (requests_ask (at n))) (map (λ a. a.asked.request) (answered_of n it.answered)) (listed (new n).asks)
-          (subst (λ (l : List Next). AllByRecursion (Fits (requests_ask (at n))) l) (it.requests n) (all_fit (at n) (λ n. Responses rules g (at n)) xs first (λ n. fresh) now new happen n))))
-          it.run sound clean (connections_last calm rules g at items texts None first now now it.run refl s sound was);
+      run = record {
+        answers = ran.answers;
+        told = ran.told_so;
+        behind = ran.next;
+        run = ran_all laws k s (commands_of k (done_in at xs)) ran.answers ran.next sound ran.ran;
+        sound = ran.sound;
+        shown = ran.shown;
+        lasts = clients_last (done_in at xs) first now it.steps;
+      };
     }
+
+-- ---- what an open finds
+
+module _ (last head : Bool) (k : Rules) where
+  abbrev parts : Done → Part
+  parts = part_of last head k
+
+  same_rules : (d : Done) → (parts d).service.rules ≡ k
+  same_rules (Single at next text) = refl
+  same_rules (Group commands answers) = refl
+  same_rules (Lines lines texts) = refl
+
+  stays_at : (s : State) (before rest : List Done) (d : Done) (new : Standing) → AllStay parts s (before ++ d ∷ rest) new
+      → PartStays (parts d).service (behind_all parts s before) (parts d).met (HoldsOne parts (after (parts d).service (behind_all parts s before) (parts d).met) rest) new
+  stays_at s [] rest d new stay = stay.0
+  stays_at s (b ∷ before) rest d new stay = stays_at (after (parts b).service s (parts b).met) before rest d new stay.1
+
+  made_by_one : (s : State) (ds : List Done) (trees : Trees) → HoldsOne parts s ds trees → (at : State) × IsMadeByOne parts s ds at × HoldsState k at trees
+  made_by_one s [] trees none = absurd none
+  made_by_one s (d ∷ ds) trees (inl held) = (held.0, inl held.1, subst (λ r. HoldsState r held.0 trees) (same_rules d) held.2)
+  made_by_one s (d ∷ ds) trees (inr later) = let it = made_by_one (after (parts d).service s (parts d).met) ds trees later in (it.0, inr it.1, it.2)
+
+  stays_or_made : {I : Type 0} (v : Service I) (there : State) (later : List (runs.Told I)) (s : State) (ds : List Done) (trees : Trees) → v.rules ≡ k
+      → HoldsState v.rules there trees ⊎ HoldsSome v there later [] trees ⊎ HoldsOne parts s ds trees
+      → (at : State) × ((at ≡ there) ⊎ IsMadeBySome v there later [] at ⊎ IsMadeByOne parts s ds at) × HoldsState k at trees
+  stays_or_made v there later s ds trees same (inl held) = (there, inl refl, subst (λ r. HoldsState r there trees) same held)
+  stays_or_made v there later s ds trees same (inr (inl held)) = (held.0, inr (inl held.1), subst (λ r. HoldsState r held.0 trees) same held.2)
+  stays_or_made v there later s ds trees same (inr (inr held)) = let it = made_by_one s ds trees held in (it.0, inr (inr it.1), it.2)
+
+pub reopened_all : {D : Type 0} (g : DiskGhosts D) → ReopenedAll g
+reopened_all g last head k s before rest d old new lasts first later m made clean stopped again whole left may opened opens found =
+    let f = again whole left may opened opens found in
+    let p = part_of last head k d in
+    let start = behind_all (part_of last head k) s before in
+    ∥∥₁_map f.left (λ r.
+    let held = stays_or_made last head k p.service (behind p.service (after p.service start first) m) later (after p.service start p.met) rest (file_state opened).committed.trees (same_rules last head k d)
+    (stays_at last head k s before rest d (state over_files new) (lasts.durable clean) first later m made (file_state opened).committed.trees r) in
+    (held.0, held.1, f.shown (rows_of_state k held.0) held.2))

@@ -1,5 +1,5 @@
 -- Items that are answered as a service says, and that ask commands: their texts tell a run of the plain machine.
-use Rattle.std.proofs.Common.{◌≡◌, inl, inr, ℕ, List, [], ◌∷◌, Bool, true, false, Option, Some, None, refl, sym, ap, ◌∙◌, subst}
+use Rattle.std.proofs.Common.{◌≡◌, inl, inr, ℕ, suc, length, arith, List, [], ◌∷◌, Bool, true, false, Option, Some, None, refl, sym, ap, ◌∙◌, subst}
 use Rattle.std.specs.Prelude.{◌⊎◌, ◌||◌, IsTrue, MatchBool, if◌then◌else◌, bytes_eq, filter_map}
 use Rattle.std.specs.List.{AllByRecursion, cons_option}
 use Rattle.std.specs.Cmp.Lexicographic.{bytes_decides}
@@ -108,7 +108,7 @@ unmoved v q agrees s m none = by_fault (tells_fault v m) refl
 
 -- ---- all of them
 
-record AreCalledAll {I : Type 0} (v : Service I) (q : Asking I) (s : State) (items : List I) (texts : List (List ℕ)) : Type 0 where
+pub record AreCalledAll {I : Type 0} (v : Service I) (q : Asking I) (s : State) (items : List I) (texts : List (List ℕ)) : Type 0 where
   pub answers : List Answer
   pub tell : AreTold q items texts answers
   pub ran : ServesEach v.rules s (commands_in q items) answers (after v s (told items texts))
@@ -136,21 +136,28 @@ one_more {I} v q agrees s i items text texts fits due rest (Some c) asks =
       ran = subst (λ (o : Option (ℕ × Command)). ServesEach v.rules s (cons_option o (filter_map q.asks items)) (one.answer ∷ rest.answers) end) (sym asks) from;
     }
 
-all_called : {I S : Type 0} (v : Service I) (q : Asking I) → Agrees v q → (gives : S → I → List ℕ → S → Type 0) (s : State) (items : List I) (texts : List (List ℕ)) (old new : S) → AllByRecursion (Fits q) items
-    → Run gives old items texts new → AreDue v s (told items texts) → AreCalledAll v q s items texts
-all_called v q agrees gives s [] [] old new fits run due = record { answers = []; tell = refl; ran = refl }
-all_called v q agrees gives s [] (text ∷ texts) old new fits run due = absurd run
-all_called v q agrees gives s (i ∷ items) [] old new fits run due = absurd run
-all_called v q agrees gives s (i ∷ items) (text ∷ texts) old new fits run due =
+pub all_called : {I : Type 0} (v : Service I) (q : Asking I) → Agrees v q → (s : State) (items : List I) (texts : List (List ℕ)) → AllByRecursion (Fits q) items
+    → length texts ≡ length items → AreDue v s (told items texts) → AreCalledAll v q s items texts
+all_called v q agrees s [] [] fits count due = record { answers = []; tell = refl; ran = refl }
+all_called v q agrees s [] (text ∷ texts) fits count due = absurd (omega (arith, count))
+all_called v q agrees s (i ∷ items) [] fits count due = absurd (omega (arith, count))
+all_called v q agrees s (i ∷ items) (text ∷ texts) fits count due =
     one_more v q agrees s i items text texts fits.0 due.0
-    (all_called v q agrees gives (behind v s (record { item = i; text = text })) items texts run.0 new fits.1 run.2 due.1) (q.asks i) refl
+    (all_called v q agrees (behind v s (record { item = i; text = text })) items texts fits.1 (omega (arith, count)) due.1) (q.asks i) refl
+
+-- as many texts as items
+pub run_count : {I S : Type 0} (gives : S → I → List ℕ → S → Type 0) (items : List I) (texts : List (List ℕ)) (old new : S) → Run gives old items texts new → length texts ≡ length items
+run_count gives [] [] old new run = refl
+run_count gives [] (text ∷ texts) old new run = absurd run
+run_count gives (i ∷ items) [] old new run = absurd run
+run_count gives (i ∷ items) (text ∷ texts) old new run = ap suc (run_count gives items texts run.0 new run.2)
 
 -- ---- what ships
 
-pub shipped : {I S : Type 0} → ListLaws → (v : Service I) (q : Asking I) → Agrees v q → (gives : S → I → List ℕ → S → Type 0) (s : State) (items : List I) (texts : List (List ℕ)) (next : Option I) (first last : S) (old new : Standing)
-    → AllByRecursion (Fits q) items → Run gives first items texts last → IsSound v.rules s → HasCleanDisk new → Lasts v s (told items texts) next old new → IsShipped v q s items texts next old new
-shipped laws v q agrees gives s items texts next first last old new fits run sound clean lasts =
-    let all = all_called v q agrees gives s items texts first last fits run (lasts.due clean) in
+pub shipped : {I : Type 0} → ListLaws → (v : Service I) (q : Asking I) → Agrees v q → (s : State) (items : List I) (texts : List (List ℕ)) (next : List I) (old new : Standing)
+    → AllByRecursion (Fits q) items → length texts ≡ length items → IsSound v.rules s → HasCleanDisk new → Lasts v s (told items texts) next old new → IsShipped v q s items texts next old new
+shipped laws v q agrees s items texts next old new fits count sound clean lasts =
+    let all = all_called v q agrees s items texts fits count (lasts.due clean) in
     let shown = lasts.shown clean in
     record {
       behind = after v s (told items texts);

@@ -1,6 +1,6 @@
 -- Whole scripts and whole streams are runs of the plain machine.
 use Rattle.std.proofs.Common.{◌≡◌, ℕ, List, Bool, true, false, Option, Some, None, Result, Ok, Err, refl, ap, subst}
-use Rattle.std.specs.Prelude.{[], ◌++◌, MatchResult}
+use Rattle.std.specs.Prelude.{[], ◌∷◌, ◌++◌, length, MatchResult}
 use Rattle.std.specs.List.{AllByRecursion}
 use Rattle.sqlite_trees.specs.declared.store.Store.{Ghosts}
 use Rattle.up_canon.specs.declared.refusal.Refusal.{Refusal}
@@ -9,8 +9,8 @@ use Rattle.up_machine.specs.declared.command.Command.{Command}
 use Rattle.up_machine.specs.State.{State}
 use Rattle.up_records.specs.Standing.{state}
 use Rattle.up_desk.proofs.Runs.{ListLaws}
-use Rattle.up_lines.specs.LineRuns.{print}
-use Rattle.up_lines.specs.Runs.{Breaks}
+use Rattle.up_lines.specs.LineRuns as line_runs
+use Rattle.up_lines.specs.Runs.{Breaks, listed}
 use Rattle.up_lines.specs.declared.fault.ScriptCause.{ScriptCause}
 use Rattle.up_lines.specs.declared.fault.ScriptFault.{ScriptFault}
 use Rattle.up_script.specs.AskedLines.{asked_in}
@@ -25,23 +25,25 @@ use Rattle.up_http.specs.declared.asked.What.TheVariants.{Call as Request, Fixed
 use Rattle.up_http.specs.declared.fault.ServeFault.{ServeFault}
 use Rattle.up_http.specs.declared.served.Served.{Served}
 use Rattle.up_service.specs.Answers.{answered_as}
-use Rattle.up_service.specs.LineAnswers.{Lines, line_answer, answer_to, carried_out}
+use Rattle.up_desk.specs.Desks.{DeskView}
+use Rattle.up_service.specs.LineAnswers.{Line, line_answer, answer_to, carried_out}
+use Rattle.up_service.specs.Together.{Lines, LinesAsOne, parts_compose}
 use Rattle.up_service.specs.Responses.{Responses, answer_response}
-use Rattle.up_service.specs.Scripts.{line_service, RunsScript}
+use Rattle.up_service.specs.Scripts.{line_service}
 use Rattle.up_service.specs.Scripts as script
-use Rattle.up_service.specs.Streams.{request_answer, request_service, RunsStream}
+use Rattle.up_service.specs.Streams.{request_answer, request_service}
 use Rattle.up_service.specs.Streams as stream
 use Rattle.up_shipped.specs.Items.{IsShipped}
-use Rattle.up_shipped.specs.Shipped.{command_at, command_of, lines_ask, requested_at, requests_ask, IsPart, IsWholeScript, IsBegunScript, ScriptsAreRuns, IsWholeStream, IsBegunStream, StreamsAreRuns}
+use Rattle.up_shipped.specs.Shipped.{command_at, command_of, lines_ask, requested_at, requests_ask, IsPart, IsPartOfLines, IsWholeScript, IsBegunScript, ScriptsAreRuns, IsWholeStream, IsBegunStream, StreamsAreRuns}
 use Rattle.up_shipped.proofs.Fitting.{lines_fit, firsts_fit}
-use Rattle.up_shipped.proofs.Items.{Agrees, Fits, shipped}
+use Rattle.up_shipped.proofs.Items.{Agrees, Fits, run_count, shipped}
 
 same_pair : (a b : ℕ × Command) → ◌≡◌ {A = Option (ℕ × Command)} (Some a) (Some b) → a ≡ b
 same_pair a b h = cc
 
 -- ---- lines
 
-lines_agree : (k : Rules) → Agrees (line_service k) (lines_ask k)
+pub lines_agree : (k : Rules) → Agrees (line_service k) (lines_ask k)
 unfolding line_answer answer_text
 lines_agree k = record {
   tells = λ line r. refl;
@@ -65,10 +67,19 @@ lines_agree k = record {
     by_asked s c (Ok asked) h = call_what s c asked.at asked.what h
     by_asked s c (Err e) h = cc
 
+-- as many answers as lines
+pub lines_count : {K D : Type 0} (rules : K → Rules) (g : Ghosts D) (old new : DeskView K D) (lines texts : List (List ℕ)) → Lines rules g old lines texts new → length texts ≡ length lines
+lines_count rules g old new lines texts h = (parts_compose (Line rules g) (LinesAsOne rules g)).each old new lines texts h
+
 -- less than a whole answer
 part_of : {S I : Type 0} (gives : S → I → List ℕ → S → Type 0) (print : List ℕ → List ℕ) (cause : ScriptCause) (next : Option I) (old new : S) (prefix : List ℕ) → Breaks gives print cause next old new prefix → IsPart print cause next prefix
 part_of gives print cause None old new prefix h = h.2
 part_of gives print cause (Some item) old new prefix h = (h.0, h.2)
+
+-- less than all answers of lines
+part_of_lines : {K D : Type 0} (rules : K → Rules) (g : Ghosts D) (cause : ScriptCause) (next : List (List ℕ)) (old new : DeskView K D) (prefix : List ℕ) → line_runs.Breaks (Lines rules g) cause next old new prefix → IsPartOfLines cause next prefix
+part_of_lines rules g cause [] old new prefix h = h.2
+part_of_lines rules g cause (line ∷ next) old new prefix h = (h.0, lines_count rules g old new (line ∷ next) h.0 h.1, h.2)
 
 pub scripts : {K D : Type 0} → ListLaws → (rules : K → Rules) (g : Ghosts D) → ScriptsAreRuns rules g
 scripts {K} {D} laws rules g had has first now result runs clean s sound was = record {
@@ -83,12 +94,12 @@ scripts {K} {D} laws rules g had has first now result runs clean s sound was = r
     whole : (came : List ℕ) (answered : ℕ) → script.FinishedLast rules g came answered first now → IsWholeScript rules g s came first now
     whole came answered it =
         let ran = it.0 in
-        let from = shipped laws (line_service (rules first.state.scheme)) (lines_ask (rules first.state.scheme)) (lines_agree (rules first.state.scheme)) (Lines rules g) s ran.items ran.answers None first.state now.state
-        (state g first.state.store) (state g now.state.store) (lines_fit (rules first.state.scheme) ran.items) ran.run sound clean (it.1 s sound was) in
+        let from = shipped laws (line_service (rules first.state.scheme)) (lines_ask (rules first.state.scheme)) (lines_agree (rules first.state.scheme)) s ran.items ran.answers []
+        (state g first.state.store) (state g now.state.store) (lines_fit (rules first.state.scheme) ran.items) (lines_count rules g first.state now.state ran.items ran.answers ran.run) sound clean (it.1 s sound was) in
         record {
           fit = ran.all.0;
           texts = ran.answers;
-          shipped = subst (λ (items : List (List ℕ)). IsShipped (line_service (rules first.state.scheme)) (lines_ask (rules first.state.scheme)) s items ran.answers None (state g first.state.store) (state g now.state.store)) ran.all.1 from;
+          shipped = subst (λ (items : List (List ℕ)). IsShipped (line_service (rules first.state.scheme)) (lines_ask (rules first.state.scheme)) s items ran.answers [] (state g first.state.store) (state g now.state.store)) ran.all.1 from;
           wrote = ran.wrote;
         }
 
@@ -100,10 +111,10 @@ scripts {K} {D} laws rules g had has first now result runs clean s sound was = r
           next = ran.next;
           are_first = ran.first_ones.0;
           texts = ran.answers;
-          shipped = shipped laws (line_service (rules first.state.scheme)) (lines_ask (rules first.state.scheme)) (lines_agree (rules first.state.scheme)) (Lines rules g) s ran.done ran.answers ran.next first.state ran.last
-              (state g first.state.store) (state g now.state.store) (lines_fit (rules first.state.scheme) ran.done) ran.run sound clean (it.1 s sound was);
+          shipped = shipped laws (line_service (rules first.state.scheme)) (lines_ask (rules first.state.scheme)) (lines_agree (rules first.state.scheme)) s ran.done ran.answers ran.next
+              (state g first.state.store) (state g now.state.store) (lines_fit (rules first.state.scheme) ran.done) (lines_count rules g first.state ran.last ran.done ran.answers ran.run) sound clean (it.1 s sound was);
           part = ran.prefix;
-          is_part = part_of (Lines rules g) print fault.cause ran.next ran.last now.state ran.prefix ran.breaks;
+          is_part = part_of_lines rules g fault.cause ran.next ran.last now.state ran.prefix ran.breaks;
           wrote = ran.wrote;
         }
 
@@ -153,8 +164,8 @@ streams {K} {D} laws rules g at had has first now result runs clean s sound was 
           requests = ran.items;
           all = ran.all;
           texts = ran.answers;
-          shipped = shipped laws (request_service (rules first.state.scheme) at) (requests_ask at) (requests_agree (rules first.state.scheme) at) (Responses rules g at) s ran.items ran.answers None first.state now.state
-              (state g first.state.store) (state g now.state.store) (firsts_fit at 0 input ran.all.rest ran.all.ended ran.items ran.all.firsts) ran.run sound clean (it.1 s sound was);
+          shipped = shipped laws (request_service (rules first.state.scheme) at) (requests_ask at) (requests_agree (rules first.state.scheme) at) s ran.items ran.answers []
+              (state g first.state.store) (state g now.state.store) (firsts_fit at 0 input ran.all.rest ran.all.ended ran.items ran.all.firsts) (run_count (Responses rules g at) ran.items ran.answers first.state now.state ran.run) sound clean (it.1 s sound was);
           wrote = ran.wrote;
         }
 
@@ -166,8 +177,8 @@ streams {K} {D} laws rules g at had has first now result runs clean s sound was 
           next = ran.next;
           are_first = ran.first_ones.0;
           texts = ran.answers;
-          shipped = shipped laws (request_service (rules first.state.scheme) at) (requests_ask at) (requests_agree (rules first.state.scheme) at) (Responses rules g at) s ran.done ran.answers ran.next first.state ran.last
-              (state g first.state.store) (state g now.state.store) (firsts_of at came ended ran.done ran.next ran.first_ones.0) ran.run sound clean (it.1 s sound was);
+          shipped = shipped laws (request_service (rules first.state.scheme) at) (requests_ask at) (requests_agree (rules first.state.scheme) at) s ran.done ran.answers (listed ran.next)
+              (state g first.state.store) (state g now.state.store) (firsts_of at came ended ran.done ran.next ran.first_ones.0) (run_count (Responses rules g at) ran.done ran.answers first.state ran.last ran.run) sound clean (it.1 s sound was);
           part = ran.prefix;
           is_part = part_of (Responses rules g at) plain (cause_of fault.cause) ran.next ran.last now.state ran.prefix ran.breaks;
           wrote = ran.wrote;

@@ -19,7 +19,7 @@ use Rattle.up_http.specs.declared.asked.Next.{Next}
 use Rattle.up_http.specs.declared.fault.ServeFault.{ServeFault}
 use Rattle.up_http.specs.declared.served.Served.{Served}
 use Rattle.up_shipped.specs.Items.{IsRunOf}
-use Rattle.up_shipped.specs.Shipped.{lines_ask, requests_ask, IsPart}
+use Rattle.up_shipped.specs.Shipped.{lines_ask, requests_ask, IsPart, IsPartOfLines}
 
 -- ---- lists
 
@@ -38,16 +38,16 @@ pub record AnswersScript (k : Rules) (came : List ℕ) (old new : Option (List �
   pub run : IsRunOf k (lines_ask k) empty_state (asked (lines_of true came)) texts behind
   pub wrote : Appends old new (written print texts)
 
--- so are the first lines of a script that ended early, and of the next one's answer less than all was written
+-- so are the first lines of a script that ended early, and of the next ones' answers less than all was written
 pub record BeginsScript (k : Rules) (came : List ℕ) (ended : Bool) (cause : ScriptCause) (old new : Option (List ℕ)) : Type 0 where
   pub done : List (List ℕ)
-  pub next : Option (List ℕ)
+  pub next : List (List ℕ)
   pub are_first : AreFirst (asked (lines_of ended came)) done next
   pub texts : List (List ℕ)
   pub behind : State
   pub run : IsRunOf k (lines_ask k) empty_state done texts behind
   pub part : List ℕ
-  pub is_part : IsPart print cause next part
+  pub is_part : IsPartOfLines cause next part
   pub wrote : Appends old new (written print texts ++ part)
 
 -- what a reader had and has then, what a writer held and holds then, and how the script ended

@@ -37,9 +37,9 @@ pub record IsRunOf {I : Type 0} (k : Rules) (q : Asking I) (old : State) (items 
   pub told : AreTold q items texts answers
   pub run : IsRun k old (commands_in q items) answers new
 
--- What items come to, from a state that the tables showed: a run of the plain machine. One more item may have been handed on behind them,
--- for which no text was written whole. The tables show the state behind all of them, and what was answered outlasts a crash.
-pub record IsShipped {I : Type 0} (v : Service I) (q : Asking I) (s : State) (items : List I) (texts : List (List ℕ)) (next : Option I) (old new : Standing) : Type 0 where
+-- What items come to, from a state that the tables showed: a run of the plain machine. More items may have been handed on behind them,
+-- for which not all texts were written. The tables show the state behind all of them, and what was answered outlasts a crash.
+pub record IsShipped {I : Type 0} (v : Service I) (q : Asking I) (s : State) (items : List I) (texts : List (List ℕ)) (next : List I) (old new : Standing) : Type 0 where
   pub behind : State
   pub run : IsRunOf v.rules q s items texts behind
   pub at : State

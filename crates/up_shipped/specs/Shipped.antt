@@ -1,5 +1,5 @@
 -- Whole scripts and whole streams: from the bytes that come to the bytes that are written.
-use Rattle.std.specs.Prelude.{◌≡◌, ℕ, Bool, true, List, [], ◌++◌, Option, Some, None, Result, Ok, Err}
+use Rattle.std.specs.Prelude.{◌≡◌, ℕ, Bool, true, List, [], ◌∷◌, ◌++◌, length, Option, Some, None, Result, Ok, Err}
 use Rattle.std.specs.Io.KnownBytes.{Appends}
 use Rattle.sqlite_trees.specs.declared.store.Store.{Ghosts}
 use Rattle.up_canon.specs.declared.refusal.Refusal.{Refusal}
@@ -12,7 +12,7 @@ use Rattle.up_desk.specs.Desks.{DeskView}
 use Rattle.up_lines.specs.LineRuns.{AreFirst, print}
 use Rattle.up_lines.specs.Lines.{lines_of, fits, asked}
 use Rattle.up_lines.specs.Lines as lines
-use Rattle.up_lines.specs.Runs.{At, IsCut, Ran, written}
+use Rattle.up_lines.specs.Runs.{At, IsCut, Ran, written, listed}
 use Rattle.up_lines.specs.declared.fault.ScriptCause.{ScriptCause}
 use Rattle.up_lines.specs.declared.fault.ScriptFault.{ScriptFault}
 use Rattle.up_script.specs.AskedLines.{asked_in}
@@ -62,26 +62,31 @@ abbrev pub IsPart : {I : Type 0} → (List ℕ → List ℕ) → ScriptCause →
 IsPart print cause None part = part ≡ []
 IsPart print cause (Some item) part = (text : List ℕ) × IsCut cause part (print text)
 
+-- the same of the answers to lines that were handed on
+abbrev pub IsPartOfLines : ScriptCause → List (List ℕ) → List ℕ → Type 0
+IsPartOfLines cause [] part = part ≡ []
+IsPartOfLines cause (line ∷ lines) part = (texts : List (List ℕ)) × (length texts ≡ length (line ∷ lines)) × IsCut cause part (written print texts)
+
 -- ---- scripts
 
 -- of the bytes that came each line that has any byte has its answer, and nothing else is written
 pub record IsWholeScript {K D : Type 0} (rules : K → Rules) (g : Ghosts D) (s : State) (came : List ℕ) (first now : At (DeskView K D)) : Type 0 where
   pub fit : fits (lines_of true came) ≡ true
   pub texts : List (List ℕ)
-  pub shipped : IsShipped (line_service (rules first.state.scheme)) (lines_ask (rules first.state.scheme)) s (asked (lines_of true came)) texts None
+  pub shipped : IsShipped (line_service (rules first.state.scheme)) (lines_ask (rules first.state.scheme)) s (asked (lines_of true came)) texts []
       (state g first.state.store) (state g now.state.store)
   pub wrote : Appends first.held now.held (written print texts)
 
--- so have the first lines of a script that ended early, and of the next one's answer less than all was written
+-- so have the first lines of a script that ended early, and of the next ones' answers less than all was written
 pub record IsBegunScript {K D : Type 0} (rules : K → Rules) (g : Ghosts D) (s : State) (came : List ℕ) (ended : Bool) (cause : ScriptCause) (first now : At (DeskView K D)) : Type 0 where
   pub done : List (List ℕ)
-  pub next : Option (List ℕ)
+  pub next : List (List ℕ)
   pub are_first : AreFirst (asked (lines_of ended came)) done next
   pub texts : List (List ℕ)
   pub shipped : IsShipped (line_service (rules first.state.scheme)) (lines_ask (rules first.state.scheme)) s done texts next
       (state g first.state.store) (state g now.state.store)
   pub part : List ℕ
-  pub is_part : IsPart print cause next part
+  pub is_part : IsPartOfLines cause next part
   pub wrote : Appends first.held now.held (written print texts ++ part)
 
 -- the commands that the bytes ask, with the answers that were written, are a run of the plain machine
@@ -103,7 +108,7 @@ pub record IsWholeStream {K D : Type 0} (rules : K → Rules) (g : Ghosts D) (at
   pub requests : List Next
   pub all : Requests input requests
   pub texts : List (List ℕ)
-  pub shipped : IsShipped (request_service (rules first.state.scheme) at) (requests_ask at) s requests texts None
+  pub shipped : IsShipped (request_service (rules first.state.scheme) at) (requests_ask at) s requests texts []
       (state g first.state.store) (state g now.state.store)
   pub wrote : Appends first.held now.held (written plain texts)
 
@@ -112,7 +117,7 @@ pub record IsBegunStream {K D : Type 0} (rules : K → Rules) (g : Ghosts D) (at
   pub next : Option Next
   pub are_first : serving.AreFirst came ended done next
   pub texts : List (List ℕ)
-  pub shipped : IsShipped (request_service (rules first.state.scheme) at) (requests_ask at) s done texts next
+  pub shipped : IsShipped (request_service (rules first.state.scheme) at) (requests_ask at) s done texts (listed next)
       (state g first.state.store) (state g now.state.store)
   pub part : List ℕ
   pub is_part : IsPart plain cause next part

@@ -1,7 +1,5 @@
 //! The laws of what ships. Each function is empty but for laws that it calls: its contract is a theorem.
-ghost use Rattle.up_connections.specs.Interleaved.{Numbered};
-ghost use Rattle.up_service.specs.Runs.{ReopenedLast};
-ghost use Rattle.up_shipped.specs.Connections.{ConnectionsAreRuns};
+ghost use Rattle.up_shipped.specs.Connections.{ConnectionsAreRuns, ReopenedAll};
 ghost use Rattle.up_shipped.specs.Shipped.{ScriptsAreRuns, StreamsAreRuns};
 ghost use Rattle.up_shipped.specs.Starts.{TakenTablesShow};
 
@@ -11,7 +9,9 @@ use up_http::laws::conversations_keep_order;
 use up_machine::laws::{
     kept_replies_stay, refusals_change_nothing, repeats_change_nothing, vehicles_stand_apart,
 };
+use up_main::laws::clients_outlast_crashes;
 use up_rows::laws::rows_tell_the_state;
+use up_service::laws::scripts_outlast_crashes;
 use up_sign::scheme::Scheme;
 
 /// Every script is a run of the plain machine, from the bytes that come to those that are written. The commands that its lines ask, in
@@ -36,11 +36,10 @@ pub fn streams_are_runs<K: Scheme, D: Alter>()
     vehicles_stand_apart();
 }
 
-/// Many connections over one desk are one run of the plain machine, however what happens on them is interleaved: the commands that
-/// their requests ask, in the order of their answers, each at its connection's moment, with these answers. Each connection has its
-/// own requests, in their order, and the answers to them, byte for byte. The tables show the state behind them, and what was answered
-/// outlasts a crash. What happens on a connection is what the contracts of its calls say, and that of `answer_at_desk`. One on which
-/// nothing more happens may be one that was closed behind an answer that couldn't be told.
+/// Many connections over one desk, and operators' scripts among them, are one run of the plain machine, however what happens on them
+/// is interleaved and whatever is done together: the commands that are asked, in the order in which they were met, each at its
+/// connection's moment, with these answers. Each connection has its own requests, in their order, and the answers to them, byte for
+/// byte. The tables show the state behind them, and what was answered outlasts a crash.
 pub fn connections_are_runs<K: Scheme, D: Alter>()
     ensures { ConnectionsAreRuns (K.rules) D.Store }
 {
@@ -49,13 +48,14 @@ pub fn connections_are_runs<K: Scheme, D: Alter>()
     vehicles_stand_apart();
     refusals_change_nothing();
     conversations_keep_order();
+    scripts_outlast_crashes::<K, D>();
+    clients_outlast_crashes::<K, D>();
 }
 
-/// What an open finds behind the answers of many connections, where the program stopped and the files are opened again as a crash left
-/// them: behind each reply to a new manifest the state behind that request, or what one of those that were answered after it makes
-/// from there on.
+/// What an open finds behind the answers to many connections and operators, where the program stopped and the files are opened again
+/// as a crash left them: behind each answered commit the state behind it, or what one of those that follow makes from there on.
 pub fn reopened_connections_outlast_crashes<D: Disk>()
-    ensures { ReopenedLast Numbered D.Disk }
+    ensures { ReopenedAll D.Disk }
 {}
 
 /// A desk over a database that `take_for` took shows each sound state that the tables showed before, by whichever version of the schema; and

@@ -1,1 +1,4 @@
+pub mod Apart
 pub mod Joined
+pub mod Pieces
+pub mod Told

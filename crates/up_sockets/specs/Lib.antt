@@ -1,1 +1,3 @@
+pub mod Apart
+pub mod Groups
 pub mod Served

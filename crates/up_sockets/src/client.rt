@@ -1,10 +1,8 @@
 //! A client: its connection, and its socket.
-ghost use Rattle.std.specs.Prelude.{◌≡◌, [], ◌≤◌, length};
+ghost use Rattle.std.specs.Prelude.{◌≡◌, [], true};
 ghost use Rattle.up_http.specs.Talks.{wants_of};
-ghost use Rattle.up_http.specs.declared.conversation.Wants.TheVariants.{Answer as WantsAnswer, Read as WantsRead, Write as WantsWrite};
-ghost use Rattle.up_sockets.specs.Served.{IsServed};
+ghost use Rattle.up_http.specs.declared.conversation.Wants.TheVariants.{Answer as WantsAnswer, Read as WantsRead};
 
-use crate::service::Service;
 use mio::net::TcpStream;
 use std::io::{ErrorKind, Read, Write};
 use std::net::Shutdown;
@@ -46,9 +44,21 @@ pub(crate) fn is_ready(client: &Client<Socket>) -> bool {
     }
 }
 
+/// Whether a request of a client waits for its answer.
+pub(crate) fn is_waiting(client: &Client<Socket>) -> bool
+    ensures { result ≡ true → wants_of client.now.connection.line.talk ≡ WantsAnswer }
+{
+    match client.connection.wants() {
+        Wants::Answer => !client.socket.gone && client.patience.closing.is_none(),
+        _ => false,
+    }
+}
+
 /// Closes a connection in stages (RFC 9112, section 9.6): nothing more is written, and what still comes is read and dropped,
 /// until the client closes too. Where bytes stayed unread, it could lose the last answers.
-fn close(client: &mut Client<Socket>, now: u64) {
+pub(crate) fn close(client: &mut Client<Socket>, now: u64)
+    ensures { client.new.connection ≡ client.old.connection }
+{
     client.patience.closing = Some(now);
     client.patience.moved = now;
     if client.socket.stream.shutdown(Shutdown::Write).is_err() {
@@ -64,97 +74,62 @@ fn late(client: &Client<Socket>) -> ScriptCause {
     }
 }
 
-/// Goes on with a client that can go on, as far as it can, up to its next request but one: then the others have their turn.
-#[tactic(auto, using(crate::proofs::Joined::served_none))]
-pub(crate) fn go_on<S, V: Service<S>>(
-    service: &V,
-    state: &mut S,
-    client: &mut Client<Socket>,
-    now: u64,
-)
-    ensures { IsServed (V.gives service.now) state.old state.new }
-{
+/// Goes on with a client as far as it can, up to its next request; what failed, if anything did.
+pub(crate) fn go_on(client: &mut Client<Socket>, now: u64) -> Option<ScriptCause> {
     if !is_ready(client) {
-        return;
+        return None;
     }
     if client.patience.closing.is_some() {
         drop_bytes(client, now);
-        return;
+        return None;
     }
-    let mut answered = false;
     for _ in 0..MOST_STEPS {
-        if client.connection.wants() == Wants::Answer {
-            if answered {
-                return;
-            }
-            answered = true;
-        }
-        match step(service, state, client, now) {
+        match step(client, now) {
             Ok(true) => {}
-            Ok(false) => return,
+            Ok(false) => return None,
             Err(cause) => {
-                service.tell(client.number, cause);
                 close(client, now);
-                return;
+                return Some(cause);
             }
         }
     }
+    None
 }
 
-/// Ends a client that was waited for too long.
-pub(crate) fn end_late<S, V: Service<S>>(service: &V, client: &mut Client<Socket>, now: u64) {
+/// Ends a client that was waited for too long; what failed then, if it wasn't closing.
+pub(crate) fn end_late(client: &mut Client<Socket>, now: u64) -> Option<ScriptCause> {
     if client.patience.left(now) > 0 {
-        return;
+        return None;
     }
     if client.patience.closing.is_some() {
         client.socket.gone = true;
-        return;
+        return None;
     }
-    service.tell(client.number, late(client));
+    let cause = late(client);
     close(client, now);
+    Some(cause)
 }
 
-/// Ends a client at once, since another has to have its place.
-pub(crate) fn give_up<S, V: Service<S>>(service: &V, client: &mut Client<Socket>) {
-    if client.patience.closing.is_none() {
-        service.tell(client.number, late(client));
-    }
+/// Ends a client at once, since another has to have its place; what failed, if it wasn't closing.
+pub(crate) fn give_up(client: &mut Client<Socket>) -> Option<ScriptCause> {
     client.socket.gone = true;
+    if client.patience.closing.is_some() {
+        None
+    } else {
+        Some(late(client))
+    }
 }
 
-/// Takes one step; `false` where the client has to be waited for.
-#[tactic(auto, using(crate::proofs::Joined::served_none))]
-fn step<S, V: Service<S>>(
-    service: &V,
-    state: &mut S,
-    client: &mut Client<Socket>,
-    now: u64,
-) -> Result<bool, ScriptCause>
-    ensures { IsServed (V.gives service.now) state.old state.new }
-{
+/// Takes one step; `false` where the client, or its answer, has to be waited for.
+fn step(client: &mut Client<Socket>, now: u64) -> Result<bool, ScriptCause> {
     match client.connection.wants() {
         Wants::Read => read_step(client, now),
-        Wants::Answer => answer_step(service, state, client),
+        Wants::Answer => Ok(false),
         Wants::Write => write_step(client, now),
         Wants::Close => {
             close(client, now);
             Ok(false)
         }
-    }
-}
-
-/// Answers the request that waits.
-fn answer_step<S, V: Service<S>>(
-    service: &V,
-    state: &mut S,
-    client: &mut Client<Socket>,
-) -> Result<bool, ScriptCause>
-    requires { wants_of client.old.connection.line.talk ≡ WantsAnswer }
-    ensures { IsServed (V.gives service.now) state.old state.new }
-{
-    match service.answer(state, client.at, &mut client.connection) {
-        Ok(()) => Ok(true),
-        Err(_) => Err(ScriptCause::Memory),
     }
 }
 

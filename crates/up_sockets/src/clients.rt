@@ -3,6 +3,8 @@ ghost use Rattle.std.specs.Prelude.{◌≡◌, ◌<◌, true};
 ghost use Rattle.up_sockets.specs.Served.{IsServed};
 
 use crate::client::{Socket, end_late, give_up, go_on, is_ready};
+use crate::groups::{Counts, answer_alone, answer_together};
+use crate::late::Late;
 use crate::service::Service;
 use mio::net::{TcpListener, TcpStream};
 use mio::{Events, Interest, Registry, Token};
@@ -12,6 +14,7 @@ use std::io::ErrorKind;
 use std::time::{Duration, SystemTime};
 use up_connections::hub::{Client, Hub};
 use up_lines::fault::ScriptCause;
+use up_program::status::Status;
 use up_program::times::seconds;
 
 /// How many are accepted before those that are open have their turn.
@@ -29,19 +32,40 @@ pub(crate) const LISTENER: Token = Token(0);
 /// The clients that are served at once.
 #[derive(Drop)]
 pub(crate) struct Clients {
+    alloc: Global,
     hub: Hub<Socket>,
     /// How many are accepted in all.
     count: u32,
     /// Whether others may wait in the listener's queue.
     calls: bool,
+    counts: Counts,
+    late: Late,
 }
 
 impl Clients {
     pub(crate) fn new(alloc: Global, count: u32) -> Clients {
         Clients {
+            alloc,
             hub: Hub::new(alloc),
             count,
             calls: false,
+            counts: Counts {
+                groups: 0,
+                commands: 0,
+            },
+            late: Late::new(),
+        }
+    }
+
+    /// How the service stands, so many seconds since it began.
+    pub(crate) fn status(&self, seconds: u64) -> Status {
+        let open = self.hub.clients.len() as u64;
+        Status {
+            commands: self.counts.commands,
+            groups: self.counts.groups,
+            open,
+            seconds,
+            served: self.hub.accepted.saturating_sub(open),
         }
     }
 
@@ -124,7 +148,7 @@ impl Clients {
                 Ok((stream, _)) => {
                     self.make_room(service, now);
                     let at = seconds(SystemTime::now(rt));
-                    if !self.take(registry, stream, at, now) {
+                    if !self.take(registry, stream, at, now) && self.late.tells(now) {
                         service.tell(self.hub.accepted, ScriptCause::Memory);
                     }
                 }
@@ -144,7 +168,8 @@ impl Clients {
     {
         if !self.hub.has_room() {
             let since = silent_since(self.hub.clients.as_slice(), now);
-            end_since(service, self.hub.clients.as_mut_slice(), since);
+            let clients = self.hub.clients.as_mut_slice();
+            end_since(service, clients, &mut self.late, since, now);
             self.forget();
         }
     }
@@ -173,36 +198,62 @@ impl Clients {
         self.hub.accept(socket, at, now).is_ok() && watched
     }
 
-    /// Goes on with each that can go on, ends those that took too long, and forgets those that are over.
+    /// Goes on with each that can go on, ends those that took too long, answers the requests that wait, and forgets those that are
+    /// over.
     pub(crate) fn go_on<S, V: Service<S>>(&mut self, service: &V, state: &mut S, now: u64)
-        ensures { IsServed (V.gives service.now) state.old state.new }
+        ensures { IsServed (V.does service.now) state.old state.new }
     {
-        go_on_each(service, state, self.hub.clients.as_mut_slice(), now);
+        let clients = self.hub.clients.as_mut_slice();
+        go_on_each(service, clients, &mut self.late, now);
+        answer_together(self.alloc, service, state, clients, &mut self.counts, now);
+        answer_alone(service, state, clients, now);
         self.forget();
     }
 }
 
 /// Goes on with each that can go on, and ends those that took too long.
-#[tactic(auto, using(crate::proofs::Joined::served_none))]
 fn go_on_each<S, V: Service<S>>(
     service: &V,
-    state: &mut S,
     clients: &mut [Client<Socket>],
+    late: &mut Late,
     now: u64,
-)
-    ensures { IsServed (V.gives service.now) state.old state.new }
-{
+) {
     for client in clients.iter_mut() {
-        go_on(service, state, client, now);
-        end_late(service, client, now);
+        if let Some(cause) = go_on(client, now) {
+            service.tell(client.number, cause);
+        }
+        if let Some(cause) = end_late(client, now) {
+            tell_late(service, late, client.number, cause, now);
+        }
+    }
+}
+
+/// Tells that a connection was refused room or time, once a minute at most.
+fn tell_late<S, V: Service<S>>(
+    service: &V,
+    late: &mut Late,
+    number: u64,
+    cause: ScriptCause,
+    now: u64,
+) {
+    if late.tells(now) {
+        service.tell(number, cause);
     }
 }
 
 /// Ends the first that was silent since then.
-fn end_since<S, V: Service<S>>(service: &V, clients: &mut [Client<Socket>], since: u64) {
+fn end_since<S, V: Service<S>>(
+    service: &V,
+    clients: &mut [Client<Socket>],
+    late: &mut Late,
+    since: u64,
+    now: u64,
+) {
     for client in clients.iter_mut() {
         if client.patience.moved == since {
-            give_up(service, client);
+            if let Some(cause) = give_up(client) {
+                tell_late(service, late, client.number, cause, now);
+            }
             return;
         }
     }

@@ -1,4 +1,7 @@
 //! Lines, readers and writers that fail, and limits.
+ghost use Rattle.std.specs.Prelude.{◌≡◌, ◌++◌, ℕ, List, OnOk};
+ghost use Rattle.up_lines.specs.LineRuns.{print};
+
 use std::alloc::{AllocError, Global};
 use std::io;
 use std::io::{Read, Write};
@@ -12,22 +15,40 @@ use up_lines::run;
 pub(crate) struct Bracket;
 
 impl Interpret<u32> for Bracket {
-    ghost use Rattle.std.specs.Prelude.{◌≡◌, ◌∷◌, ◌++◌, []};
+    ghost use Rattle.std.proofs.Common.{ap₂, length-append, sym, ◌∙◌};
+    ghost use Rattle.std.specs.Prelude.{◌≡◌, ◌+◌, length, refl};
 
-    ghost gives = { λ _ line text _. text ≡ (91 ∷ []) ++ line ++ (93 ∷ []) };
+    ghost gives = { λ _ lines texts _. length texts ≡ length lines };
 
     fn interpret(
         &self,
-        alloc: Global,
+        _alloc: Global,
         state: &mut u32,
-        line: &[u8],
-    ) -> Result<Vec<u8>, AllocError> {
-        let mut text = vec![in alloc; b'[']?;
-        text.extend_from_slice(line)?;
-        text.push(b']')?;
+        lines: &[&[u8]],
+        answers: &mut Vec<u8>,
+    ) -> Result<usize, AllocError> {
+        push_bracketed(answers, lines[0])?;
         *state = state.saturating_add(1);
-        Ok(text)
+        Ok(1)
     }
+
+    ghost composes = { record {
+      each = λ _ _ _ _ h. h;
+      none = λ _. refl;
+      both = λ _ _ _ some more texts others p q.
+          length-append texts others ∙ ap₂ (λ a b. a + b) p q ∙ sym (length-append some more);
+    } };
+}
+
+/// Appends a line in brackets, and a newline.
+fn push_bracketed(answers: &mut Vec<u8>, line: &[u8]) -> Result<(), AllocError>
+    ensures { OnOk result ((text : List ℕ) × (answers.new.items ≡ answers.old.items ++ print text)) }
+{
+    answers.push(b'[')?;
+    answers.extend_from_slice(line)?;
+    answers.push(b']')?;
+    answers.push(b'\n')?;
+    Ok(())
 }
 
 /// Gives a few bytes at a time, and fails once, at one call.

@@ -43,7 +43,10 @@ fn words_of(alloc: Global, given: &str) -> Result<Vec<String>, AllocError> {
 fn shown(alloc: Global, asked: Option<Job>) -> Result<String, AllocError> {
     match asked {
         Some(Job::Run(file)) => format!(in alloc; "run {file}"),
-        Some(Job::Serve(file, port, count)) => format!(in alloc; "serve {file} {port} {count}"),
+        Some(Job::Serve(file, port, count, socket)) => match socket {
+            None => format!(in alloc; "serve {file} {port} {count}"),
+            Some(socket) => format!(in alloc; "serve {file} {port} {count} {socket}"),
+        },
         Some(Job::Digest(file)) => format!(in alloc; "digest {file}"),
         None => "none".to_string(alloc),
     }

@@ -1,18 +1,19 @@
 """Measures how many manifests a second clients get that come at once, by the time that a disk takes
 to synchronise; a long script; and what a crowd holds.
 
-    tools/run clients PROGRAM FOLDER [OTHER [NUMBER [LINES]]]
+    tools/run clients PROGRAM FOLDER [OTHER ..] [--number NUMBER] [--lines LINES]
 
-The first manifests of vehicles of four ECUs (NUMBER, 400 of them, twice as many on a disk of 1 ms
-and four times on one of 0), a connection each, by 1, 8 and 64 clients, over a file in FOLDER: of
-the program and of the OTHER one, the forerunner, turn by turn, three times, of which the best
-counts. Each call that waits for the disk takes 0, 1 and 10 milliseconds longer (`slow_disk.c`,
-which needs a C compiler): so FOLDER is to be in memory, as /dev/shm is. A row has manifests a
-second, for a second of a processor, the median and the greatest wait in milliseconds, and manifests
-for each call that waited. Then a script of LINES (10,000) new vehicles of four ECUs on each such
-disk: seconds, and calls that waited. Then 255 clients that each have sent a manifest of the
-greatest length but for its last byte, and one more that asks for a file: what the program takes of
-memory meanwhile, and before.
+The first manifests of vehicles of four ECUs (NUMBER, 400 of them, twice as many on a disk of 1 ms,
+and four times by 64 clients or on a disk of 0), a connection each, by 1, 8 and 64 clients, over a
+file in FOLDER: of the program and of OTHER ones, as the forerunner, turn by turn, three times, of
+which the best counts. They are made before, and a small program sends them (`clients.c`), so that
+it takes little of what is measured. Each call that waits for the disk takes 0, 1 and 10
+milliseconds longer (`slow_disk.c`): so FOLDER is to be in memory, as /dev/shm is. Both need a C
+compiler. A row has manifests a second, for a second of a processor, the median and the greatest
+wait in milliseconds, and manifests for each call that waited. Then a script of LINES (10,000) new
+vehicles of four ECUs on each such disk: seconds, and calls that waited; none where LINES is 0. Then
+255 clients that each have sent a manifest of the greatest length but for its last byte, and one
+more that asks for a file: what the program takes of memory meanwhile, and before.
 """
 import contextlib
 import socket
@@ -26,11 +27,11 @@ from pathlib import Path
 
 from uptane_tools import arguments
 from uptane_tools.measure import fleet, speed
-from uptane_tools.trial import crowd, http_cases, trials
+from uptane_tools.trial import http_cases, trials
 
-# milliseconds, and how many times NUMBER
-DISKS = {0: 4, 1: 2, 10: 1}
-CLIENTS, ROUNDS, CROWD, LONGEST, PATIENCE = (1, 8, 64), 3, 255, 262_144, 600
+# milliseconds, and clients, and how many times NUMBER each sends; the larger number counts
+DISKS, CLIENTS = {0: 4, 1: 2, 10: 1}, {1: 1, 8: 1, 64: 4}
+ROUNDS, CROWD, LONGEST, PATIENCE = 3, 255, 262_144, 600
 ECUS = 4
 
 
@@ -55,11 +56,37 @@ class Disk:
         return int(struct.unpack("q", self.counted.read_bytes())[0])
 
 
+def compiled(made: Path, source: Path, *words: str) -> Path:
+    """The same file, compiled from this source."""
+    subprocess.run(["cc", "-O1", *words, "-o", str(made), str(source)], check=True)
+    return made
+
+
 def library_in(own: Path) -> Path:
     """The library that slows a disk down, made in this folder."""
-    made, source = own / "slow_disk.so", Path(trials.__file__).with_name("slow_disk.c")
-    subprocess.run(["cc", "-shared", "-fPIC", "-O1", "-o", str(made), str(source)], check=True)
-    return made
+    source = Path(trials.__file__).with_name("slow_disk.c")
+    return compiled(own / "slow_disk.so", source, "-shared", "-fPIC")
+
+
+def clients_in(own: Path) -> Path:
+    """The program of the clients, made in this folder."""
+    return compiled(own / "clients", Path(__file__).with_name("clients.c"))
+
+
+@dataclass(frozen=True)
+class Asked:
+    """The status of an answer, and the microseconds at which its request was begun and ended."""
+
+    status: int
+    begun: int
+    ended: int
+
+
+def asked(client: Path, port: int, clients: int, requests: list[bytes]) -> list[Asked]:
+    """What came of these requests, each of which ends its connection, by so many clients."""
+    ran = subprocess.run([str(client), str(port), str(clients)], input=b"".join(
+        struct.pack("I", len(it)) + it for it in requests), capture_output=True, check=True)
+    return [Asked(*map(int, line.split())) for line in ran.stdout.splitlines()]
 
 
 @dataclass(frozen=True)
@@ -79,40 +106,37 @@ class Rate:
                                                  self.most, self.together)
 
 
-def by_clients(program: str, path: Path, bodies: list[bytes], clients: int, disk: Disk) -> Rate:
+def by_clients(program: str, path: Path, client: Path, bodies: list[bytes], clients: int,
+               disk: Disk) -> Rate:
     """The rate over a file that has the vehicles of these bodies."""
-    asked = [
-        crowd.Exchange(http_cases.closing_one(http_cases.POST % len(body) + body))
-        for body in bodies]
+    requests = [http_cases.closing_one(http_cases.POST % len(body) + body) for body in bodies]
     with http_cases.served(program, path, 100_000, disk.variables()) as running:
-        begun, used = time.monotonic(), speed.processor(running.pid)
-        crowd.all_of(running.port, clients, asked)
-        took = time.monotonic() - begun
-        used = (speed.processor(running.pid) - used) / 1e6
-        assert {it.status() for it in asked} == {200}
-        waits = [1000 * (it.ended - it.begun) for it in asked]
-        return Rate(
-            len(asked) / took,
-            len(asked) / used, statistics.median(waits), max(waits),
-            len(asked) / max(disk.syncs(), 1))
+        used, synced = speed.processor(running.pid), disk.syncs()
+        came = asked(client, running.port, clients, requests)
+        used = speed.processor(running.pid) - used
+        assert len(came) == len(requests) and {it.status for it in came} == {200}
+        waits = [(it.ended - it.begun) / 1000 for it in came]
+        return Rate(1e6 * len(came) / max(it.ended for it in came), 1e6 * len(came) / used,
+                    statistics.median(waits), max(waits),
+                    len(came) / max(disk.syncs() - synced, 1))
 
 
-def rates(programs: list[str], own: Path, library: Path, number: int) -> None:
-    most = number * max(DISKS.values())
+def rates(programs: list[str], own: Path, beside: Path, number: int) -> None:
+    library, client = library_in(beside), clients_in(beside)
+    most = number * max(*DISKS.values(), *CLIENTS.values())
     filled = own / "filled"
     assert trials.printed(programs[0], filled, speed.prepared(most, 10, 10, ECUS), PATIENCE)
     bodies = [
         http_cases.json.loads(line)["body"].encode("ascii")
         for line in speed.manifests(most, most, 1, ECUS)]
     for wait, times in DISKS.items():
-        for clients in CLIENTS:
+        for clients, more in CLIENTS.items():
             came: dict[str, list[Rate]] = {it: [] for it in programs}
             for _ in range(ROUNDS):
                 for name in programs:
                     path = trials.copied(filled, own / "desk")
-                    came[name].append(
-                        by_clients(name, path, bodies[:number * times], clients, Disk(
-                            library, wait)))
+                    few, disk = bodies[:number * max(times, more)], Disk(library, wait)
+                    came[name].append(by_clients(name, path, client, few, clients, disk))
                     path.unlink()
                     trials.log_of(path).unlink(missing_ok=True)
             for name, told in came.items():
@@ -167,11 +191,18 @@ def held(program: str, path: Path) -> tuple[int, int]:
 
 def main(words: arguments.Words = None) -> int:
     """Measures the program that is named, and another one."""
-    asked = arguments.given(__doc__, words, "program", "folder", other="", number=400, lines=10_000)
-    programs = [str(Path(it).resolve()) for it in (asked.program, asked.other) if it]
-    with tempfile.TemporaryDirectory(dir=asked.folder) as folder, trials.folder() as beside:
-        own, library = Path(folder), library_in(beside)
-        rates(programs, own, library, asked.number)
-        by_script(programs, own, library, asked.lines)
-        print("%d kB before a crowd, %d kB with it" % held(asked.program, own / "crowd"))
+    parser = arguments.parser(__doc__)
+    for name in ("program", "folder"):
+        parser.add_argument(name, metavar=name.upper())
+    parser.add_argument("other", nargs="*", metavar="OTHER")
+    parser.add_argument("--number", type=int, default=400)
+    parser.add_argument("--lines", type=int, default=10_000)
+    given = parser.parse_args(words)
+    programs = [str(Path(it).resolve()) for it in (given.program, *given.other)]
+    with tempfile.TemporaryDirectory(dir=given.folder) as folder, trials.folder() as beside:
+        own = Path(folder)
+        rates(programs, own, beside, given.number)
+        if given.lines:
+            by_script(programs, own, library_in(beside), given.lines)
+        print("%d kB before a crowd, %d kB with it" % held(programs[0], own / "crowd"))
     return 0

@@ -1,8 +1,10 @@
 """Measures the program: instructions a line, lines a second, and what a start takes.
 `docs/use/SPEED.md` has the figures.
 
-    tools/run speed PROGRAM fleets         instructions a line, over memory and over a file, and
-                                           compressions of SHA-256, of scripts of seven fleets
+    tools/run speed PROGRAM fleets         instructions a line, over memory, over a file where each
+                                           is given once the one before it is answered, and over one
+                                           where the script is given whole; and compressions of
+                                           SHA-256, of scripts of seven fleets
     tools/run speed PROGRAM functions      the five functions that take most of them, in the fleet
                                            of `fleets` that is first
     tools/run speed PROGRAM malloc         calls of malloc, calloc and realloc a line, of the same
@@ -100,6 +102,20 @@ def counted(program: str | Path, script: list[str], own: Path, told: Any,
     return collected(ran.stderr)
 
 
+def counted_by_line(program: str | Path, script: list[str], told: Any, path: Path) -> int:
+    """The instructions that a script takes of which each line is given once the one before it was
+    answered.
+    """
+    words, pipes = [*callgrind(told), str(program), "run", str(path)], subprocess.PIPE
+    with subprocess.Popen(words, stdin=pipes, stdout=pipes, stderr=pipes) as it:
+        assert it.stdin is not None and it.stdout is not None
+        for line in script:
+            it.stdin.write(line.encode() + b"\n")
+            it.stdin.flush()
+            it.stdout.readline()
+        return collected(it.communicate()[1])
+
+
 def calls(told: Any, function: Any) -> int:
     """How often a function of such a name was called, by callgrind's file."""
     names: Any
@@ -124,9 +140,10 @@ def fleets(program: str | Path, own: Path) -> None:
     for at, (name, words) in enumerate(FLEETS.items()):
         script = list(fleet.script(**words))
         taken, blocks = hashed(program, script, own)
-        kept = counted(program, script, own, own / "told", own / ("fleet%d" % at))
-        each = [number // len(script) for number in (taken, kept, blocks)]
-        print("| %s | %d | %d | %d | %d |" % (name, len(script), *each), flush=True)
+        one = counted_by_line(program, script, own / "told", own / ("one%d" % at))
+        whole = counted(program, script, own, own / "told", own / ("fleet%d" % at))
+        each = [number // len(script) for number in (taken, one, whole, blocks)]
+        print("| %s | %d | %d | %d | %d | %d |" % (name, len(script), *each), flush=True)
 
 
 def malloc(program: str | Path, own: Path) -> None:
@@ -700,13 +717,19 @@ def proxied(program: str | Path, own: Path, number: int = 600, clients: int = 8)
             running.kill()
 
 
+def counted_of(running: http_cases.Served) -> int:
+    """The instructions that a program took which ends by itself, as callgrind tells."""
+    running.wait(timeout=600)
+    running.said.seek(0)
+    return collected(running.said.read())
+
+
 def instructions(program: Any, path: Any, requests: list[Any]) -> Any:
     """The instructions that the program takes to serve a connection with these requests."""
     program = [*callgrind(path.parent / "requests"), program]
     with http_cases.served(program, path, 1) as running:
         assert http_cases.told(running, b"".join(requests)).count(b"HTTP/1.1 ") == len(requests)
-        _, err = running.communicate(timeout=600)
-    return collected(err)
+        return counted_of(running)
 
 
 def http(program: str | Path, own: Path) -> None:
@@ -735,8 +758,8 @@ def head(program: str | Path, own: Path) -> None:
                 time.sleep(pause or 0)
             client.shutdown(http_cases.socket.SHUT_WR)
             assert b"404 Not Found" in http_cases.to_the_end(client)
-            _, err = running.communicate(timeout=600)
-        print("| %s | %d |" % (name, collected(err)), flush=True)
+            taken = counted_of(running)
+        print("| %s | %d |" % (name, taken), flush=True)
 
 
 def repeated(size: int, front: Any, item: Any, between: Any, end: bool | str) -> Any:

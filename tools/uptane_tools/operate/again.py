@@ -46,6 +46,11 @@ def ecus_of(db: sqlite3.Connection, vehicle: str) -> list[Members]:
             for row in db.execute(sql, (vehicle, ))]
 
 
+def made_by(root: int) -> str:
+    """The command that makes a root version."""
+    return "rotate" if root > 1 else "found"
+
+
 def missing(before: sqlite3.Connection, after: sqlite3.Connection, table: str,
             column: str) -> Iterator[sqlite3.Row]:
     """The rows of the later file that the earlier one hasn't, in the order in which they were made.
@@ -85,7 +90,7 @@ def members(before: sqlite3.Connection, after: sqlite3.Connection) -> Iterator[t
     """What each line does, and its members, in an order in which each is taken."""
     first, last = fleet_tables.meta_of(before), fleet_tables.meta_of(after)
     for root in range(first["root"] + 1, last["root"] + 1):
-        yield "rotate", keys_of(after, root)
+        yield made_by(root), keys_of(after, root)
     for row in missing(before, after, "image", "file"):
         yield "add_image", image_of(after, row, last["schema"])
     yield from of_vehicles(before, after)
@@ -101,7 +106,7 @@ def lines(copy: Path, later: Path, now: int) -> Iterator[str]:
         for do, its in made:
             yield canonical({"at": now, "do": do, **its})
         versions = [fleet_tables.meta_of(it)["image_version"] for it in (before, after)]
-        files = sum(do in ("rotate", "add_image") for do, _ in made)
+        files = sum(do in ("found", "rotate", "add_image") for do, _ in made)
         if versions[1] > versions[0] or files:
             yield canonical({
                 "at": now, "do": "refresh", "version": max(versions[1], versions[0] + files) + 1})
@@ -181,7 +186,9 @@ def by_journal(copy: Path, journal: Path, copies: Path, now: int) -> tuple[list[
         if rotated > len(kept):
             lacking.append("to give again by hand: %d rotations, whose keys no copy has" %
                            (rotated - len(kept)))
-        made = [{"at": now, "do": "rotate", **it} for it in kept] + rest
+        first = meta["root"] + 1
+        made = [{"at": now, "do": made_by(root), **it}
+                for root, it in enumerate(kept, first)] + rest
         last = max(version, meta["image_version"] + files + len(kept)) + 1
         return [
             canonical(it) for it in [*made, {"at": now, "do": "refresh", "version": last}]], lacking

@@ -11,9 +11,10 @@ fewest. A line on keys or images goes to all desks. So does a campaign for all v
 names vehicles goes to their desks, and names to each its own. What asks nothing that can be told
 goes to the first desk.
 
-Between the two give each script to its desk, `uptane_desk run FILE < FOLDER/desk1.script >
-FOLDER/desk1.answers`. What is joined is what one desk prints for the whole script. Where desks
-differ on a line, `differs:` and each answer is printed; the status is then 1.
+Between the two give each script to its desk, `tools/run tell SOCKET < FOLDER/desk1.script >
+FOLDER/desk1.answers`; where its service ended in the middle, add the rest to the answers
+(`--from`). What is joined is what one desk prints for the whole script. Where desks differ on a
+line, `differs:` and each answer is printed; the status is then 1.
 
 FOLDER keeps what was divided: `division.json` has the desk of each vehicle and of each ECU's and
 campaign's name that was taken, `vehicles.map` the vehicles for a proxy. `every.script` has the

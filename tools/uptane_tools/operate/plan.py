@@ -3,14 +3,13 @@ desks, so begin with what the last year needs.
 
     tools/run plan --vehicles N --ecus N [--manifests-a-day N] [--years N] [--desks N] [--scheme
         ed25519|hmac-sha256] [--one-hash] [--names BYTES] [--seconds S] [--memory GB] [--disk GB]
-        [--clones] [--copies N] [--busiest SHARE] [--refreshes N] [--requests N] [--speed FACTOR]
-        [--sync MS]
+        [--clones] [--copies N] [--busiest SHARE] [--requests N] [--speed FACTOR] [--sync MS]
 
 For 1, 2, 4, 8, 16, 32 and 64 desks, or for N, it prints what there is at the end of so many
 years (10): the replies that each keeps, its file, the seconds of a start and its peak of memory,
-what stays in memory behind it, the seconds a day that each is away, the time of a manifest, how
-busy each is in the busiest hour, the disk of all together, and the minutes of an upgrade, which
-starts one after another.
+what stays in memory behind it, the days between two starts and the seconds a day that each is
+away for them, the time of a manifest that comes alone, how busy each is in the busiest hour, the
+disk of all together, and the minutes of an upgrade, which starts one after another.
 
 A reply is kept for good, with its manifest: of so many ECUs, with SHA-512 beside SHA-256 but for
 --one-hash, of that scheme (ed25519), and with names of so many bytes (20) for vehicles, ECUs and
@@ -18,11 +17,9 @@ files. Reports without a note, plans without an assignment, and one key a role a
 images, campaigns and keys are left out. SQLite's pages of 4,096 bytes hold whole rows, so a file
 grows in steps of these.
 
-Each refresh that is given by script stops a desk (--refreshes, 2 a day, 0 where lines go through
-the service), which is two starts: one to give the lines, one to serve. A service also starts
-anew behind 1,000,000 connections; a vehicle makes --requests of them (6) for each manifest. So
-many whole copies of each file are kept (48), on the same disk; with --clones (XFS, Btrfs) they
-take what grew meanwhile.
+No act of an operator stops a desk. A service starts anew behind 1,000,000 connections; a vehicle
+makes --requests of them (6) for each manifest. So many whole copies of each file are kept (48), on
+the same disk; with --clones (XFS, Btrfs) they take what grew meanwhile.
 
 Desks are enough where a start takes at most S seconds (60), where all desks of one machine and a
 start, of one of them or of a copy that is tried, fit into its memory (8 GB), all files and copies
@@ -31,8 +28,8 @@ leaves a desk half of its time. The last line says how many are enough, and the 
 64 aren't.
 
 The figures are those of `docs/use/SPEED.md`, measured on a machine that had other work: FACTOR
-(1) is how many times as fast yours is. Each manifest waits once until the disk has synchronised,
-MS milliseconds (5; a disk for servers takes 0.1).
+(1) is how many times as fast yours is. What is at hand waits together until the disk has
+synchronised, MS milliseconds (5; a disk for servers takes 0.1), in groups of ten where many come.
 """
 import argparse
 from collections.abc import Iterator
@@ -61,6 +58,8 @@ PROGRAM_BYTES = 11_500_000
 MANIFEST, MANIFEST_ECU, MANIFEST_KEPT, VERIFY, SIGN = 350, 150, 0.2, 89, 42
 # a service ends behind so many connections
 CONNECTIONS = 1_000_000
+# manifests that wait for the disk together in the busiest hour
+TOGETHER = 10
 MOST_DESKS = 64
 YEAR = 365
 
@@ -100,6 +99,7 @@ class Desk:
     start: float
     peak: float
     stays: float
+    days: float
     away: float
     manifest: float
     busy: float
@@ -124,16 +124,18 @@ def needed(given: argparse.Namespace, desks: int) -> Desk:
     start = kept / 1e6 * (START_SECONDS + START_TEXT * texts(given) / 1000) / given.speed
     peak = PROGRAM_BYTES + kept * (texts(given) + given.names + START_BYTES)
     stays = min(peak, STAYS + kept * STAYS_BYTES)
-    away = 2 * given.refreshes * (start + 1) + a_day * given.requests / CONNECTIONS * (start + 1)
+    days = CONNECTIONS / max(a_day * given.requests, 1)
+    away = (start + 1) / days
     signed = (given.ecus + 1) * VERIFY + 3 * SIGN if given.scheme == "ed25519" else 0
-    manifest = (MANIFEST + MANIFEST_ECU * given.ecus + signed +
-                MANIFEST_KEPT * kept / 1000) / given.speed + 1000 * given.sync
-    busy = a_day * given.busiest / 3600 * manifest / 1e6
+    processor = (MANIFEST + MANIFEST_ECU * given.ecus + signed +
+                 MANIFEST_KEPT * kept / 1000) / given.speed
+    manifest = processor + 1000 * given.sync
+    busy = a_day * given.busiest / 3600 * (processor + 1000 * given.sync / TOGETHER) / 1e6
     memory = stays * desks + peak
     grown = min(file, 2 * a_day * reply_bytes(given))
     disk = desks * (file + (2 * grown if given.clones else given.copies * file))
     upgrade = desks * (start + 1) / 60
-    return Desk(kept, file, start, peak, stays, away, manifest, busy, memory, disk, upgrade)
+    return Desk(kept, file, start, peak, stays, days, away, manifest, busy, memory, disk, upgrade)
 
 
 def size(number: float) -> str:
@@ -142,8 +144,8 @@ def size(number: float) -> str:
 
 def rows(given: argparse.Namespace, numbers: list[int]) -> Iterator[list[str]]:
     yield [
-        "desks", "replies each", "file", "start", "its peak", "stays", "away a day", "manifest",
-        "busy", "memory", "disk", "upgrade", "too much"]
+        "desks", "replies each", "file", "start", "its peak", "stays", "starts each", "away a day",
+        "manifest", "busy", "memory", "disk", "upgrade", "too much"]
     for desks in numbers:
         it = needed(given, desks)
         yield [
@@ -153,7 +155,8 @@ def rows(given: argparse.Namespace, numbers: list[int]) -> Iterator[list[str]]:
             "%.0f s" % it.start,
             size(it.peak),
             size(it.stays),
-            "%.0f s" % it.away,
+            "%.0f days" % it.days,
+            "%.1f s" % it.away,
             "%.1f ms" % (it.manifest / 1000),
             "%.0f%%" % (100 * it.busy),
             size(it.memory),
@@ -183,8 +186,7 @@ def parsed(words: arguments.Words) -> argparse.Namespace:
     parser.add_argument("--names", type=int, default=20)
     usual = {
         "--manifests-a-day": 1, "--years": 10, "--seconds": 60, "--memory": 8, "--disk": 200,
-        "--busiest": 0.2, "--refreshes": 2, "--copies": 48, "--requests": 6, "--speed": 1,
-        "--sync": 5}
+        "--busiest": 0.2, "--copies": 48, "--requests": 6, "--speed": 1, "--sync": 5}
     for name, value in usual.items():
         parser.add_argument(name, type=float, default=value)
     for name in ("--clones", "--one-hash"):

@@ -15,7 +15,8 @@ from collections.abc import Iterable, Iterator
 from typing import Any
 
 from uptane_tools import RUN, TOP, arguments
-from uptane_tools.oracle import vector_forms, vector_rounds, vector_verdicts, verification
+from uptane_tools.oracle import (vector_forms, vector_rounds, vector_thefts, vector_verdicts,
+                                 verification)
 from uptane_tools.oracle.reference import METHOD, SCHEME
 from uptane_tools.oracle.schemes import OF_PRODUCT, Ed25519, HmacSha256, key_identifier
 from uptane_tools.oracle.vector_answers import answers, files
@@ -117,8 +118,9 @@ def of_the_scheme() -> list[tuple[str, str]]:
                     known,
                     chains(
                         made, {
-                            base: (*vector_forms.CASES[base], *vector_verdicts.CASES[base])
-                            for base in made}))), listed("contents", contents())))
+                            base: (*vector_forms.CASES[base], *vector_verdicts.CASES[base],
+                                   *vector_thefts.CASES[base]) for base in made}))),
+            listed("contents", contents())))
     update = made["update"]
     contained.append(
         text("rounds of a vehicle: what comes back, and what it sends, waits, installs and trusts",

@@ -240,6 +240,8 @@ def sections() -> Any:
     script = "lines 1000 0 3 0 " + "\\n".join((FOUND, VEHICLE, BENCH))
     again = ("do " + BENCH, "1: reply V1 version 1 targets 0\\n")
     yield "an unwritten line", [(script, "Write 2: done\\ndone\\n"), stands, again, stands]
+    group = "lines 65536 0 1 0 " + "\\n".join((FOUND, VEHICLE, BENCH)) + "\\n"
+    yield "a group of lines that isn't written", [(group, "Write 0: "), again, stands]
     stays = "stays GET /image/nofile HTTP/1.1|Host: d|Connection: close||"
     clients = [("ends " + posted(MANIFEST), "1: " + REPLY), (stays, "1: " + NO_FILE_LAST)]
     yield "sockets of two clients", [("do " + FOUND, "kept"), ("do " + VEHICLE, "kept")] + clients

@@ -11,6 +11,8 @@ are translated to it.
 
 promise: script-ends
 """
+import json
+import stat
 import subprocess
 from pathlib import Path
 from typing import Any
@@ -20,7 +22,7 @@ from uptane_tools.measure import fleet
 from uptane_tools.oracle import reference
 from uptane_tools.rows import translated
 from uptane_tools.rows.check_rows import EXAMPLES, PRIMARY, ROWS, ran, read
-from uptane_tools.trial import program_cases, trials
+from uptane_tools.trial import http_cases, program_cases, trials
 
 
 def printed(program: str | Path, script: Any, path: str = ":memory:") -> str:
@@ -44,6 +46,32 @@ def scripts(program: str | Path) -> trials.Cases:
         with trials.folder() as own:
             over_file = translated.are_as(wanted, trials.printed(program, own / "desk", lines))
             yield name + " over a file", over_file and trials.faults(own / "desk") == []
+
+
+def by_socket(program: str | Path) -> trials.Cases:
+    """Each example's script through the socket of a service over a new file, and what is said of
+    one that is cut off or that nobody answers.
+    """
+    for script in sorted(EXAMPLES.glob("*/script")):
+        if reference.METHOD == "hmac-sha256" and (script.parent / "under").exists():
+            continue
+        lines, wanted = translated.under(script.parent, reference.METHOD)
+        given = "".join(line + "\n" for line in lines).encode("ascii")
+        with trials.folder() as own:
+            path, operators = own / "desk", own / "socket"
+            with http_cases.served(program, path, 1, operators=operators) as running:
+                mode = stat.S_IMODE(operators.stat().st_mode)
+                told = trials.tool("tell", operators, given=given)
+                known = json.loads(trials.tool("tell", operators, given=b'{"do":"status"}\n')[1][0])
+                ends = http_cases.told(running, b"") == b"" and http_cases.ended(running)
+            yield "%s through a socket" % script.parent.relative_to(trials.TOP), translated.are_as(
+                wanted, told[1]) and (told[0], told[2]) == (0, "")
+            yield "of its owner alone, which goes with the service", mode == 0o600 and ends and (
+                not operators.exists())
+            yield "which says what it did", sorted(known) == [
+                "commands", "groups", "open", "seconds", "served"]
+            yield "and nobody answers then", trials.tool("tell", operators,
+                                                         given=given)[:2] == (3, [])
 
 
 def limits(program: str | Path) -> trials.Cases:
@@ -129,6 +157,7 @@ def cases(program: str | Path, rows: Any) -> trials.Cases:
     yield from (("%s is built" % it, False) for it in missing)
     if not missing:
         yield from scripts(program)
+        yield from by_socket(program)
         yield from program_cases.cases(program)
         yield from limits(program)
         yield from primaries(

@@ -26,16 +26,18 @@ LIMIT = 900
 # the longest first
 TRIED = [("file_cases", ), ("fuzz", "1", "50"), ("fuzz", "51", "50"), ("http_fleet", ),
          ("fuzz_http", "1", "50"), ("fuzz_http", "51", "50"), ("http_cases", ), ("proxy_cases", ),
-         ("fuzz", "bodies", "1", "10"), ("crowd_kills", "1000", "5"), ("hostile", "10000"),
-         ("each_line", ), ("damaged_rows", ), ("tables", )]
+         ("fuzz", "bodies", "1", "10"), ("crowd_kills", "1000", "5", "64", "100"),
+         ("hostile", "10000"), ("each_line", ), ("damaged_rows", ), ("tables", )]
 # what operators and integrators use
 TRIED += [("copy_cases", "2"), ("primary_cases", ), ("operator_cases", ), ("scale_cases", ),
-          ("large_cases", ), ("vector_cases", ), ("upkeep_cases", )]
+          ("large_cases", ), ("vector_cases", ), ("upkeep_cases", ), ("socket_cases", )]
 QUICK = [("check_examples", ), ("fuzz", "1", "5"), ("fuzz_http", "1", "5"),
          ("fuzz", "bodies", "1", "1"), ("each_line", ), ("tables", ), ("primary_cases", ),
          ("operator_cases", ), ("vector_cases", ), ("upkeep_cases", )]
 # every so manieth call of a kind
-SWEPT = {"memory": "997", "disk": "31", "reading": "211", "http": "199"}
+SWEPT = {
+    "memory": "997", "disk": "31", "reading": "211", "http": "199", "lines": "1499",
+    "group": "1999", "failed": "17", "failing": "17", "killed": "17"}
 
 
 def ran(program: str | Path, words: Any) -> tuple[str, int, int]:

@@ -1,10 +1,13 @@
 /* Loaded before a program (LD_PRELOAD), makes one call of it fail: the FAIL_ALLOC-th request for memory, or the FAIL_IO-th
-   read, write or sync of a file that isn't a standard one. Once it has, a file of the name FAIL_MARK is there. */
+   read, write or sync of a file that isn't a standard one. With FAIL_HOW=on so do all behind it, with FAIL_HOW=kill the program is
+   killed there. Once it has, a file of the name FAIL_MARK is there. */
 #define _GNU_SOURCE
 #include <dlfcn.h>
 #include <errno.h>
 #include <fcntl.h>
+#include <signal.h>
 #include <stdlib.h>
+#include <string.h>
 #include <sys/syscall.h>
 #include <sys/types.h>
 #include <unistd.h>
@@ -20,9 +23,13 @@ __attribute__((constructor)) static void begin(void) {
 static int fails(long *left, int error) {
     if (*left <= 0 || --*left > 0)
         return 0;
-    const char *mark = getenv("FAIL_MARK");
+    const char *mark = getenv("FAIL_MARK"), *how = getenv("FAIL_HOW");
     if (mark)
         syscall(SYS_close, syscall(SYS_openat, AT_FDCWD, mark, O_CREAT | O_WRONLY, 0600));
+    if (how && !strcmp(how, "kill"))
+        raise(SIGKILL);
+    if (how && !strcmp(how, "on"))
+        *left = 1;
     errno = error;
     return 1;
 }

@@ -4,12 +4,12 @@
 
 The file is its owner's alone; a second program is refused and the first goes on; the log is
 copied at the end. Three hundred bits of a file at rest are flipped, one at a time: each is
-answered by status 3 or by unchanged answers. The program is killed (SIGKILL) once so many lines
-of a fleet's day are printed, at KILLS moments (100), each over a new file, and the day is
-repeated over what is left: it is answered as by the rules after the lines that were carried out.
-A minute is given for it, in which at least a quarter of the moments must come. And it is killed
-while it opens files of older schemas: they are of the old schema or of the page's, and go on as
-they would have gone on.
+answered by status 3 or by unchanged answers. The program is given a fleet's day by one line, by
+eight or by 64 at a time, and killed (SIGKILL) a little after so many, at KILLS moments (100), each
+over a new file, and the day is repeated over what is left: it is answered as by the rules after the
+lines that were carried out. A minute is given for it, in which at least a quarter of the moments
+must come. And it is killed while it opens files of older schemas: they are of the old schema or of
+the page's, and go on as they would have gone on.
 
 promise: closed-once, file-names, file-adopted, deliveries-act-once
 """
@@ -22,7 +22,6 @@ import sqlite3
 import stat
 import subprocess
 import sys
-import tempfile
 import time
 from collections.abc import Callable
 from contextlib import closing
@@ -42,6 +41,8 @@ FILES = [line for line in DAY if '"do":"fetch"' in line]
 BITS = 300
 MINUTE = 60
 MEMORY = "/dev/shm"
+# seconds that a line takes at least
+A_LINE = 0.0005
 
 
 def mode(path: Path | str) -> int:
@@ -312,16 +313,26 @@ class Days:
         return self.again[done]
 
 
-def killed(program: str | Path, path: str | Path, script: list[str], after: Any) -> list[str] | Any:
-    """The lines printed by a program that is killed as soon as so many of them came."""
-    with tempfile.TemporaryFile() as given:
-        given.write("".join(line + "\n" for line in script).encode())
-        given.seek(0)
-        with subprocess.Popen([str(program), "run", str(path)], stdin=given,
-                              stdout=subprocess.PIPE) as it:
-            told = b"".join(it.stdout.readline() for _ in range(after))
-            os.kill(it.pid, signal.SIGKILL)
-            told += it.stdout.read()
+def killed(program: str | Path, path: str | Path, script: list[str], after: int, together: int,
+           wait: float) -> list[str]:
+    """The lines printed by a program that gets the first line, and then so many at a time, each
+    piece once the one before it is answered; it is killed so many seconds after it got the line
+    of this number.
+    """
+    with subprocess.Popen([str(program), "run", str(path)], stdin=subprocess.PIPE,
+                          stdout=subprocess.PIPE) as it:
+        told = b""
+        ends = [1, *range(1 + together, len(script), together), len(script)]
+        for begin, end in zip([0, *ends], ends):
+            given = script[begin:end]
+            it.stdin.write("".join(line + "\n" for line in given).encode())
+            it.stdin.flush()
+            if after < end:
+                time.sleep(wait)
+                break
+            told += b"".join(it.stdout.readline() for _ in given)
+        os.kill(it.pid, signal.SIGKILL)
+        told += it.stdout.read()
     return told.decode("ascii").split("\n")[:-1]
 
 
@@ -345,8 +356,8 @@ def is_kept(line: str, first: int | Callable[..., Any], again: Any) -> bool:
     return again in done.get(do, (again, ))
 
 
-def survives(program: str | Path, path: str | Path, told: Any, days: Any) -> bool:
-    """Whether what a kill left is the lines printed and at most the next one, and the whole day
+def survives(program: str | Path, path: str | Path, told: Any, days: Any, more: int) -> bool:
+    """Whether what a kill left is the lines printed and at most so many more, and the whole day
     is then answered by the rules.
     """
     rows, number = left(path), len(told)
@@ -354,7 +365,8 @@ def survives(program: str | Path, path: str | Path, told: Any, days: Any) -> boo
         done = [0] if number == 0 else []
     else:
         done = [
-            at for at in (number, number + 1) if at < len(days.tables) and days.tables[at] == rows]
+            at for at in range(number, number + more + 1)
+            if at < len(days.tables) and days.tables[at] == rows]
     if told != days.answers[:number] or not done or (rows is not None and trials.faults(path)):
         return False
     again = trials.printed(program, path, days.day)
@@ -367,16 +379,18 @@ def survives(program: str | Path, path: str | Path, told: Any, days: Any) -> boo
 def kills(program: str | Path, number: int) -> trials.Cases:
     days, moments, begun, stopped, tried = Days(killed_day()), list(
         range(number)), time.monotonic(), 0, 0
-    random.Random(2).shuffle(moments)
+    rng = random.Random(2)
+    rng.shuffle(moments)
     for at in moments:
         if time.monotonic() - begun > MINUTE:
             break
-        after = at * len(days.day) // number
+        after, together = at * len(days.day) // number, rng.choice([1, 8, trials.TOGETHER])
         with trials.folder(MEMORY if os.access(MEMORY, os.W_OK) else None) as own:
-            told = killed(program, own / "killed", days.day, after)
+            told = killed(program, own / "killed", days.day, after, together,
+                          rng.random() * together * A_LINE)
             stopped, tried = stopped + (len(told) < len(days.day)), tried + 1
-            if not survives(program, own / "killed", told, days):
-                yield "killed after %d answers" % len(told), False
+            if not survives(program, own / "killed", told, days, together):
+                yield "killed after %d answers, of %d at a time" % (len(told), together), False
     yield "%d kills, %d of them before the end" % (
         tried, stopped), stopped > tried // 2 and tried >= number // 4
 

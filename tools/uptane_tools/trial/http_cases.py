@@ -112,15 +112,17 @@ class Served(subprocess.Popen[bytes]):
 
 
 @contextlib.contextmanager
-def served(program: Any, path: Path | str, count: int,
-           variables: dict[str, str] | None = None) -> Iterator[Served]:
-    """The program, or the words that run it, while it serves so many connections, and its port."""
+def served(program: Any, path: Path | str, count: int, variables: dict[str, str] | None = None,
+           operators: Path | None = None) -> Iterator[Served]:
+    """The program, or the words that run it, while it serves so many connections, and its port;
+    with a socket for operators, where one is named.
+    """
     port = free_port()
     words = [
         *(program if isinstance(program, list) else [str(program)]), "serve",
         str(path),
         str(port),
-        str(count)]
+        str(count), *([str(operators)] if operators else [])]
     told = os.environ | (variables or {})
     # (a pipe that nobody reads would stop it behind some thousand refusals)
     said = tempfile.TemporaryFile()

@@ -438,6 +438,12 @@ CHANGED = [
         "table image_sha512: it is too much", "table retired: it is too much"]),
     ("a number set forward", ["UPDATE meta SET schema = 4"], [
         "it is no database of this product: its schema is 4, and not one of 1, 2, 3"]),
+    ("a root version less", ["UPDATE meta SET root = 1"], [
+        "root of %s: the number is 1, and 2.root.json is too much" % it
+        for it in ("director", "image")]),
+    ("a root version more", ["UPDATE meta SET root = 3"], [
+        "root of %s: the number is 3, and 3.root.json is missing" % it
+        for it in ("director", "image")]),
     ("another product", ["UPDATE meta SET app = 'desk'"], [
         "it is no database of this product: meta names 'desk' and not uptane_desk"]),
     ("an empty meta", ["DELETE FROM meta"], ["meta: it has 0 rows and not one"]),
@@ -892,7 +898,6 @@ def query(page: str, begins: Any) -> str:
 
 
 def operating(program: str | Path, own: Path) -> trials.Cases:
-    path = own / "first"
     lines, wanted = translated.under(trials.TOP / "examples" / "operating", reference.METHOD)
     yield "an operator's first days", translated.are_as(
         wanted, trials.printed(program, own / "days", lines))
@@ -910,27 +915,38 @@ def operating(program: str | Path, own: Path) -> trials.Cases:
             query("use/OPERATING.md",
                   "SELECT vehicle, ecu, json_extract(report, '$.attack')")).fetchall()
         yield "attacks", len(attacks) == 1 and attacks[0][:2] == ("VIN-0001", "br-0001")
-    text = "\n".join(["", lines[0], "", "nope", '{"at":1767225600,"do":"show","vehicle":"V9"}'
-                      ]) + "\n"
-    (own / "today.script").write_text(text, encoding="ascii")
-    yield "the page has its idiom", len(idioms()) == 1
-    for idiom in idioms():
-        asked = idiom.replace("uptane_desk run", "%s run" % program).replace(
-            "/var/lib/uptane/desk.db", str(path))
-        ran = subprocess.run(["bash", "-c", asked], cwd=own, capture_output=True, check=False)
-        told = (own / "today.answers").read_text("ascii").splitlines()
-        yield "the idiom: " + idiom, not ran.stderr and told == [
-            "done", "refused 5 NotJson", "refused 10 UnknownVehicle"]
+    yield from scripts_given(program, own, lines[0])
 
 
-def idioms() -> list[str]:
-    """The commands of the section on giving scripts that are a program's, in order."""
+def scripts_given(program: str | Path, own: Path, founding: str) -> trials.Cases:
+    """The page's two ways to give a script by hand: where no service runs, and beside one."""
+    (own / "founding.script").write_text(founding + "\n", encoding="ascii")
+    (own / "today.script").write_text('\nnope\n\n{"at":1767225600,"do":"show","vehicle":"V9"}\n',
+                                      encoding="ascii")
+    path, operators = own / "first", own / "socket"
+    told = given(own, "uptane_desk run", {
+        "runuser -u uptane -- uptane_desk": str(program), "/var/lib/uptane/desk.db": str(path)})
+    yield "a script where no service runs", told == "done\n"
+    with http_cases.served(program, path, 1, operators=operators):
+        told = given(
+            own, "tools/run tell", {
+                "tools/run": "%s %s" %
+                (sys.executable, trials.RUN), "/var/lib/uptane/desk.socket": str(operators)})
+    yield "a script beside the service", told == "refused 5 NotJson\nrefused 10 UnknownVehicle\n"
+
+
+def given(own: Path, words: str, changes: dict[str, str]) -> str:
+    """What the command of the section on giving scripts prints that has these words, once it is
+    changed so; what it says is an error.
+    """
     page = (trials.TOP / "docs" / "use" / "OPERATING.md").read_text(
         encoding="utf-8").split("\n## Giving scripts\n")[1].split("\n## ")[0]
-    every = [
-        " ".join(line.strip().rstrip("\\") for line in it.splitlines())
-        for it in re.findall(r"(?:^    .*\n)+", page, re.MULTILINE)]
-    return [it for it in every if "uptane_desk run" in it]
+    asked, = re.findall(r"^    (.*%s .*)$" % words, page, re.MULTILINE)
+    for old, new in changes.items():
+        assert old in asked, asked
+        asked = asked.replace(old, new)
+    ran = subprocess.run(["bash", "-c", asked], cwd=own, capture_output=True, check=False)
+    return (ran.stdout + ran.stderr).decode("ascii", "replace")
 
 
 def cases(program: Path) -> trials.Cases:

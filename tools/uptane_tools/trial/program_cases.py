@@ -17,7 +17,7 @@ from uptane_tools import TOP
 from uptane_tools.oracle import reference
 from uptane_tools.trial import trials
 
-USAGE = b"usage: uptane_desk run FILE | serve FILE PORT COUNT | digest FILE\n"
+USAGE = b"usage: uptane_desk run FILE | serve FILE PORT COUNT [SOCKET] | digest FILE\n"
 NO_PATH = trials.UNOPENED["path"]
 UNREAD = b"uptane_desk: cannot read the file\n"
 RUN = ["run", ":memory:"]
@@ -58,6 +58,9 @@ def words(program: str | Path) -> trials.Cases:
         yield "serve at port %s for %s" % (port, count or "nothing"), answers(
             program, ["serve", ":memory:", port, count], b"", 2, b"", USAGE)
     yield "serve without a count", answers(program, ["serve", ":memory:", "80"], b"", 2, b"", USAGE)
+    yield "a word behind the socket", answers(program,
+                                              ["serve", ":memory:", "80", "1", "socket", "more"],
+                                              b"", 2, b"", USAGE)
     for path in ("/dev/null", "file:desk.db"):
         yield "run over " + path, answers(program, ["run", path], b"nope\n", 3, b"", NO_PATH)
         yield "serve over " + path, answers(program, ["serve", path, "80", "1"], b"", 3, b"",

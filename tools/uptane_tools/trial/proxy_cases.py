@@ -1,15 +1,15 @@
 """Tries the configurations of `examples/service`: the program behind each proxy that is
 installed, and the units.
 
-    tools/run proxy_cases PROGRAM
+    tools/run proxy_cases PROGRAM [EACH]
 
-Hundreds of clients that send nothing, a part or a byte a second, or that read nothing, stay at
-the proxy while vehicles' requests are sent through it. One of 64 vehicles sends without end,
-under its own name and under others; each limit is tried alone. Of the configurations addresses,
-paths and the user are changed, for the second and third of these limits the figure before them,
-and the lines for vehicles' certificates are taken in. Each client comes from an address of its
-own. What isn't installed (nginx, haproxy, systemd-analyze; openssl, without which the proxies
-are tried without TLS) is left out, and told. Takes a minute.
+EACH (40) clients that send nothing, as many that send half a head, half a body or a byte a second,
+and as many that read nothing, stay at the proxy while vehicles' requests are sent through it. One
+of 64 vehicles sends without end, under its own name and under others; each limit is tried alone. Of
+the configurations addresses, paths and the user are changed, for the second and third of these
+limits the figure before them, and the lines for vehicles' certificates are taken in. Each client
+comes from an address of its own. What isn't installed (nginx, haproxy, systemd-analyze; openssl,
+without which the proxies are tried without TLS) is left out, and told. Takes a minute.
 """
 import contextlib
 import http.client
@@ -40,7 +40,7 @@ GIVEN = trials.TOP / "examples" / "service"
 MANIFEST, REPLY = (
     (trials.MESSAGES / name).read_bytes().strip() for name in ("manifest.json", "reply.json"))
 VEHICLES = ("VIN-1", "VIN-2", "VIN-3")
-STRANGERS, AT_ONCE, ROUNDS, PATIENCE, SLOWEST, HUNDRED = 40, 300, 20, 60, 10, 100
+EACH, AT_ONCE, ROUNDS, PATIENCE, SLOWEST, HUNDRED = 40, 300, 20, 60, 10, 100
 # the vehicles of the fleet in which one floods, and the longest body that is taken
 FLEET, LONGEST = 64, 65_536
 
@@ -196,12 +196,13 @@ class Strangers:
     of fifty answers.
     """
 
-    def __init__(self, proxy: Proxy) -> None:
+    def __init__(self, proxy: Proxy, each: int) -> None:
         self.proxy, self.left, self.all = proxy, threading.Event(), list[Any]()
+        self.each = each
 
     def __enter__(self) -> "Strangers":
         with ThreadPoolExecutor(16) as pool:
-            self.all = list(pool.map(self.come, (STRANGERS * BEGUN) + STRANGERS * [None]))
+            self.all = list(pool.map(self.come, (self.each * BEGUN) + self.each * [None]))
         self.dripping = threading.Thread(target=self.drip)
         self.dripping.start()
         return self
@@ -228,7 +229,7 @@ class Strangers:
             client.close()
 
 
-def passes(proxy: Proxy, root: bytes) -> trials.Cases:
+def passes(proxy: Proxy, root: bytes, each: int) -> trials.Cases:
     """Each case with whether requests pass the proxy as they should."""
     name = proxy.name
     yield name + ": each kind of request", all(
@@ -239,7 +240,7 @@ def passes(proxy: Proxy, root: bytes) -> trials.Cases:
                    encode_chunked=True, headers={"Transfer-Encoding": "chunked"})
     unchunked = {"nginx": (200, REPLY), "haproxy": (501, b'{"error":0,"text":"not implemented"}')}
     yield name + ": a body in chunks", chunks == [unchunked[name]]
-    with Strangers(proxy) as strangers, ThreadPoolExecutor(8) as pool:
+    with Strangers(proxy, each) as strangers, ThreadPoolExecutor(8) as pool:
         time.sleep(1)
         told: list[Any] = list(
             pool.map(lambda words: (timed(proxy, *words[:-1]), words[-1]),
@@ -450,7 +451,7 @@ def named(own: Path, vehicle: str) -> None:
     (own / (vehicle + ".pem")).write_bytes(made.read_bytes() + key.read_bytes())
 
 
-def proxied(program: Path, own: Path, name: str, secret: bool) -> trials.Cases:
+def proxied(program: Path, own: Path, name: str, secret: bool, each: int) -> trials.Cases:
     """The cases of one proxy, before a service of its own that is started again in the end."""
     path = trials.copied(own / "first", own / (name + ".db"))
     root = http_cases.root_text()
@@ -461,7 +462,7 @@ def proxied(program: Path, own: Path, name: str, secret: bool) -> trials.Cases:
         up.enter_context(proxy.running())
         yield from limited(proxy)
         yield from listed(proxy, log)
-        yield from passes(proxy, root)
+        yield from passes(proxy, root, each)
         words = [str(program), "serve", str(path), str(service.port), "100000"]
         with up.enter_context(ThreadPoolExecutor(10)) as pool:
             service.kill()
@@ -537,7 +538,7 @@ def shells() -> trials.Cases:
         yield "shellcheck finds nothing in them", ran.returncode == 0
 
 
-def cases(program: Path) -> trials.Cases:
+def cases(program: Path, each: int = EACH) -> trials.Cases:
     soft, hard = resource.getrlimit(resource.RLIMIT_NOFILE)
     resource.setrlimit(resource.RLIMIT_NOFILE, (max(soft, min(hard, 8192)), hard))
     with tempfile.TemporaryDirectory() as folder:
@@ -553,7 +554,7 @@ def cases(program: Path) -> trials.Cases:
                 yield from flooded(program, own, name, secret, bodies)
                 yield from alone(program, own, name, secret, bodies)
                 yield from shown(program, own, name) if secret else ()
-                yield from proxied(program, own, name, secret)
+                yield from proxied(program, own, name, secret, each)
             else:
                 print("%s isn't installed, so it is left out" % name)
         yield from shells()
@@ -565,4 +566,4 @@ def cases(program: Path) -> trials.Cases:
 
 def main(words: arguments.Words = None) -> int:
     """Tries the program that is named."""
-    return trials.tried(__doc__, words, "proxy", cases)
+    return trials.tried(__doc__, words, "proxy", cases, each=EACH)

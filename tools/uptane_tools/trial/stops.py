@@ -5,23 +5,28 @@ again on what is left. Takes some minutes, needs `strace`, and is no part of the
 
 The runs are the rows of the section of stops in `rows/each_answer`, over a new file; and, over a
 file of an older schema that has what a run does up to its first manifest, that manifest again
-and what follows it. For each system call of a kind in turn the program is killed at the k-th, or
-it and all after it fail, or it alone fails; k counts up until a run isn't stopped any more.
+and what follows it. Each is given a line at a time, and whole, so that its lines share commits. For
+each system call of a kind in turn the program is killed at the k-th, or it and all after it fail,
+or it alone fails; k counts up until a run isn't stopped any more.
 
 Once killed, or once all calls failed, the whole run is made again over the same file: every line
 has its own answer, or is done already; what was answered before the stop is done, and a reply is
 the kept one, byte for byte. Where one call failed, each line was answered as by the rules, which
 the lost lines never reached, and the tables are those of the rules, in which at most one of the
-lost lines is done. SQLite always finds the file whole. After each stop a file of an older schema
-is still of that schema or of the page's, with the rows that it had and those of the lines that
-were answered, or of one more.
+lost lines is done, or of those that share a commit the first ones. SQLite always finds the file
+whole. After each stop a file of an older schema is still of that schema or of the page's, with the
+rows that it had and those of the lines that were answered, or of one more, or of more that share a
+commit.
 
 promise: store-opened, deliveries-act-once, stopped-tables, store-stop
 """
 import json
+import os
 import sqlite3
 import subprocess
-from contextlib import closing
+from collections.abc import Iterator
+from contextlib import closing, suppress
+from dataclasses import dataclass, field
 from pathlib import Path
 from typing import Any
 
@@ -40,17 +45,51 @@ OTHER_NOW = {"add_vehicle": "refused 22 VehicleTaken"}
 MOST = 2000
 
 
-def made(program: str | Path, path: str | Path, lines: list[str],
-         inject: Any = None) -> tuple[int, list[str], str]:
-    """The status, the lines printed and the message of a run, of which a call goes wrong."""
-    words = [program, "run", str(path)]
-    if inject:
-        words = [
-            "strace", "-qq", "-o", "/dev/null", "-e", "trace=" + ",".join(CALLS), "-e",
-            "inject=" + inject, *words]
-    given = "".join(line + "\n" for line in lines).encode()
-    ran = subprocess.run(words, input=given, capture_output=True, check=False, timeout=120)
-    return ran.returncode, ran.stdout.decode("ascii").split("\n")[:-1], ran.stderr.decode(
+@dataclass(frozen=True)
+class Wrong:
+    """What goes wrong in a run: as strace's word says, or a library that these variables load.
+    Nothing where there is neither.
+    """
+
+    inject: str = ""
+    variables: dict[str, str] = field(default_factory=dict)
+
+    def words(self, *words: Any) -> list[str]:
+        traced = ["-qq", "-o", "/dev/null", "-e", "trace=" + ",".join(CALLS), "-e"]
+        before = ["strace", *traced, "inject=" + self.inject] if self.inject else []
+        return [*before, *map(str, words)]
+
+    def is_one_call(self) -> bool:
+        return "+" not in self.inject
+
+
+def by_line(it: Any, lines: list[str]) -> bytes:
+    """What a program prints that is given each line once the one before it was answered."""
+    told = b""
+    with suppress(BrokenPipeError):
+        for line in lines:
+            it.stdin.write(line.encode() + b"\n")
+            it.stdin.flush()
+            answer = it.stdout.readline()
+            if not answer:
+                break
+            told += answer
+    return told
+
+
+def made(program: str | Path, path: str | Path, lines: list[str], wrong: Wrong = Wrong(),
+         is_whole: bool = True) -> tuple[int, list[str], str]:
+    """The status, the lines printed and the message of a run that is given its lines whole, or one
+    after another.
+    """
+    pipes: dict[str, Any] = {
+        "stdin": subprocess.PIPE, "stdout": subprocess.PIPE, "stderr": subprocess.PIPE}
+    words = wrong.words(program, "run", path)
+    with subprocess.Popen(words, env=os.environ | wrong.variables, **pipes) as it:
+        told = b"" if is_whole else by_line(it, lines)
+        given = "".join(line + "\n" for line in lines).encode() if is_whole else b""
+        out, message = it.communicate(given, timeout=120)
+    return it.returncode, (told + out).decode("ascii").split("\n")[:-1], message.decode(
         "ascii", "replace")
 
 
@@ -71,15 +110,16 @@ def is_well(line: str, own: Any, is_answered: Any, again: Any, is_replaced: Any)
 
 
 class Run:
-    """Lines that are run over a new file, or over a copy of one of an older schema, and what the
-    program itself answers to them.
+    """Lines that are run over a new file, or over a copy of one of an older schema, whole or one
+    after another, and what the program itself answers to them.
     """
 
     def __init__(self, program: str | Path, lines: list[str], begun: Any = None,
-                 number: int | None = None) -> None:
+                 number: int | None = None, is_whole: bool = True) -> None:
         self.program, self.lines, self.begun, self.number = program, lines, begun, number
+        self.is_whole = is_whole
         with trials.folder() as folder:
-            self.own = made(program, self.begin(folder / "own"), lines)[1]
+            self.own = made(program, self.begin(folder / "own"), lines, is_whole=is_whole)[1]
         lost = [range(done, len(lines)) for done in range(len(lines) + 1)] if begun else []
         self.states = [self.ruled(it)[1] for it in lost]
 
@@ -104,21 +144,23 @@ class Run:
             return True
         is_either = schemas.schema_of(path) in ([self.number] if not answered else []) + [
             statements.SCHEMA]
-        return is_either and schemas.rows(path) in self.states[answered:answered + 2]
+        more = trials.TOGETHER if self.is_whole else 1
+        return is_either and schemas.rows(path) in self.states[answered:answered + more + 1]
 
-    def stopped(self, inject: Any) -> Any:
+    def stopped(self, wrong: Wrong) -> Any:
         """Whether a run was stopped, and whether it could be made again as it has to be."""
         lines = self.lines
         with trials.folder() as folder:
             path = self.begin(folder / "desk")
-            status, first, message = made(self.program, path, lines, inject)
+            status, first, message = made(self.program, path, lines, wrong, self.is_whole)
             answered = next((i for i, answer in enumerate(first) if answer in LOST), len(first))
             was_stopped = bool(status or message or answered < len(lines))
-            if "+" not in inject and not status and not message:
+            if wrong.is_one_call() and not status and not message:
                 return was_stopped, self.is_by_the_rules(path, first) and not trials.faults(path)
             replies = kept(path) if not status else {}
             well = self.is_left(path, answered)
-            status_again, again, message_again = made(self.program, path, lines)
+            status_again, again, message_again = made(self.program, path, lines,
+                                                      is_whole=self.is_whole)
             well &= (status_again, message_again, len(again)) == (0, "", len(lines))
             told = zip(range(len(lines)), lines, self.own, again)
             well &= all(
@@ -129,7 +171,7 @@ class Run:
 
     def is_by_the_rules(self, path: str | Path, printed: Any) -> Any:
         """Whether the lines that weren't lost are answered by the rules, and the tables are
-        those that they leave, or one more.
+        those that they leave, or one more, or the first ones of those that share a commit.
         """
         if len(printed) != len(self.lines):
             return False
@@ -138,8 +180,10 @@ class Run:
         if answers != [answer for answer in printed if answer not in LOST]:
             return False
         left = trials.rows(path)
-        return left == tables or any(
-            left == self.ruled([i for i in lost if i != one])[1] for one in lost)
+        fewer = [[i for i in lost if i != one] for one in lost]
+        if self.is_whole:
+            fewer += [lost[done:] for done in range(2, len(lost) + 1)]
+        return left == tables or any(left == self.ruled(it)[1] for it in fewer)
 
 
 def swept(run: Any, call: str) -> trials.Cases:
@@ -147,7 +191,7 @@ def swept(run: Any, call: str) -> trials.Cases:
     most = 0
     for how in (KILLED, FAILING, FAILED):
         for k in range(1, MOST):
-            was_stopped, well = run.stopped(call + ":" + how % k)
+            was_stopped, well = run.stopped(Wrong(call + ":" + how % k))
             if not well:
                 yield how % k, False
             if how == KILLED and not was_stopped:
@@ -158,19 +202,23 @@ def swept(run: Any, call: str) -> trials.Cases:
     yield "%d of each kind" % most, True
 
 
-def runs(program: str | Path, own: Path) -> trials.Cases:
-    """Each run with its name: over a new file, and over a file of each older schema, with sums
-    of its pages or without.
+def runs(program: str | Path, own: Path) -> Iterator[tuple[str, Run]]:
+    """Each run with its name, a line at a time and whole: over a new file, and over a file of each
+    older schema, with sums of its pages or without.
     """
     rows = next(rows for words, rows in each_line.sections() if words == each_line.STOPS)
     for at, (_, row, _) in enumerate(rows, 1):
         lines = row.split(" ;; ")
-        yield "run %d" % at, Run(program, lines)
         first = next(i for i, line in enumerate(lines) if '"bench"' in line)
         assert made(program, own / ("first %d" % at), lines[:first + 1])[0] == 0
-        for number, older in ((1, schemas.lowered), (2, schemas.written)):
-            begun = older(own / ("first %d" % at), own / ("%d of schema %d" % (at, number)), number)
-            yield "run %d over schema %d" % (at, number), Run(program, lines[first:], begun, number)
+        for is_whole in (False, True):
+            how = "whole" if is_whole else "by line"
+            yield "run %d %s" % (at, how), Run(program, lines, is_whole=is_whole)
+            for number, older in ((1, schemas.lowered), (2, schemas.written)):
+                begun = older(own / ("first %d" % at), own / ("%d %d %s" % (at, number, how)),
+                              number)
+                yield "run %d %s over schema %d" % (at, how, number), Run(
+                    program, lines[first:], begun, number, is_whole)
 
 
 def cases(program: str | Path) -> trials.Cases:

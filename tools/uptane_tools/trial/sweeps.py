@@ -3,9 +3,9 @@ needs a C compiler.
 
     tools/run sweeps PROGRAM KIND [EVERY [FIRST]]
 
-KIND is memory, disk, older, reading or http. Only every EVERY-th (1) call is tried, from call
-FIRST (1) on. A word in place of FIRST draws one of the calls 1 to EVERY, so that another part is
-tried each time.
+KIND is memory, disk, older, reading, http, lines, group, failed, failing or killed. Only every
+EVERY-th (1) call is tried, from call FIRST (1) on. A word in place of FIRST draws one of the calls
+1 to EVERY, so that another part is tried each time.
 
 `memory` refuses a request for memory, `disk` fails a read, write or sync of the database's
 files, each over the rows of `rows/` that are named here, a line at a time over a file. Every
@@ -29,7 +29,14 @@ connection. Each answer has to be the kept reply, but for one, which may be a 50
 memory or none, and the tables those of the rules at the moment that was kept. Images and running
 campaigns are there, which the first one reads.
 
-promise: messages, connections-at-once, store-opened, file-refused
+The others are of groups. `lines` refuses memory while the runs of `tools/run stops` are given
+whole. `group` does so while manifests of some vehicles, three of them twice, and an operator's
+script are at hand together, and there a call of the disk fails (`failed`), or it and all after it
+(`failing`), or the program is killed at it (`killed`). What was answered is kept, each manifest
+once; the lines are answered by the rules, which the lost ones never reached; the tables are those
+of the rules, and all of it again leaves the tables of the rules, behind a new start.
+
+promise: messages, connections-at-once, clients-as-a-whole, store-opened, file-refused
 """
 import hashlib
 import json
@@ -48,17 +55,20 @@ from uptane_tools.measure import fleet
 from uptane_tools.operate import statements
 from uptane_tools.oracle import reference
 from uptane_tools.rows import translated
-from uptane_tools.trial import http_cases, schemas, trials
+from uptane_tools.trial import at_hand, http_cases, schemas, stops, trials
 
 ROWS = [
     "first_manifest", "equal_and_greater_releases", "kept_reply_after_a_rotation", "images_taken",
     "files_of_the_image_repository", "campaigns", "replaced_ecu", "second_hash"]
 READING = ["manifests_in_a_row"]
 OLDER = [("equal_and_greater_releases", 1), ("kept_reply_after_a_rotation", 2)]
+ROW_KINDS = ("memory", "disk", "older", "reading")
 REFUSED = {"memory": "refused 1 Memory", "disk": "refused 2 Store"}
 VARIABLES = {
     "memory": "FAIL_ALLOC", "disk": "FAIL_IO", "older": "FAIL_ALLOC", "reading": "FAIL_ALLOC",
-    "http": "FAIL_ALLOC"}
+    "http": "FAIL_ALLOC", "lines": "FAIL_ALLOC", "group": "FAIL_ALLOC", "failed": "FAIL_IO",
+    "failing": "FAIL_IO", "killed": "FAIL_IO"}
+HOW = {"failing": "on", "killed": "kill"}
 MESSAGES = [b"", b"uptane_desk: stopped after %d lines: memory\n"]
 UNOPENED = [trials.UNOPENED[name] for name in ("memory", "path", "damaged")]
 POSTS = 4
@@ -77,7 +87,8 @@ class Failing:
 
     def __init__(self, library: Any, mark: Any, kind: str, number: int) -> None:
         self.mark, self.told = mark, {
-            "LD_PRELOAD": str(library), "FAIL_MARK": str(mark), VARIABLES[kind]: str(number)}
+            "LD_PRELOAD": str(library), "FAIL_MARK": str(mark), VARIABLES[kind]: str(number),
+            "FAIL_HOW": HOW.get(kind, "")}
         self.mark.unlink(missing_ok=True)
 
     def start(self, words: Any) -> Any:
@@ -402,6 +413,25 @@ def over_http(program: str | Path, own: Path, sweep: Any) -> Iterator[Any]:
     yield sweep.over("a manifest over HTTP", attempt)
 
 
+# ---- groups
+
+
+def over_lines(program: Path, own: Path, sweep: Any) -> Iterator[Any]:
+    """Lines that are given whole, over a new file."""
+    for name, run in stops.runs(program, own):
+        if run.is_whole and not run.begun:
+
+            def attempt(failing: Any) -> str:
+                _, well = run.stopped(stops.Wrong(variables=failing.told))
+                return "" if well else "otherwise"
+
+            yield sweep.over(name, attempt)
+
+
+def over_groups(program: Path, own: Path, sweep: Any) -> Iterator[Any]:
+    yield sweep.over("requests and lines at hand", at_hand.AtHand(program, own).tried)
+
+
 def drawn(first: Any, every: Any) -> int:
     """The call to begin with: a number, or the one that a word draws."""
     if first.isdecimal():
@@ -416,5 +446,6 @@ def main(words: arguments.Words = None) -> int:
         sys.exit("sweeps: KIND is one of %s" % ", ".join(VARIABLES))
     with trials.folder() as own:
         sweep = Sweep(own, asked.kind, asked.every, drawn(asked.first, asked.every))
-        way = over_http if asked.kind == "http" else over_rows
-        return trials.judged(asked.kind, way(asked.program, own, sweep))
+        ways: dict[str, Any] = {"http": over_http, "lines": over_lines}
+        way = ways.get(asked.kind, over_rows if asked.kind in ROW_KINDS else over_groups)
+        return trials.judged(asked.kind, way(Path(asked.program).resolve(), own, sweep))

@@ -18,6 +18,8 @@ __all__ = ["RUN", "TOP"]
 AnyPath = str | Path
 # what is tried: the name of each case, and whether it is as it must be
 Cases = Iterator[tuple[str, object]]
+# so many lines, or deliveries, share a commit at most
+TOGETHER = 64
 TABLES = [statements.table_of(statement) for statement in statements.schema()]
 # the examples of the scheme that is tried: the first path, and the messages of the small Primary
 FIRST_PATH, MESSAGES = (TOP / "examples" / it for it in {

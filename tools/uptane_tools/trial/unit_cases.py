@@ -35,7 +35,7 @@ UNIT, REFRESH = "uptane-desk.service", "uptane-desk-refresh.service"
 TIMER, BACKUP = "uptane-desk-refresh.timer", "uptane-desk-backup.service"
 WATCH = "uptane-desk-watch.service"
 FOLDER, PORT, PATIENCE = Path("/var/lib/uptane"), 8080, 240
-FILE = FOLDER / "desk.db"
+FILE, SOCKET = FOLDER / "desk.db", FOLDER / "desk.socket"
 AS_OWNER, RUN = ["runuser", "-u", "uptane", "--"], ["/usr/bin/uptane_desk", "run"]
 PATH = "/usr/local/sbin:/usr/local/bin:/usr/sbin:/usr/bin:/sbin:/bin"
 
@@ -257,6 +257,9 @@ def set_up(program: str | Path, own: Path) -> trials.Cases:
     modes = [path.stat().st_mode & 0o777 for path in (FOLDER, FILE)]
     yield "the file and its folder are their owner's alone", modes == [0o700, 0o600] and {
         FOLDER.owner(), FILE.owner()} == {"uptane"}
+    yield "so is the operators' socket", SOCKET.is_socket() and (SOCKET.stat().st_mode & 0o777,
+                                                                 SOCKET.owner()) == (0o600,
+                                                                                     "uptane")
     hook = Path("/etc/uptane/failed")
     hook.write_text('#!/bin/sh\necho "$1" >> /run/failed\ncat > /run/said\n', "ascii")
     hook.chmod(0o755)
@@ -385,7 +388,8 @@ OTHERS = [
                                    "/tmp", "/dev/shm", "/home")]
 OTHERS += ["/run/lock", "/dev/mqueue"]
 SEEN = [name for name in OTHERS if name.startswith(("/tmp", "/home"))]
-MAY = ["writes in /var/lib/uptane", "a socket of AF_INET", "sends to 127.0.0.1"]
+MAY = [
+    "writes in /var/lib/uptane", "a socket of AF_INET", "a socket of AF_UNIX", "sends to 127.0.0.1"]
 
 
 def told_of(word: str, path: Any) -> list[Any]:
@@ -423,19 +427,23 @@ def refreshed() -> trials.Cases:
     """The refreshing script gives new files and leaves the service running; the timer starts it
     at its time, and after a missed one.
     """
-    before = version()
-    yield "a refresh", well("systemctl", "start", REFRESH) and version() == before + 1
+    before, process = version(), shown("MainPID")
+    yield "a refresh, while it serves", well(
+        "systemctl", "start", REFRESH) and version() == before + 1 and shown("MainPID") == process
     begun = well("systemctl", "stop", UNIT) and well("systemctl", "start", "--no-block", UNIT,
                                                      REFRESH)
-    yield "a refresh right after a start", begun and until(lambda: version() == before + 2)
+    # (while one goes on, a start of it makes no other)
+    yield "a refresh right after a start", begun and until(lambda: version() == before + 2) and (
+        until(lambda: shown("ActiveState", REFRESH) == "inactive"))
     fewer, before = changed("[Unit]\nStartLimitBurst=2\n"), version()
     yield "as many as operators need, one behind another", fewer and all(
         well("systemctl", "start", REFRESH)
         for _ in range(7)) and version() == before + 7 and changed("")
     yield "however quickly", shown("StartLimitIntervalUSec", REFRESH) == "0"
     before = version()
-    yield "after one that fails the service runs", not well(
-        "env", "OWNER=nobody", "/usr/lib/uptane_desk/apply.sh", "--refresh") and version() == before
+    yield "after one that fails the service runs", not well("env", "FOLDER=/nowhere",
+                                                            "/usr/lib/uptane_desk/apply.sh",
+                                                            "--refresh") and version() == before
     stamp, now = Path("/var/lib/systemd/timers/stamp-" + TIMER), time.time()
     missed = well("systemctl", "stop", TIMER) and stamp.exists() and changed(
         "[Timer]\nRandomizedDelaySec=0\n", TIMER)
@@ -477,8 +485,8 @@ def dropped() -> trials.Cases:
     asks = "umask 077; " + drop + "; touch now"
     yield "she has it given at once, by herself", well("runuser", "-u", "alice", "--", "sh", "-c",
                                                        asks) and until(answers.exists)
-    yield "which stops nothing, as it only shows", until(lambda: not Path("/var/spool/uptane/now").
-                                                         exists()) and shown("MainPID") == before
+    yield "which stops nothing", until(lambda: not Path("/var/spool/uptane/now").exists(
+    )) and shown("MainPID") == before
     told = Path("/var/spool/uptane/answers/show.refused")
     yield "one that others can read isn't given", well(
         "runuser", "-u", "alice", "--", "sh", "-c", drop + "; touch now") and until(
@@ -494,25 +502,25 @@ def failed_so(unit: Any) -> Any:
 
 
 def killed() -> trials.Cases:
-    """apply.sh is killed while it gives a script: the unit starts the desk again, and the script
-    is held.
+    """apply.sh is killed while it gives a script: the service knows nothing of it, and that is
+    told.
     """
-    slow = Path("/usr/local/bin/slow")
-    slow.write_text("#!/bin/sh\n: > /run/stands\nexec sleep 600\n", "ascii")
-    slow.chmod(0o755)
-    settings = Path("/etc/uptane/settings")
-    before = settings.read_text("ascii")
-    settings.write_text(before + "PROGRAM=%s\n" % slow, "ascii")
+    slow, settings = Path("/usr/local/lib/slow"), Path("/etc/uptane/settings")
+    slow.mkdir()
+    (slow / "run").write_text(
+        "import os, sys, time\nif sys.argv[1] == 'tell':\n    open('/run/stands', 'w').close()\n"
+        "    time.sleep(600)\nos.execv('/usr/lib/uptane_desk/tools/run', ['run', *sys.argv[1:]])\n",
+        "ascii")
+    before, process = settings.read_text("ascii"), shown("MainPID")
+    settings.write_text(before + "TOOLS=%s\n" % slow, "ascii")
     Path("/run/stands").unlink(missing_ok=True)
-    Path("/run/stands").parent.chmod(0o1777)
     begun = well("systemctl", "start", "--no-block",
                  REFRESH) and until(lambda: Path("/run/stands").exists())
-    yield "a refresh stands", begun and shown("ActiveState") == "inactive"
+    yield "a refresh stands, and the service serves", begun and version() > 0
     ended = well("systemctl", "kill", "--signal=KILL", REFRESH)
     settings.write_text(before, "ascii")
-    Path("/run").chmod(0o755)
-    yield "it is killed, and the service is started again", ended and until(lambda: shown(
-        "ActiveState") == "active") and failed_so(REFRESH)
+    yield "it is killed, which is told, and it serves on", ended and failed_so(REFRESH) and shown(
+        "MainPID") == process
     yield "the next one goes on", well("systemctl", "start", REFRESH) and version() > 0
 
 

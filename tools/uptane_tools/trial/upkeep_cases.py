@@ -18,9 +18,11 @@ import pwd
 import re
 import shutil
 import signal
+import socket
 import stat
 import subprocess
 import sys
+import threading
 import time
 import urllib.error
 import urllib.request
@@ -96,12 +98,10 @@ def planned(program: Path, own: Path) -> trials.Cases:
         yield "the memory of its start", near(figures[2], it.peak, 0.1)
         yield "the seconds of its start", it.start / 8 < took < 8 * it.start + 0.5
     asked = ["--vehicles", "1000", "--ecus", "4"]
-    away = [
-        plan.needed(plan.parsed([*asked, *words]), 1).away
-        for words in ((), ("--refreshes", "0"), ("--refreshes", "0", "--requests", "1000"))]
-    start = plan.needed(plan.parsed(asked), 1).start + 1
-    yield "two starts a refresh, and one behind a million connections", near(
-        away[0] - away[1], 4 * start, 0.001) and near(away[2], start, 0.001)
+    its = [
+        plan.needed(plan.parsed([*asked, "--requests", requests]), 1) for requests in ("6", "1000")]
+    yield "a start behind a million connections, and none for an operator's act", near(
+        its[0].days, 1e9 / 6e6, 0.001) and near(its[1].away, its[1].start + 1, 0.001)
     disks = [plan.needed(plan.parsed([*asked, *words]), 1) for words in ((), ("--clones", ))]
     yield "48 whole copies, or clones", near(disks[0].disk, 49 * disks[0].file,
                                              0.001) and disks[1].disk < 1.01 * disks[1].file
@@ -242,7 +242,8 @@ class Service:
         self.ports = {name: first + int(name or 0) for name in self.names}
         for name, port in self.ports.items():
             (own / "run" / (self.unit(name) + ".words")).write_text(
-                "%s serve %s %d 1000000" % (program, self.file(name), port), encoding="ascii")
+                "%s serve %s %d 1000000 %s" % (program, self.file(name), port, self.socket(name)),
+                encoding="ascii")
             (own / "run" / (self.unit(name) + ".pid")).write_text("0\n", encoding="ascii")
         (own / "bin" / "python3").symlink_to(os.path.realpath(sys.executable))
         for name, text in (("systemctl", SYSTEMCTL % (own / "run")),
@@ -268,6 +269,9 @@ class Service:
 
     def file(self, name: str = "") -> Path:
         return self.own / "data" / ("desk%s.db" % name)
+
+    def socket(self, name: str = "") -> Path:
+        return self.own / "data" / ("desk%s.socket" % name)
 
     def script(self, name: str, *words: Any) -> Any:
         if name == "backup.sh":
@@ -348,8 +352,8 @@ def applied(program: str | Path, own: Path) -> trials.Cases:
             "apply.sh").returncode == 0 and it.calls() == []
         version = it.version()
         done = it.script("apply.sh", "--refresh")
-        yield "a refresh", done.returncode == 0 and it.version() == version + 1 and it.calls() == [
-            "stop uptane-desk.service", "start uptane-desk.service"]
+        yield "a refresh, which stops nothing", done.returncode == 0 and it.version(
+        ) == version + 1 and it.calls() == []
         yield "the journal has it", [
             (one["who"], one["asked"]["do"], one["answer"]) for one in it.journal()] == [
                 ("the timer", "refresh", "done")]
@@ -379,8 +383,8 @@ def applied(program: str | Path, own: Path) -> trials.Cases:
         it.drop("2-campaign.script", campaign("first"), campaign("first", release=1))
         version, listed = it.version(), len(it.journal())
         done = it.script("apply.sh", "--refresh")
-        yield "scripts and a refresh in one stop", it.calls() == [
-            "stop uptane-desk.service", "start uptane-desk.service"] and it.version() == version + 2
+        yield "scripts and a refresh stop nothing either", it.calls() == [] and it.version(
+        ) == version + 2
         yield "a line that is refused is told", done.returncode == 1 and (
             "spool: 2-campaign.script: 1 of 2 lines were refused\n") in done.stderr
         yield "each has its answers", (it.answers("1-image.answers"),
@@ -408,13 +412,10 @@ def applied(program: str | Path, own: Path) -> trials.Cases:
         yield "what was given is taken away", sorted(
             path.name for path in (own / "spool").glob("*.script")) == []
         it.drop("3.script", vehicle("V3", 7), vehicle("V4", 6))
-        it.env["PROGRAM"] = str(own / "fails")
-        (own / "fails").write_text("#!/bin/sh\nread line || exit 0\necho done\nexit 4\n",
-                                   encoding="ascii")
-        (own / "fails").chmod(0o755)
-        failed = it.script("apply.sh")
-        yield "a program that stops: the service goes on", failed.returncode == 1 and it.calls(
-        )[-1] == "start uptane-desk.service" and it.version() > 0
+        with standing_in(it, 0):
+            failed = it.script("apply.sh")
+        yield "a service that ends in the middle", failed.returncode == 1 and it.calls(
+        ) == [] and "lines answered: 1, the next one is line 2: " in failed.stderr
         held = own / "spool" / "held"
         yield "the script is held, for root alone", (held / "3.script").exists() and stat.S_IMODE(
             held.stat().st_mode) == 0o700 and it.answers("3.answers") == ["done"]
@@ -423,7 +424,8 @@ def applied(program: str | Path, own: Path) -> trials.Cases:
         yield "and the journal says how far it came", [
             one["answer"] for one in it.journal()[-2:]] == ["done", None]
         yield from killed(it)
-        it.env["PROGRAM"] = str(program)
+        it.systemctl("stop")
+        it.systemctl("start")
         yield from rotated(it)
         yield from turned(it)
 
@@ -436,31 +438,52 @@ def read_alone(it: Any) -> trials.Cases:
     told = it.answers("show.refused")
     it.drop("show.script", fleet.line("show", NOW, vehicle="V1"),
             fleet.line("fetch", NOW, repository="image", file="timestamp.json"))
+    before = list((it.own / "copies").glob("desk-*-before.db"))
     done = it.script("apply.sh")
     answers = it.answers("show.answers")
     yield "what only shows stops nothing", done.returncode == 0 and it.calls() == [] and [
         line.split()[0] for line in answers] == ["vehicle", "file"]
     yield "nor does a refusal of before stay", told and it.answers("show.refused") is None
     yield "and leaves nothing behind", [
-        path.name for path in (it.own / "data").iterdir() if path.is_dir()] == []
+        path.name for path in (it.own / "data").iterdir() if path.is_dir()] == [] and list(
+            (it.own / "copies").glob("desk-*-before.db")) == before
+
+
+@contextlib.contextmanager
+def standing_in(it: Any, seconds: float) -> Iterator[None]:
+    """What answers a line at the operators' socket in the service's place, and ends so many seconds
+    later.
+    """
+    it.socket().unlink(missing_ok=True)
+    with socket.socket(socket.AF_UNIX) as listener:
+        listener.bind(str(it.socket()))
+        listener.listen()
+
+        def run() -> None:
+            with listener.accept()[0] as peer:
+                peer.recv(65_536)
+                peer.sendall(b"done\n")
+                (it.own / "stands").touch()
+                time.sleep(seconds)
+
+        threading.Thread(target=run, daemon=True).start()
+        yield
 
 
 def killed(it: Any) -> trials.Cases:
-    """apply.sh is killed while it gives a script: no desk stays down, and no script is lost."""
-    (it.own / "fails").write_text(
-        "#!/bin/sh\nread line || exit 0\necho done\n: > %s/stands\nexec sleep 600\n" % it.own,
-        encoding="ascii")
+    """apply.sh is killed while it gives a script: none is lost."""
     it.drop("4.script", vehicle("V5", 5), vehicle("V6", 4))
-    with subprocess.Popen(["sh", SERVICE / "apply.sh"], env=it.env, stdout=subprocess.DEVNULL,
-                          stderr=subprocess.DEVNULL, start_new_session=True) as running:
+    (it.own / "stands").unlink()
+    with standing_in(it, 600), subprocess.Popen(
+        ["sh", SERVICE / "apply.sh"], env=it.env, stdout=subprocess.DEVNULL,
+            stderr=subprocess.DEVNULL, start_new_session=True) as running:
         while not (it.own / "stands").exists():
             time.sleep(0.05)
+        time.sleep(0.5)
         os.killpg(running.pid, signal.SIGKILL)
-    yield "a run is killed, and the desk is down", it.calls()[-1] == "stop uptane-desk.service"
     mended = it.script("apply.sh", "--mend")
-    yield "it is started again", mended.returncode == 0 and it.calls() == [
-        "start uptane-desk.service"] and it.version() > 0
-    yield "no script is lost", (it.own / "spool" / "held" / "4.script").exists() and [
+    yield "a run is killed, and no script is lost", mended.returncode == 0 and it.calls(
+    ) == [] and (it.own / "spool" / "held" / "4.script").exists() and [
         one["answer"] for one in it.journal()[-2:]] == ["done", None]
     yield "and nothing is left", it.script("apply.sh",
                                            "--mend").returncode == 0 and it.calls() == [] and list(
@@ -538,11 +561,15 @@ def watched(program: str | Path, own: Path) -> trials.Cases:
         yield "is told once", look() == (0, first[1])
         it.script("apply.sh", "--refresh")
         it.script("backup.sh")
+        posted(it.ports[""], "x")
         yield "all is well", look() == (0, [])
         made = (own / "watch.prom").read_text("ascii")
         yield "it writes metrics", sample(made, "up", desk="desk") == 1 and 80000 < sample(
             made, "served_timestamp_left_seconds") <= 86400 and sample(
                 made, "newest_copy_age_seconds") < 600
+        yield "with what the service says of itself", [
+            sample(made, "service_" + name) for name in ("groups", "commands", "open")] == [
+                1, 1, 0]
         it.systemctl("stop")
         yield "a service that is down", look() == (1, ["it doesn't answer"]) and sample(
             (own / "watch.prom").read_text("ascii"), "up") == 0
@@ -575,11 +602,8 @@ def applied_to_several(program: str | Path, own: Path) -> trials.Cases:
         (own / "after-apply").chmod(0o755)
         version = it.version("1")
         done = it.script("apply.sh", "--refresh")
-        order = [
-            "%s uptane-desk@%s.service" % (verb, name) for name in it.names
-            for verb in ("stop", "start")]
         yield "two desks, one after the other", done.returncode == 0 and it.calls(
-        ) == order and it.answers("1.answers") == ["done", "done", "done"]
+        ) == [] and it.answers("1.answers") == ["done", "done", "done"]
         yield "and the proxy may read its map again", (own /
                                                        "map").read_text("ascii").split()[::2] == [
                                                            "V1", "V2", "V3", "V4"]
@@ -729,7 +753,7 @@ def by_journal(it: Any, backup: Any) -> trials.Cases:
     version, lost = it.version(), it.own / "lost.db"
     it.systemctl("stop")
     it.file().rename(lost)
-    trials.log_of(it.file()).unlink()
+    trials.log_of(it.file()).rename(trials.log_of(lost))
     made = it.own / "journal.script"
     journal = it.own / "journal"
     kept = journal.read_bytes()

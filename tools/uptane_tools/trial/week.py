@@ -54,6 +54,8 @@ SILENT, STUBBORN, TWICE = 0.02, 0.05, 0.03
 KILLED, LOST = 3, 6
 # the campaigns, and the hour of the `apply.sh` that opens each
 OPENED = {"spring": 3, "first-two-hundred": 39, "engines": 63}
+# the script that the checker refuses, by the hour of its `apply.sh`
+REFUSED = {3: "typo.script"}
 # the vehicle of which a workshop replaces an ECU
 BROKEN = 500
 
@@ -184,9 +186,9 @@ class Week(upkeep_cases.Service):
         self.home = {vehicle: desk.removeprefix("desk") for vehicle, desk in self.home.items()}
         return joined.returncode == 0 and len(self.home) == len(self.vehicles)
 
-    def apply(self) -> bool:
+    def apply(self, refused: str = "") -> bool:
         """Gives what was dropped, with a refresh; what each desk was given is kept for the
-        comparison.
+        comparison. A script that is refused fails it, and is told; the rest is given.
         """
         before = {
             name: (self.own / "division" / ("desk%s.answers" % name)).read_text("ascii")
@@ -199,21 +201,23 @@ class Week(upkeep_cases.Service):
                               for what in ("given", "answered"))
             self.log[name].append(("script", list(zip(lines, answers))))
             assert len(lines) == len(answers) and before is not None
-        self.counts["applies"] += ran.returncode == 0
-        self.counts["away"] += sum(
-            map(int, re.findall(r"off the line for (\d+) seconds", ran.stdout)))
+        told = re.findall(r"(\S+) by root: refused", ran.stderr)
+        well = ran.returncode == bool(refused) and told == ([refused] if refused else [])
+        self.counts["applies"] += well
         if ran.returncode:
             self.note("apply.sh: %s" % ran.stderr.strip())
-        return ran.returncode == 0
+        return well
 
     def spying(self) -> None:
-        """The program as `apply.sh` runs it, and what it was given and answered beside it."""
-        words = self.own / "bin" / "uptane_desk"
+        """What gives lines for `apply.sh`, and what it was given and answered beside it."""
+        words = self.own / "bin" / "python3"
+        real = words.resolve()
+        words.unlink()
         words.write_text(
-            '#!/bin/sh\nat=$(basename "$2" .db) at=%s/run/${at#desk}\ntee "$at.given" | %s "$@" | '
-            'tee "$at.answered"\n' % (self.own, self.program), encoding="ascii")
+            '#!/bin/sh\n[ "$2" = tell ] || exec %s "$@"\nat=$(basename "$3" .socket) '
+            'at=%s/run/${at#desk}\ntee "$at.given" | %s "$@" | tee "$at.answered"\n' %
+            (real, self.own, real), encoding="ascii")
         words.chmod(0o755)
-        self.env["PROGRAM"] = str(words)
         self.spy = upkeep_cases.SERVICE / "apply.sh"
 
     # -- requests
@@ -383,7 +387,7 @@ def lived(week: Any, days: Any) -> trials.Cases:
         operators(week, hour)
         if hour % 12 == 3:
             week.set_clock(START + DAY + HOUR * hour)
-            yield "apply.sh --refresh at hour %d" % hour, week.apply()
+            yield "apply.sh --refresh at hour %d" % hour, week.apply(REFUSED.get(hour, ""))
         if hour == (48 if days > 2 else 0) + 8:
             happened = []
             week.hour(hour, lambda: happened.append(week.kill(str(KILLED))))
@@ -491,7 +495,7 @@ def judged(week: Any) -> trials.Cases:
         trials.faults(week.file(name)) == [] for name in week.names)
     yield "all backups and refreshes went well", week.counts[
         "backups"] >= week.hours - 1 and week.counts["applies"] == 2 * (week.hours // 24)
-    journal = week.journal()
+    journal = [it for it in week.journal() if "asked" in it]
     who = [it for it in journal if it["asked"]["do"] == "open_campaign" and it["answer"] == "done"]
     opened = [name for name, hour in OPENED.items() if hour < week.hours]
     yield "the journal tells who opened each campaign", [
@@ -504,9 +508,10 @@ def judged(week: Any) -> trials.Cases:
             week.own / "metrics.prom").read_text("ascii"))]
     yield "plans are withheld where a campaign's needs aren't met", len(withheld) == DESKS and (
         sum(withheld) > 0) == (OPENED["engines"] + 24 < week.hours)
+    refused = [it["script"] for it in week.journal() if "refused" in it]
     yield "the script that the checker refuses was never given", week.answers(
         "typo.refused") is not None and "wrong" not in [
-            it["asked"].get("campaign") for it in journal]
+            it["asked"].get("campaign") for it in journal] and refused == [*REFUSED.values()]
     for name, given in (("fleet.html", "page.html"), ("uptane.prom", "metrics.prom"), ("journal",
                                                                                        "journal")):
         shutil.copy(week.own / given, week.to / name)

@@ -11,7 +11,7 @@ use Rattle.up_lines.proofs.Blaming.{blames_all, blames_both, ends_early}
 use Rattle.up_lines.proofs.lines.read_lines.Goals as goal
 
 pub loop-most-init : goal.loop-most-init
-loop-most-init g c = ([], Consumes-nil _, fresh g.I.Interpret.gives _ c.args.progress.now c.requires.fresh, refl, omega arith, c.requires.can_read, c.requires.can_write)
+loop-most-init g c = ([], Consumes-nil _, fresh g.I.Interpret.gives g.met.I.Interpret.composes _ c.args.progress.now c.requires.fresh, refl, omega arith, c.requires.can_read, c.requires.can_write)
 
 pub loop-most-preserved : goal.loop-most-preserved
 loop-most-preserved g c = let (came, read, so, budget, room, can_read, can_write) = c.loop-most.invariant in
@@ -34,17 +34,17 @@ returns-in_err-take_piece-in-Ok-clause-ran g c = let (came, read, so, budget, ro
     let most : c.in-Ok.n ≤ c.loop-most.most = c.in-Ok.ensures.count.1 in
     let long : length (take c.in-Ok.n c.read_piece.new.buffer) ≡ c.in-Ok.n = length-take-le c.in-Ok.n c.read_piece.new.buffer within in
     let cause = c.in_err-take_piece-in-Ok.field-0.0 in
-    ran_stop g.I.Interpret.gives c.from_residual.result cause _ _ _ _ (came ++ take c.in-Ok.n c.read_piece.new.buffer) c.take_piece.new.progress.answered
+    ran_stop g.I.Interpret.gives g.met.I.Interpret.composes c.from_residual.result cause _ _ _ _ (came ++ take c.in-Ok.n c.read_piece.new.buffer) c.take_piece.new.progress.answered
     c.from_residual.ensures.1 (Consumes-trans _ _ _ _ _ read c.in-Ok.ensures.bytes) (omega (arith, long, most, budget, length-append came (take c.in-Ok.n c.read_piece.new.buffer)))
     (c.in_err-take_piece-in-Ok.ensures.err _ came so (omega (arith, room, c.read_piece.auto.buffer, long, within)))
-    (last_read g.I.Interpret.gives _ came (take c.in-Ok.n c.read_piece.new.buffer) _ false c.loop-most.progress _ _ so c.take_piece.ensures.grows refl
+    (last_read g.I.Interpret.gives g.met.I.Interpret.composes _ came (take c.in-Ok.n c.read_piece.new.buffer) _ false c.loop-most.progress _ _ so c.take_piece.ensures.grows refl
     (omega (arith, room, c.read_piece.auto.buffer, long, within)) (λ h. absurd (cc)))
 
 pub returns-in-Err-clause-ran : goal.returns-in-Err-clause-ran
 returns-in-Err-clause-ran g c = let (came, read, so, budget, room, can_read, can_write) = c.loop-most.invariant in
-    ran_err g.I.Interpret.gives Read _ _ _ _ came c.loop-most.progress.answered (Consumes-kept _ _ _ _ read c.in-Err.ensures.err) (omega (arith, budget))
-    (stops_read g.I.Interpret.gives _ came c.loop-most.progress _ so)
-    (last_read g.I.Interpret.gives _ came [] came false c.loop-most.progress _ _ so (omega arith) (sym (append-nil came)) (omega arith) (λ h. absurd (cc)))
+    ran_err g.I.Interpret.gives g.met.I.Interpret.composes Read _ _ _ _ came c.loop-most.progress.answered (Consumes-kept _ _ _ _ read c.in-Err.ensures.err) (omega (arith, budget))
+    (stops_read g.I.Interpret.gives g.met.I.Interpret.composes _ came c.loop-most.progress _ so)
+    (last_read g.I.Interpret.gives g.met.I.Interpret.composes _ came [] came false c.loop-most.progress _ _ so (omega arith) (sym (append-nil came)) (omega arith) (λ h. absurd (cc)))
 
 -- nothing was read at the end
 consumed_none : (had mid has : Option (List ℕ)) (came : List ℕ) (n : ℕ) (buffer : List ℕ) → n ≡ 0 → Consumes had mid came → Consumes mid has (take n buffer) → Consumes had has came
@@ -53,7 +53,7 @@ consumed_none had mid has came n buffer none p q =
 
 pub returns-in-Ok-eq0-clause-ran : goal.returns-in-Ok-eq0-clause-ran
 returns-in-Ok-eq0-clause-ran g c = let (came, read, so, budget, room, can_read, can_write) = c.loop-most.invariant in
-    ran_on g.I.Interpret.gives c.finish.result _ _ (g.R.Source.remaining c.args.reader.now) (g.R.Source.remaining c.read_piece.new.reader) came c.loop-most.progress _ c.finish.new.progress
+    ran_on g.I.Interpret.gives g.met.I.Interpret.composes c.finish.result _ _ (g.R.Source.remaining c.args.reader.now) (g.R.Source.remaining c.read_piece.new.reader) came c.loop-most.progress _ c.finish.new.progress
     (consumed_none _ (g.R.Source.remaining c.loop-most.reader) _ came c.in-Ok-eq0.field-0 c.read_piece.new.buffer c.in-Ok-eq0.field-0-test read c.in-Ok-eq0.ensures.bytes)
     (omega (arith, budget)) (c.in-Ok-eq0.ensures.end c.in-Ok-eq0.field-0-test c.loop-most-test.true (omega (arith, room))) so c.finish.ensures.ok c.finish.ensures.err c.finish.ensures.grows
 

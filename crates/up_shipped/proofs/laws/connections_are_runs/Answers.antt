@@ -11,4 +11,5 @@ returns g c =
       apart = c.vehicles_stand_apart.ensures.apart;
       exchanged = c.vehicles_stand_apart.ensures.exchanged;
     } in
-    connections laws c.refusals_change_nothing.ensures.refused c.conversations_keep_order.ensures g.K.Scheme.rules g.D.Store
+    connections laws c.refusals_change_nothing.ensures.refused c.conversations_keep_order.ensures g.K.Scheme.rules g.D.Store c.scripts_outlast_crashes.ensures
+    c.clients_outlast_crashes.ensures
