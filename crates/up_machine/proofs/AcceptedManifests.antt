@@ -1,6 +1,6 @@
 -- The rows of an accepted manifest are those of the vehicle with its entry.
-use Rattle.std.proofs.Common.{◌≡◌, ℕ, ◌+◌, ◌<◌, List, [], ◌∷◌, ◌++◌, length, Option, Some, true, refl, sym, ap, ◌∙◌, subst, arith, length-append}
-use Rattle.std.specs.Prelude.{◌==◌, find, map, filter_map, option_map, option_and_then, unwrap_or, codes}
+use Rattle.std.proofs.Common.{◌≡◌, ℕ, ◌+◌, ◌<◌, List, [], ◌∷◌, ◌++◌, Option, Some, true, refl, sym, ap, ◌∙◌, subst, arith, length-append}
+use Rattle.std.specs.Prelude.{◌==◌, find, map, filter_map, option_map, option_and_then, unwrap_or}
 use Rattle.std.specs.FinMap as table
 use Rattle.std.proofs.lemmas.Bool.{ne_eqb}
 use Rattle.std.proofs.lemmas.Bool.Decides.{nat_tests}
@@ -16,7 +16,6 @@ use Rattle.up_plan.specs.declared.campaign.Item.{Item}
 use Rattle.up_plan.specs.Images.{ImageData}
 use Rattle.up_plan.specs.Offers.{OffersSame, OffersAloneCount}
 use Rattle.up_plan.specs.Planning.{items_for, resulting, plan_from, plan_of}
-use Rattle.up_metadata.specs.Files.{Root, role_texts}
 use Rattle.up_machine.specs.declared.rows.EcuRow.{EcuRow}
 use Rattle.up_machine.specs.declared.rows.Founding.{Founding}
 use Rattle.up_machine.specs.declared.rows.Kept.{Kept}
@@ -24,13 +23,14 @@ use Rattle.up_machine.specs.declared.rows.VehicleRow.{VehicleRow}
 use Rattle.up_machine.specs.declared.rows.VehicleRows.{VehicleRows}
 use Rattle.up_machine.specs.declared.decision.AcceptedRows.{AcceptedRows}
 use Rattle.up_machine.specs.declared.vehicle.NewEcu.{NewEcu}
-use Rattle.up_machine.specs.State.{Entry, Vehicle, State, root_at, version, last_counter, newest, report_of, last_report}
+use Rattle.up_machine.specs.State.{Entry, Vehicle, State, root_number, version, last_counter, newest, report_of, last_report}
 use Rattle.up_machine.specs.Deliveries.{Received, fitted, plan_in, entry_of}
-use Rattle.up_machine.specs.Replies.{reply_metadata, reply_json, reply_text}
+use Rattle.up_machine.specs.Replies.{reply_text}
 use Rattle.up_machine.specs.Rows.{founding_row, ecu_row, vehicle_row, rows_of, kept_row}
 use Rattle.up_machine.specs.Decisions.{HasAcceptedRows}
 use Rattle.up_machine.specs.ManifestRows.{fitted_in, reported_row, accepted_row, reply_of, kept_of, plan_by_rows, accepted_rows, target_for}
-use Rattle.up_canon.proofs.Steps.{map_some}
+use Rattle.up_machine.proofs.FoundedRow.{row_of}
+use Rattle.up_machine.proofs.FoundingRows.{founding_of}
 
 -- ---- the newest manifest
 
@@ -112,54 +112,48 @@ plan_same : (s : State) (d : Received) → plan_by_rows s.images (items_in s d) 
 unfolding plan_in plan_of plan_by_rows
 plan_same s d = ap (λ fitted. plan_from (resulting (table.values s.images) (items_in s d) fitted)) (fitted_same d.vehicle d.incoming.manifest.reports d.vehicle.ecus)
 
--- the founding's row of the last root version
-abbrev founding_of : State → Root → Founding
-founding_of s root = record { root = length s.roots; keys = root.keys; image_version = s.image_version; stamp = s.stamp }
-
-reply_same : (k : Rules) (s : State) (at : ℕ) (d : Received) (root : Root) → root_at s (length s.roots) ≡ Some root
-    → reply_of k (founding_of s root) (vehicle_row d.incoming.manifest.vehicle d.vehicle) at (filter_map (target_for s.images) (plan_in s d).assigned)
-    ≡ reply_text k s d.incoming.manifest.vehicle (version d.vehicle.entries + 1) (entry_of s at d)
+reply_same : (k : Rules) (s : State) (at : ℕ) (d : Received)
+    → reply_of k (row_of s) (vehicle_row d.incoming.manifest.vehicle d.vehicle) at (filter_map (target_for s.images) (plan_in s d).assigned)
+    ≡ reply_text k s d.incoming.manifest.vehicle (version d.vehicle.entries + 1) at (plan_in s d)
 unfolding reply_text
-reply_same k s at d root there =
-    sym (ap (λ o. unwrap_or (option_map (λ (r : Root). reply_json d.incoming.manifest.vehicle (version d.vehicle.entries + 1) (length s.roots) (role_texts k (reply_metadata s d.incoming.manifest.vehicle (version d.vehicle.entries + 1) (entry_of s at d) r))) o) (codes "")) there)
+reply_same k s at d = refl
 
-kept_same : (k : Rules) (s : State) (at : ℕ) (d : Received) (root : Root) → root_at s (length s.roots) ≡ Some root
-    → kept_of k (founding_of s root) (vehicle_row d.incoming.manifest.vehicle d.vehicle) at d.incoming s.images (plan_in s d)
-    ≡ kept_row k s d.incoming.manifest.vehicle (version d.vehicle.entries + 1) (entry_of s at d)
-kept_same k s at d root there =
+kept_same : (k : Rules) (s : State) (at : ℕ) (d : Received)
+    → kept_of k (row_of s) (vehicle_row d.incoming.manifest.vehicle d.vehicle) at d.incoming s.images (plan_in s d)
+    ≡ kept_row d.incoming.manifest.vehicle (version d.vehicle.entries + 1) (entry_of k s at d)
+kept_same k s at d =
     ap {B = Kept} (λ text. record {
       vehicle = d.incoming.manifest.vehicle;
       counter = d.incoming.manifest.counter;
       version = version d.vehicle.entries + 1;
       at = at;
-      root = length s.roots;
+      root = root_number s;
       signed = d.incoming.envelope.signed;
       plan = plan_in s d;
       reply = text;
-    }) (reply_same k s at d root there)
+    }) (reply_same k s at d)
 
 -- ---- the whole
 
-by_root : (k : Rules) (s : State) (at : ℕ) (d : Received) (root : Root) → root_at s (length s.roots) ≡ Some root
+by_row : (k : Rules) (s : State) (at : ℕ) (d : Received)
     → last_counter d.vehicle.entries < d.incoming.manifest.counter → manifest_of d.incoming.envelope.signed ≡ Some d.incoming.manifest
-    → HasAcceptedRows k s d.incoming.manifest.vehicle d.vehicle (entry_of s at d)
-    (accepted_rows k (founding_of s root) (rows_of d.incoming.manifest.vehicle d.vehicle) at d.incoming s.images (items_in s d))
-by_root k s at d root there later read =
+    → HasAcceptedRows d.incoming.manifest.vehicle d.vehicle (entry_of k s at d)
+    (accepted_rows k (row_of s) (rows_of d.incoming.manifest.vehicle d.vehicle) at d.incoming s.images (items_in s d))
+by_row k s at d later read =
     let name = d.incoming.manifest.vehicle in
-    let e = entry_of s at d in
+    let e = entry_of k s at d in
     let row = row_accepted name d.vehicle e later in
     let ecus = rows_reported d.vehicle e d.incoming.manifest d.vehicle.ecus later read in
     record {
       vehicle = ap {B = VehicleRows} (λ (r : VehicleRow). record { vehicle = r; ecus = map (reported_row d.incoming.manifest.reports) (map (ecu_row d.vehicle) d.vehicle.ecus) }) row
           ∙ ap {B = VehicleRows} (λ rows. record { vehicle = vehicle_row name (with_one d.vehicle e); ecus = rows }) ecus;
-      kept = ap (kept_of k (founding_of s root) (vehicle_row name d.vehicle) at d.incoming s.images) (plan_same s d) ∙ kept_same k s at d root there;
+      kept = ap (kept_of k (row_of s) (vehicle_row name d.vehicle) at d.incoming s.images) (plan_same s d) ∙ kept_same k s at d;
     }
 
 pub accepted_are : (k : Rules) (s : State) (at : ℕ) (d : Received) (f : Founding) → founding_row s ≡ Some f
     → last_counter d.vehicle.entries < d.incoming.manifest.counter → manifest_of d.incoming.envelope.signed ≡ Some d.incoming.manifest
-    → HasAcceptedRows k s d.incoming.manifest.vehicle d.vehicle (entry_of s at d)
+    → HasAcceptedRows d.incoming.manifest.vehicle d.vehicle (entry_of k s at d)
     (accepted_rows k f (rows_of d.incoming.manifest.vehicle d.vehicle) at d.incoming s.images (items_in s d))
 accepted_are k s at d f founded later read =
-    let root = map_some (founding_of s) (root_at s (length s.roots)) f founded in
-    subst (λ (f : Founding). HasAcceptedRows k s d.incoming.manifest.vehicle d.vehicle (entry_of s at d) (accepted_rows k f (rows_of d.incoming.manifest.vehicle d.vehicle) at d.incoming s.images (items_in s d))) root.2
-    (by_root k s at d root.0 root.1 later read)
+    subst (λ (f : Founding). HasAcceptedRows d.incoming.manifest.vehicle d.vehicle (entry_of k s at d) (accepted_rows k f (rows_of d.incoming.manifest.vehicle d.vehicle) at d.incoming s.images (items_in s d))) (sym (founding_of s f (sym founded)).1)
+    (by_row k s at d later read)

@@ -26,7 +26,7 @@ use Rattle.up_machine.specs.declared.command.Command.{Command}
 use Rattle.up_machine.specs.declared.command.Command.TheVariants.{Found, Rotate, AddImage, Refresh, AddVehicle, ReplaceEcu, OpenCampaign, CloseCampaign, Deliver, Fetch}
 use Rattle.up_machine.specs.declared.answer.Answer.TheVariants.{Refused}
 use Rattle.up_machine.specs.Vehicles.{NewVehicleData, has_ecu, ecu_names}
-use Rattle.up_machine.specs.State.{Vehicle, State, added, is_taken_in, is_taken}
+use Rattle.up_machine.specs.State.{Vehicle, State, is_founded, root_number, added, is_taken_in, is_taken}
 use Rattle.up_machine.specs.Files.{files, file}
 use Rattle.up_machine.specs.Deciding.{Outcome, done, already, where_new, check_moment, check_founded, check_version}
 use Rattle.up_machine.specs.Repositories.{same_image, decide_found, decide_rotate, decide_new_image, decide_image, decide_refresh, decide_fetch}
@@ -110,7 +110,7 @@ found_alike : (k : Rules) (s : State) (vehicles : Table Vehicle) (at : ℕ) (key
     → AlikeResult name (decide_found k s at keys) (decide_found k (with_vehicles s vehicles) at keys)
 unfolding decide_found
 found_alike k s vehicles at keys name h =
-    bind_alike name (check_moment at) _ _ (λ a. bind_alike name (check_keys k keys) _ _ (λ b. bind_alike name (refuse_if (not (length s.roots == 0)) AlreadyFounded) _ _ (λ c.
+    bind_alike name (check_moment at) _ _ (λ a. bind_alike name (check_keys k keys) _ _ (λ b. bind_alike name (refuse_if (is_founded s) AlreadyFounded) _ _ (λ c.
     (refl, record { vehicles = vehicles; rest = refl; alike = h }))))
 
 rotate_alike : (k : Rules) (s : State) (vehicles : Table Vehicle) (at : ℕ) (keys : KeySet) (name : Name) → AlikeTables name s.vehicles vehicles
@@ -118,37 +118,37 @@ rotate_alike : (k : Rules) (s : State) (vehicles : Table Vehicle) (at : ℕ) (ke
 unfolding decide_rotate
 rotate_alike k s vehicles at keys name h =
     bind_alike name (check_moment at) _ _ (λ a. bind_alike name (check_keys k keys) _ _ (λ b. bind_alike name (check_founded s) _ _ (λ c.
-    bind_alike name (refuse_if (nat_le 64 (length s.roots)) RootFull) _ _ (λ d. bind_alike name (check_version s) _ _ (λ e.
+    bind_alike name (refuse_if (nat_le 64 (root_number s)) RootFull) _ _ (λ d. bind_alike name (check_version s) _ _ (λ e.
     (refl, record { vehicles = vehicles; rest = refl; alike = h }))))))
 
-image_alike : (s : State) (vehicles : Table Vehicle) (at : ℕ) (image : ImageData) (name : Name) → AlikeTables name s.vehicles vehicles
-    → AlikeResult name (decide_image s at image) (decide_image (with_vehicles s vehicles) at image)
+image_alike : (k : Rules) (s : State) (vehicles : Table Vehicle) (at : ℕ) (image : ImageData) (name : Name) → AlikeTables name s.vehicles vehicles
+    → AlikeResult name (decide_image k s at image) (decide_image k (with_vehicles s vehicles) at image)
 unfolding decide_image decide_new_image
-image_alike s vehicles at image name h =
+image_alike k s vehicles at image name h =
     bind_alike name (check_moment at) _ _ (λ a. bind_alike name (check_founded s) _ _ (λ b.
     where_alike name s vehicles (same_image image) ImageTaken (table.get s.images image.file) _ _ h
     (bind_alike name (refuse_if (nat_le 1024 (table.len s.images)) RegisterFull) _ _ (λ c. bind_alike name (check_version s) _ _ (λ d.
     (refl, record { vehicles = vehicles; rest = refl; alike = h }))))))
 
-refresh_alike : (s : State) (vehicles : Table Vehicle) (at version : ℕ) (name : Name) → AlikeTables name s.vehicles vehicles
-    → AlikeResult name (decide_refresh s at version) (decide_refresh (with_vehicles s vehicles) at version)
+refresh_alike : (k : Rules) (s : State) (vehicles : Table Vehicle) (at version : ℕ) (name : Name) → AlikeTables name s.vehicles vehicles
+    → AlikeResult name (decide_refresh k s at version) (decide_refresh k (with_vehicles s vehicles) at version)
 unfolding decide_refresh
-refresh_alike s vehicles at version name h =
+refresh_alike k s vehicles at version name h =
     bind_alike name (check_moment at) _ _ (λ a. bind_alike name (check_founded s) _ _ (λ b. bind_alike name (refuse_if (nat_le version s.image_version) VersionNotGreater) _ _ (λ c.
     (refl, record { vehicles = vehicles; rest = refl; alike = h }))))
 
-files_alike : (k : Rules) (s : State) (vehicles : Table Vehicle) (repository : Repository) → files k (with_vehicles s vehicles) repository ≡ files k s repository
+files_alike : (s : State) (vehicles : Table Vehicle) (repository : Repository) → files (with_vehicles s vehicles) repository ≡ files s repository
 unfolding files
-files_alike k s vehicles Director = refl
-files_alike k s vehicles Image = refl
+files_alike s vehicles Director = refl
+files_alike s vehicles Image = refl
 
-fetch_alike : (k : Rules) (s : State) (vehicles : Table Vehicle) (at : ℕ) (repository : Repository) (file_name name : Name) → AlikeTables name s.vehicles vehicles
-    → AlikeResult name (decide_fetch k s at repository file_name) (decide_fetch k (with_vehicles s vehicles) at repository file_name)
+fetch_alike : (s : State) (vehicles : Table Vehicle) (at : ℕ) (repository : Repository) (file_name name : Name) → AlikeTables name s.vehicles vehicles
+    → AlikeResult name (decide_fetch s at repository file_name) (decide_fetch (with_vehicles s vehicles) at repository file_name)
 unfolding decide_fetch
-fetch_alike k s vehicles at repository file_name name h =
+fetch_alike s vehicles at repository file_name name h =
     bind_alike name (check_moment at) _ _ (λ a. bind_alike name (check_founded s) _ _ (λ b.
-    bind_alike_to name (or_error UnknownFile (file k s repository file_name)) (or_error UnknownFile (file k (with_vehicles s vehicles) repository file_name)) _ _
-    (ap (λ fs. or_error UnknownFile (option_map (λ f. f.1) (find (λ f. bytes_eq f.0 file_name) fs))) (files_alike k s vehicles repository)) (λ text.
+    bind_alike_to name (or_error UnknownFile (file s repository file_name)) (or_error UnknownFile (file (with_vehicles s vehicles) repository file_name)) _ _
+    (ap (λ fs. or_error UnknownFile (option_map (λ f. f.1) (find (λ f. bytes_eq f.0 file_name) fs))) (files_alike s vehicles repository)) (λ text.
     (refl, record { vehicles = vehicles; rest = refl; alike = h }))))
 
 -- ---- vehicles and campaigns
@@ -367,13 +367,13 @@ pub served_alike : (k : Rules) (s : State) (vehicles : Table Vehicle) (at : ℕ)
 unfolding serve
 served_alike k s vehicles at (Found keys) name h own = step_alike k s vehicles at (Found keys) name h (found_alike k s vehicles at keys name h)
 served_alike k s vehicles at (Rotate keys) name h own = step_alike k s vehicles at (Rotate keys) name h (rotate_alike k s vehicles at keys name h)
-served_alike k s vehicles at (AddImage image) name h own = step_alike k s vehicles at (AddImage image) name h (image_alike s vehicles at image name h)
-served_alike k s vehicles at (Refresh version) name h own = step_alike k s vehicles at (Refresh version) name h (refresh_alike s vehicles at version name h)
+served_alike k s vehicles at (AddImage image) name h own = step_alike k s vehicles at (AddImage image) name h (image_alike k s vehicles at image name h)
+served_alike k s vehicles at (Refresh version) name h own = step_alike k s vehicles at (Refresh version) name h (refresh_alike k s vehicles at version name h)
 served_alike k s vehicles at (AddVehicle new) name h own = step_alike k s vehicles at (AddVehicle new) name h (vehicle_alike k s vehicles at new name h)
 served_alike k s vehicles at (ReplaceEcu r) name h own = step_alike k s vehicles at (ReplaceEcu r) name h (replace_alike k s vehicles at r name h)
 served_alike k s vehicles at (OpenCampaign campaign) name h own = step_alike k s vehicles at (OpenCampaign campaign) name h (open_alike s vehicles at campaign name h)
 served_alike k s vehicles at (CloseCampaign campaign) name h own = step_alike k s vehicles at (CloseCampaign campaign) name h (close_alike s vehicles at campaign name h)
-served_alike k s vehicles at (Fetch repository file_name) name h own = step_alike k s vehicles at (Fetch repository file_name) name h (fetch_alike k s vehicles at repository file_name name h)
+served_alike k s vehicles at (Fetch repository file_name) name h own = step_alike k s vehicles at (Fetch repository file_name) name h (fetch_alike s vehicles at repository file_name name h)
 served_alike k s vehicles at (Deliver body) name h own = delivered_alike k s vehicles at body name h own
 
 -- a command that delivers another vehicle's manifest leaves a state that is alike

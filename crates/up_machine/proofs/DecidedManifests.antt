@@ -43,7 +43,7 @@ pub record Given (k : Rules) (s : State) (at : ℕ) (incoming : Incoming) (rows 
   pub sound : IsSound k s
   pub moment : at ≤ last_command_moment
   pub read : IsRead incoming
-  pub of_state : AreRowsFor k s incoming.manifest rows
+  pub of_state : AreRowsFor s incoming.manifest rows
 
 -- ---- before the vehicle is known
 
@@ -151,7 +151,7 @@ bad_manifest bodies texts k s at incoming rows f vehicle x e given there is good
 pub is_accepted : OtherImagesChangeNothing → OffersAloneCount → BodiesAreRead → SignedTextsMean → (k : Rules) (s : State) (at : ℕ) (incoming : Incoming) (rows : DeliveryData) (f : Founding) (vehicle : VehicleRows) (x y : ⊤)
     (images : Table ImageData) (items : List Item) → ArePlanned s incoming.manifest images items → Given k s at incoming rows → rows.founding ≡ Some f → rows.vehicle ≡ Some vehicle → check_primary k vehicle incoming ≡ Ok x → repeated incoming rows.kept ≡ None
     → check_new_of k vehicle incoming.manifest ≡ Ok y → vehicle.vehicle.last < incoming.manifest.counter
-    → GivesDelivered k s incoming.manifest.vehicle (Ok (Accepted (accepted_rows k f vehicle at incoming images items))) (decide_incoming k s at incoming)
+    → GivesDelivered s incoming.manifest.vehicle (Ok (Accepted (accepted_rows k f vehicle at incoming images items))) (decide_incoming k s at incoming)
 is_accepted others offers bodies texts k s at incoming rows f vehicle x y images items planned given there is good fresh passes later =
     let h = by_vehicle s incoming rows.vehicle vehicle given.of_state.vehicle is in
     let d : Received = record { vehicle = h.v; incoming = incoming } in
@@ -165,5 +165,5 @@ is_accepted others offers bodies texts k s at incoming rows f vehicle x y images
     (λ file image is. (given.sound.repositories.each_image file image is).named)
     ∙ accepted_alike offers k f (rows_of incoming.manifest.vehicle h.v) at incoming images all items (λ hardware image. sym (planned.items_are hardware image))
     ∙ ap (λ r. accepted_rows k f r at incoming images items) h.same in
-    subst (λ a. GivesDelivered k s incoming.manifest.vehicle (Ok (Accepted a)) (decide_incoming k s at incoming)) same
-    (h.v, entry_of s at d, h.there, comes ∙ ap (λ reply. Ok (record { answer = Replied reply; next = with_entry s incoming.manifest.vehicle h.v (entry_of s at d) })) (sym (ap reply_kept has.kept)), has)
+    subst (λ a. GivesDelivered s incoming.manifest.vehicle (Ok (Accepted a)) (decide_incoming k s at incoming)) same
+    (h.v, entry_of k s at d, h.there, comes ∙ ap (λ reply. Ok (record { answer = Replied reply; next = with_entry s incoming.manifest.vehicle h.v (entry_of k s at d) })) (sym (ap reply_kept has.kept)), has)

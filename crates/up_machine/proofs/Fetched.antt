@@ -6,7 +6,6 @@ use Rattle.up_canon.specs.Moments.{last_command_moment}
 use Rattle.up_canon.specs.Names.{Name}
 use Rattle.up_canon.specs.Steps.{refuse_if, or_error}
 use Rattle.up_canon.specs.declared.refusal.Refusal.TheVariants.{MomentOutOfRange, NotFounded, UnknownFile}
-use Rattle.up_sign.specs.Schemes.{Rules}
 use Rattle.up_roles.specs.declared.repository.Repository.{Repository}
 use Rattle.up_machine.specs.declared.answer.Answer.TheVariants.{File}
 use Rattle.up_machine.specs.State.{State}
@@ -20,20 +19,20 @@ use Rattle.up_machine.proofs.FoundedRow.{check_by, founded_by_mark}
 pub in_time : (at : ℕ) → at ≤ last_command_moment → check_moment at ≡ Ok tt
 in_time at h = let test : nat_lt last_command_moment at ≡ false = grind (arith, nat_tests) in ap (λ b. refuse_if b MomentOutOfRange) test
 
-pub fetch_unfounded : (k : Rules) (s : State) (at : ℕ) (repository : Repository) (name : Name) → at ≤ last_command_moment → false ≡ is_some (founding_row s)
-    → decide_fetch k s at repository name ≡ Err NotFounded
+pub fetch_unfounded : (s : State) (at : ℕ) (repository : Repository) (name : Name) → at ≤ last_command_moment → false ≡ is_some (founding_row s)
+    → decide_fetch s at repository name ≡ Err NotFounded
 unfolding decide_fetch
-fetch_unfounded k s at repository name moment none =
+fetch_unfounded s at repository name moment none =
     bind-ok _ _ tt (in_time at moment) ∙ bind-err _ _ NotFounded (founded_by_mark s ∙ ap check_by (sym none))
 
-pub fetch_unknown : (k : Rules) (s : State) (at : ℕ) (repository : Repository) (name : Name) → at ≤ last_command_moment → true ≡ is_some (founding_row s)
-    → None ≡ file k s repository name → decide_fetch k s at repository name ≡ Err UnknownFile
+pub fetch_unknown : (s : State) (at : ℕ) (repository : Repository) (name : Name) → at ≤ last_command_moment → true ≡ is_some (founding_row s)
+    → None ≡ file s repository name → decide_fetch s at repository name ≡ Err UnknownFile
 unfolding decide_fetch
-fetch_unknown k s at repository name moment some none =
+fetch_unknown s at repository name moment some none =
     bind-ok _ _ tt (in_time at moment) ∙ bind-ok _ _ tt (founded_by_mark s ∙ ap check_by (sym some)) ∙ bind-err _ _ UnknownFile (ap (or_error UnknownFile) (sym none))
 
-pub fetch_found : (k : Rules) (s : State) (at : ℕ) (repository : Repository) (name : Name) (text : List ℕ) → at ≤ last_command_moment → true ≡ is_some (founding_row s)
-    → Some text ≡ file k s repository name → decide_fetch k s at repository name ≡ Ok (record { answer = File text; next = s })
+pub fetch_found : (s : State) (at : ℕ) (repository : Repository) (name : Name) (text : List ℕ) → at ≤ last_command_moment → true ≡ is_some (founding_row s)
+    → Some text ≡ file s repository name → decide_fetch s at repository name ≡ Ok (record { answer = File text; next = s })
 unfolding decide_fetch
-fetch_found k s at repository name text moment some there =
+fetch_found s at repository name text moment some there =
     bind-ok _ _ tt (in_time at moment) ∙ bind-ok _ _ tt (founded_by_mark s ∙ ap check_by (sym some)) ∙ bind-ok _ _ text (ap (or_error UnknownFile) (sym there))

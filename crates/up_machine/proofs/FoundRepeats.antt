@@ -24,8 +24,8 @@ use Rattle.up_machine.specs.ManifestRows.{repeated}
 use Rattle.up_canon.proofs.Steps.{bind-ok, one_value}
 use Rattle.up_machine.proofs.Lists.{none_passes}
 use Rattle.up_machine.proofs.Counters.{told_apart}
-use Rattle.up_machine.proofs.Places.{nth_at_place}
-use Rattle.up_machine.proofs.Repeating.{place_of, found_by_counter, repeat_received}
+use Rattle.up_machine.proofs.Places.{nth_at_place, place_of}
+use Rattle.up_machine.proofs.Repeating.{found_by_counter, repeat_received}
 use Rattle.up_machine.proofs.Fetched.{in_time}
 
 -- ---- an entry by a test
@@ -72,13 +72,13 @@ resolve_kept k s at d (Some row) = Ok (record { answer = Replied (reply_kept row
 resolve_kept k s at d None = decide_received k s at d
 
 -- what is kept of the manifest's counter
-abbrev kept_of_found : Rules → State → Received → Option (ℕ × Entry) → Option Kept
-kept_of_found k s d found = option_map (λ e. kept_row k s d.incoming.manifest.vehicle e.0 e.1) found
+abbrev kept_of_found : Received → Option (ℕ × Entry) → Option Kept
+kept_of_found d found = option_map (λ e. kept_row d.incoming.manifest.vehicle e.0 e.1) found
 
-kept_found : (k : Rules) (s : State) (d : Received) → table.get s.vehicles d.incoming.manifest.vehicle ≡ Some d.vehicle
-    → kept_at k s d.incoming.manifest.vehicle d.incoming.manifest.counter ≡ kept_of_found k s d (find (λ e. e.1.counter == d.incoming.manifest.counter) (enumerate_from 1 d.vehicle.entries))
-kept_found k s d there =
-    ap (option_and_then (λ (v : Vehicle). option_map (λ e. kept_row k s d.incoming.manifest.vehicle e.0 e.1) (find (λ e. e.1.counter == d.incoming.manifest.counter) (enumerate_from 1 v.entries)))) there
+kept_found : (s : State) (d : Received) → table.get s.vehicles d.incoming.manifest.vehicle ≡ Some d.vehicle
+    → kept_at s d.incoming.manifest.vehicle d.incoming.manifest.counter ≡ kept_of_found d (find (λ e. e.1.counter == d.incoming.manifest.counter) (enumerate_from 1 d.vehicle.entries))
+kept_found s d there =
+    ap (option_and_then (λ (v : Vehicle). option_map (λ e. kept_row d.incoming.manifest.vehicle e.0 e.1) (find (λ e. e.1.counter == d.incoming.manifest.counter) (enumerate_from 1 v.entries)))) there
 
 same_number : (a b : ℕ) → (a == b) ≡ true → a ≡ b
 same_number a b h = grind (arith, nat_tests)
@@ -109,7 +109,7 @@ no_repeat d (Some r) none = absurd (none r refl)
 
 by_found : (k : Rules) (s : State) (at : ℕ) (d : Received) → Tells k s d → (o : Option (ℕ × Entry))
     → find (λ e. e.1.counter == d.incoming.manifest.counter) (enumerate_from 1 d.vehicle.entries) ≡ o
-    → resolve k s at d (repeat_in d) ≡ resolve_kept k s at d (repeated d.incoming (kept_of_found k s d o))
+    → resolve k s at d (repeat_in d) ≡ resolve_kept k s at d (repeated d.incoming (kept_of_found d o))
 by_found k s at d law None none =
     ap (resolve k s at d) (no_repeat d (repeat_in d) (λ r is.
     let l = law.there r is in
@@ -118,7 +118,7 @@ by_found k s at d law None none =
 by_found k s at d law (Some x) some = by_text (bytes_eq x.1.signed d.incoming.envelope.signed) refl
   where
     by_text : (b : Bool) → bytes_eq x.1.signed d.incoming.envelope.signed ≡ b
-        → resolve k s at d (repeat_in d) ≡ resolve_kept k s at d (cond b (Some (kept_row k s d.incoming.manifest.vehicle x.0 x.1)) None)
+        → resolve k s at d (repeat_in d) ≡ resolve_kept k s at d (cond b (Some (kept_row d.incoming.manifest.vehicle x.0 x.1)) None)
     by_text true is =
         let found = found_at (λ e. e.counter == d.incoming.manifest.counter) 1 d.vehicle.entries x some in
         ap (resolve k s at d) (law.found x.0 x.1 (nth_at_place d.vehicle.entries x.0 found.place x.1 found.number found.there) ((bytes_decides x.1.signed d.incoming.envelope.signed).0 is))
@@ -135,8 +135,8 @@ by_found k s at d law (Some x) some = by_text (bytes_eq x.1.signed d.incoming.en
 
 pub resolved : BodiesAreRead → SignedTextsMean → (k : Rules) (s : State) (at : ℕ) (d : Received) (body : List ℕ) → IsSound k s → at ≤ last_command_moment → incoming_in body ≡ Ok d.incoming
     → receive_manifest k s d.incoming ≡ Ok d → table.get s.vehicles d.incoming.manifest.vehicle ≡ Some d.vehicle
-    → resolve k s at d (repeat_in d) ≡ resolve_kept k s at d (repeated d.incoming (kept_at k s d.incoming.manifest.vehicle d.incoming.manifest.counter))
+    → resolve k s at d (repeat_in d) ≡ resolve_kept k s at d (repeated d.incoming (kept_at s d.incoming.manifest.vehicle d.incoming.manifest.counter))
 resolved bodies texts k s at d body sound moment reads received there =
     let law = tells bodies texts k s at d body sound (in_body k s at d.incoming d body moment reads received) there in
     by_found k s at d law (find (λ e. e.1.counter == d.incoming.manifest.counter) (enumerate_from 1 d.vehicle.entries)) refl
-    ∙ ap (λ o. resolve_kept k s at d (repeated d.incoming o)) (sym (kept_found k s d there))
+    ∙ ap (λ o. resolve_kept k s at d (repeated d.incoming o)) (sym (kept_found s d there))

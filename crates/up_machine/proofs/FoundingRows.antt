@@ -1,10 +1,12 @@
 -- The founding's row of a state, what is due of the state that a new root version or a change of the register leaves, and its rows.
-use Rattle.std.proofs.Common.{◌≡◌, ℕ, ◌+◌, ◌-◌, ◌<◌, List, [], ◌∷◌, ◌++◌, false, Option, Some, None, Result, Ok, Err, length, refl, sym, ap, ◌∙◌, subst, arith}
+use Rattle.std.proofs.Common.{◌≡◌, ℕ, ◌+◌, List, [], ◌∷◌, ◌++◌, true, false, Option, Some, None, Result, Ok, Err, length, refl, sym, ap, ap₂, ◌∙◌, subst}
 use Rattle.std.specs.Prelude.{option_map, map, is_some, IfOk}
 use Rattle.std.specs.FinMap as table
 use Rattle.std.proofs.lemmas.List.{length-append}
+use Rattle.std.proofs.lemmas.Option.{same_Some}
 use Rattle.up_canon.specs.Names.{Table}
 use Rattle.up_sign.specs.Schemes.{Rules}
+use Rattle.up_roles.specs.declared.repository.Repository.{Repository}
 use Rattle.up_roles.specs.declared.repository.Repository.TheVariants.{Director, Image}
 use Rattle.up_roles.specs.declared.targets.Target.{Target}
 use Rattle.up_plan.specs.Images.{ImageData}
@@ -16,115 +18,79 @@ use Rattle.up_machine.specs.declared.rows.Founding.{Founding}
 use Rattle.up_machine.specs.declared.decision.NextRoot.{NextRoot}
 use Rattle.up_machine.specs.declared.decision.RegisterRows.{RegisterRows}
 use Rattle.up_machine.specs.declared.decision.RootRows.{RootRows}
-use Rattle.up_machine.specs.State.{State, nth, root_at}
-use Rattle.up_machine.specs.Files.{image_metadata, target_of}
+use Rattle.up_machine.specs.State.{Chain, State, is_founded, chain_of, root_number, key_set, keys_before, last_text}
+use Rattle.up_machine.specs.Files.{target_of}
 use Rattle.up_machine.specs.Rows.{founding_row}
-use Rattle.up_machine.specs.Repositories.{stamped, with_root}
+use Rattle.up_machine.specs.Repositories.{next_chain, with_root, stamped}
 use Rattle.up_machine.specs.Decisions.{HasRootRows, HasRegisterRows}
-use Rattle.up_machine.specs.Due.{row_with_root, HasRoot, HasFounding}
-use Rattle.up_canon.proofs.Steps.{map_some}
-use Rattle.up_machine.proofs.Signing.{nth_there}
-use Rattle.up_machine.proofs.Places.{nth_stays, nth_last}
-
--- the row where this is the last root
-abbrev row_of : State → Root → Founding
-row_of s root = record { root = length s.roots; keys = root.keys; image_version = s.image_version; stamp = s.stamp }
+use Rattle.up_machine.specs.Due.{row_with_root, HasNewFiles, HasRoot, HasFounding}
+use Rattle.up_machine.proofs.FoundedRow.{row_of}
+use Rattle.up_machine.proofs.Places.{nth_last}
 
 -- ---- what the row says of the state
 
-pub record IsFoundingOf (s : State) (f : Founding) : Type 0 where
-  pub root : Root
-  pub there : root_at s (length s.roots) ≡ Some root
-  pub is : f ≡ row_of s root
+pub founding_of : (s : State) (f : Founding) → Some f ≡ founding_row s → (is_founded s ≡ true) × (f ≡ row_of s)
+founding_of s f h = by_files s.files h
+  where
+    by_files : (o : Option RoleTexts) → Some f ≡ option_map (λ files. row_of s) o → (is_some o ≡ true) × (f ≡ row_of s)
+    by_files None h = cc
+    by_files (Some files) h = (refl, same_Some f (row_of s) h)
 
-pub founding_of : (s : State) (f : Founding) → Some f ≡ founding_row s → IsFoundingOf s f
-founding_of s f h =
-    let found = map_some (row_of s) (root_at s (length s.roots)) f (sym h) in
-    record { root = found.0; there = found.1; is = sym found.2 }
+pub has_files : (s : State) (f : Founding) → Some f ≡ founding_row s → is_founded s ≡ true
+has_files s f h = (founding_of s f h).0
 
-no_roots : (f : Root → Founding) (roots : List Root) → None ≡ option_map f (nth roots (length roots)) → length roots ≡ 0
-no_roots f [] h = refl
-no_roots f (root ∷ roots) h =
-    let last = nth_there (root ∷ roots) (length (root ∷ roots)) (omega arith) (omega arith) in
-    let some : option_map f (nth (root ∷ roots) (length (root ∷ roots))) ≡ Some (f last.0) = ap (option_map f) last.1 in
-    let clash : None ≡ Some (f last.0) = h ∙ some in
-    cc
+-- no row, no files
+pub unfounded : (s : State) → None ≡ founding_row s → s.files ≡ None
+unfounded s h = by_files s.files h
+  where
+    by_files : (o : Option RoleTexts) → None ≡ option_map (λ files. row_of s) o → o ≡ None
+    by_files None h = refl
+    by_files (Some files) h = cc
 
 pub none_there : {A : Type 0} (o : Option A) → is_some o ≡ false → o ≡ None
 none_there None h = refl
 none_there (Some x) h = cc
 
--- no row, no root
-pub unfounded : (s : State) → None ≡ founding_row s → length s.roots ≡ 0
-unfounded s h = no_roots (row_of s) s.roots h
-
-some_root : (roots : List Root) (root : Root) → nth roots (length roots) ≡ Some root → 0 < length roots
-some_root [] root h = cc
-some_root (x ∷ roots) root h = omega arith
-
-pub has_roots : (s : State) (f : Founding) → Some f ≡ founding_row s → 0 < length s.roots
-has_roots s f h = let of = founding_of s f h in some_root s.roots of.root of.there
-
-pub root_number : (s : State) (f : Founding) → Some f ≡ founding_row s → f.root ≡ length s.roots
-root_number s f h = ap (λ (f : Founding). f.root) (founding_of s f h).is
+pub root_number_is : (s : State) (f : Founding) → Some f ≡ founding_row s → f.root ≡ root_number s
+root_number_is s f h = ap (λ (f : Founding). f.root) (founding_of s f h).1
 
 pub version_number : (s : State) (f : Founding) → Some f ≡ founding_row s → f.image_version ≡ s.image_version
-version_number s f h = ap (λ (f : Founding). f.image_version) (founding_of s f h).is
+version_number s f h = ap (λ (f : Founding). f.image_version) (founding_of s f h).1
 
--- ---- one root more
-
-one_more : {A : Type 0} (xs : List A) (x : A) → length (xs ++ x ∷ []) ≡ 1 + length xs
-one_more xs x = length-append xs (x ∷ []) ∙ swapped (length xs)
+pub old_before : (s : State) (f : Founding) → Some f ≡ founding_row s → Some f.keys ≡ keys_before s
+old_before s f h = ap (option_map (λ (f : Founding). f.keys)) h ∙ by_files s.files
   where
-    swapped : (n : ℕ) → n + 1 ≡ 1 + n
-    swapped n = omega arith
-
-one_less : {A : Type 0} (xs : List A) (x : A) → length (xs ++ x ∷ []) - 1 ≡ length xs
-one_less xs x = let more = one_more xs x in omega (arith, more)
-
--- the number of the new root
-pub new_number : (s : State) (at : ℕ) (keys : KeySet) → length (with_root s at keys).roots ≡ 1 + length s.roots
-new_number s at keys = one_more s.roots (record { keys = keys; at = at })
-
--- the root of the number before it
-abbrev pub root_before : State → ℕ → KeySet → Option Root
-root_before s at keys = root_at (with_root s at keys) (length (with_root s at keys).roots - 1)
-
-pub none_before : (s : State) (at : ℕ) (keys : KeySet) → length s.roots ≡ 0 → option_map (λ r. r.keys) (root_before s at keys) ≡ None
-none_before s at keys none =
-    let first : length (with_root s at keys).roots - 1 ≡ 0 = one_less s.roots (record { keys = keys; at = at }) ∙ none in
-    ap (λ n. option_map (λ (r : Root). r.keys) (nth (with_root s at keys).roots n)) first
-
-pub old_before : (s : State) (at : ℕ) (keys : KeySet) (f : Founding) → Some f ≡ founding_row s → option_map (λ r. r.keys) (root_before s at keys) ≡ Some f.keys
-old_before s at keys f h =
-    let of = founding_of s f h in
-    ap (λ n. option_map (λ (r : Root). r.keys) (nth (with_root s at keys).roots n)) (one_less s.roots (record { keys = keys; at = at }))
-    ∙ ap (option_map (λ (r : Root). r.keys)) (nth_stays s.roots _ (length s.roots) of.root of.there)
-    ∙ ap (λ (f : Founding). Some f.keys) (sym of.is)
+    by_files : (o : Option RoleTexts) → option_map (λ (f : Founding). f.keys) (option_map (λ files. row_of s) o) ≡ option_map (λ files. key_set s) o
+    by_files None = refl
+    by_files (Some files) = refl
 
 -- ---- what is due
 
-pub root_is_due : (s : State) (at : ℕ) (keys : KeySet) (version number : ℕ) (hashed : HashedKeySet) (before : Option KeySet) → number ≡ 1 + length s.roots → option_map (λ r. r.keys) (root_before s at keys) ≡ before
-    → HasRoot (stamped (with_root s at keys) at version) at keys (record { number = number; version = version; hashed = hashed; before = before })
-root_is_due s at keys version number hashed before is old =
-    let next = stamped (with_root s at keys) at version in
-    let root : Root = record { keys = keys; at = at } in
-    let last : root_at next (length next.roots) ≡ Some root = nth_last s.roots root in record {
-      root = last;
-      founding = ap (option_map (row_of next)) last ∙ ap (λ n. Some (row_with_root at keys (record { number = n; version = version; hashed = hashed; before = before }))) (new_number s at keys ∙ sym is);
-      before = old;
-    }
+-- the text of the new root version is the last one
+new_text : (k : Rules) (repository : Repository) (s : State) (at : ℕ) (keys : KeySet) (number : ℕ) (before : Option KeySet) → number ≡ length (chain_of repository s).texts + 1 → before ≡ keys_before s
+    → last_text (next_chain k repository s at keys).texts ≡ Some (root_text k repository number (record { keys = keys; at = at }) before)
+new_text k repository s at keys number before is old =
+    nth_last (chain_of repository s).texts _
+    ∙ ap₂ (λ n b. Some (root_text k repository n (record { keys = keys; at = at }) b)) (sym is) (sym old)
+
+pub root_is_due : (k : Rules) (s : State) (at : ℕ) (keys : KeySet) (version number : ℕ) (hashed : HashedKeySet) (before : Option KeySet) → number ≡ root_number s + 1 → length s.image.texts ≡ root_number s → before ≡ keys_before s
+    → HasRoot k (stamped k (with_root k s at keys) at version) at keys (record { number = number; version = version; hashed = hashed; before = before })
+root_is_due k s at keys version number hashed before is same old = record {
+  founding = ap {B = Option Founding} (λ n. Some (record { root = n; keys = keys; image_version = version; stamp = at })) (length-append s.director.texts (_ ∷ []) ∙ sym is);
+  director = new_text k Director s at keys number before is old;
+  image = new_text k Image s at keys number before (is ∙ ap (λ n. n + 1) (sym same)) old;
+  files = refl;
+}
 
 -- the founding's row with new files of the image repository
 abbrev pub row_with : Founding → ℕ → ℕ → Founding
 row_with f version at = record { root = f.root; keys = f.keys; image_version = version; stamp = at }
 
-pub files_are_due : (s : State) (images : Table ImageData) (at version : ℕ) (f : Founding) → founding_row s ≡ Some f
-    → HasFounding (stamped (record s { images = images }) at version) (row_with f version at)
-files_are_due s images at version f h =
-    let of = founding_of s f (sym h) in
-    let next = stamped (record s { images = images }) at version in
-    subst (λ f. HasFounding next (row_with f version at)) (sym of.is) (ap (option_map (row_of next)) of.there)
+pub files_are_due : (k : Rules) (s : State) (images : Table ImageData) (at version : ℕ) (f : Founding) → founding_row s ≡ Some f
+    → HasFounding (stamped k (record s { images = images }) at version) (row_with f version at)
+files_are_due k s images at version f h =
+    let next = stamped k (record s { images = images }) at version in
+    subst (λ f. HasFounding next (row_with f version at)) (sym (founding_of s f (sym h)).1) refl
 
 -- ---- the rows of what is due
 
@@ -135,14 +101,13 @@ metadata_of f targets = record { repository = Image; keys = f.keys; vehicle = No
 abbrev pub files_of : Rules → Founding → List ImageData → RoleTexts
 files_of k f images = role_texts k (metadata_of f (map (target_of None) images))
 
-pub register_rows_hold : (k : Rules) (next : State) (f : Founding) → HasFounding next f → HasRegisterRows k next (record { founding = f; files = files_of k f (table.values next.images) })
-register_rows_hold k next f has =
-    let of = founding_of next f (sym has) in record {
-      founding = has;
-      files = ap (option_map (λ r. role_texts k (image_metadata next r))) of.there ∙ ap (λ f. Some (files_of k f (table.values next.images))) (sym of.is);
-    }
+new_files_are : (k : Rules) (next : State) (f : Founding) → founding_row next ≡ Some f → HasNewFiles k next → next.files ≡ Some (files_of k f (table.values next.images))
+new_files_are k next f has made = made ∙ ap (λ f. Some (files_of k f (table.values next.images))) (sym (founding_of next f (sym has)).1)
 
-abbrev pub root_rows_of : Rules → ℕ → KeySet → NextRoot → Option Root → List ImageData → RootRows
+pub register_rows_hold : (k : Rules) (next : State) (f : Founding) → HasFounding next f → HasNewFiles k next → HasRegisterRows next (record { founding = f; files = files_of k f (table.values next.images) })
+register_rows_hold k next f has made = record { founding = has; files = new_files_are k next f has made }
+
+abbrev pub root_rows_of : Rules → ℕ → KeySet → NextRoot → Option KeySet → List ImageData → RootRows
 root_rows_of k at keys new before images = record {
   founding = row_with_root at keys new;
   director = root_text k Director new.number (record { keys = keys; at = at }) before;
@@ -150,20 +115,14 @@ root_rows_of k at keys new before images = record {
   files = files_of k (row_with_root at keys new) images;
 }
 
-pub root_rows_hold : (k : Rules) (next : State) (at : ℕ) (keys : KeySet) (new : NextRoot) → HasRoot next at keys new
-    → HasRootRows k next (root_rows_of k at keys new (root_at next (length next.roots - 1)) (table.values next.images))
-root_rows_hold k next at keys new has =
-    let of = founding_of next (row_with_root at keys new) (sym has.founding) in
-    let number : new.number ≡ length next.roots = ap (λ f. f.root) of.is in
-    let before = root_at next (length next.roots - 1) in
-    let root : Root = record { keys = keys; at = at } in record {
-      founding = has.founding;
-      root = root;
-      there = has.root;
-      director = ap (λ n. root_text k Director n root before) number;
-      image = ap (λ n. root_text k Image n root before) number;
-      files = (register_rows_hold k next (row_with_root at keys new) has.founding).files;
-    }
+pub root_rows_hold : (k : Rules) (next : State) (at : ℕ) (keys : KeySet) (new : NextRoot) → HasRoot k next at keys new
+    → HasRootRows next (root_rows_of k at keys new new.before (table.values next.images))
+root_rows_hold k next at keys new has = record {
+  founding = has.founding;
+  director = has.director;
+  image = has.image;
+  files = new_files_are k next (row_with_root at keys new) has.founding has.files;
+}
 
 -- what is made of the targets of these images
 pub of_targets : {E : Type 0} (k : Rules) (f : Founding) (images : List ImageData) (targets : List Target) → targets ≡ map (target_of None) images → (result : Result RegisterRows E)
@@ -172,14 +131,14 @@ of_targets k f images targets are (Ok rows) is = is ∙ ap (λ ts. record { foun
 of_targets k f images targets are (Err e) is = tt
 
 -- what is made of these images
-pub register_rows_are : {E : Type 0} (k : Rules) (next : State) (f : Founding) → HasFounding next f → (images : List ImageData) → images ≡ table.values next.images → (result : Result RegisterRows E)
-    → IfOk result (λ rows. rows ≡ record { founding = f; files = files_of k f images }) → IfOk result (λ rows. HasRegisterRows k next rows)
-register_rows_are k next f has images are (Ok rows) is =
-    subst (HasRegisterRows k next) (sym (is ∙ ap (λ xs. record { founding = f; files = files_of k f xs }) are)) (register_rows_hold k next f has)
-register_rows_are k next f has images are (Err e) is = tt
+pub register_rows_are : {E : Type 0} (k : Rules) (next : State) (f : Founding) → HasFounding next f → HasNewFiles k next → (images : List ImageData) → images ≡ table.values next.images → (result : Result RegisterRows E)
+    → IfOk result (λ rows. rows ≡ record { founding = f; files = files_of k f images }) → IfOk result (λ rows. HasRegisterRows next rows)
+register_rows_are k next f has made images are (Ok rows) is =
+    subst (HasRegisterRows next) (sym (is ∙ ap (λ xs. record { founding = f; files = files_of k f xs }) are)) (register_rows_hold k next f has made)
+register_rows_are k next f has made images are (Err e) is = tt
 
-pub root_rows_are : {E : Type 0} (k : Rules) (next : State) (at : ℕ) (keys : KeySet) (new : NextRoot) → HasRoot next at keys new → (images : List ImageData) → images ≡ table.values next.images → (result : Result RootRows E)
-    → IfOk result (λ rows. rows ≡ root_rows_of k at keys new (root_at next (length next.roots - 1)) images) → IfOk result (λ rows. HasRootRows k next rows)
+pub root_rows_are : {E : Type 0} (k : Rules) (next : State) (at : ℕ) (keys : KeySet) (new : NextRoot) → HasRoot k next at keys new → (images : List ImageData) → images ≡ table.values next.images → (result : Result RootRows E)
+    → IfOk result (λ rows. rows ≡ root_rows_of k at keys new new.before images) → IfOk result (λ rows. HasRootRows next rows)
 root_rows_are k next at keys new has images are (Ok rows) is =
-    subst (HasRootRows k next) (sym (is ∙ ap (root_rows_of k at keys new (root_at next (length next.roots - 1))) are)) (root_rows_hold k next at keys new has)
+    subst (HasRootRows next) (sym (is ∙ ap (root_rows_of k at keys new new.before) are)) (root_rows_hold k next at keys new has)
 root_rows_are k next at keys new has images are (Err e) is = tt

@@ -8,18 +8,17 @@ use Rattle.up_canon.specs.Names.{Name, Table}
 use Rattle.up_canon.specs.declared.refusal.Refusal.{Refusal}
 use Rattle.up_sign.specs.Schemes.{Rules}
 use Rattle.up_plan.specs.Images.{ImageData}
-use Rattle.up_metadata.specs.Files.{Root}
 use Rattle.up_machine.specs.declared.command.Command.{Command}
 use Rattle.up_machine.specs.declared.command.Command.TheVariants.{Found, Rotate, AddImage, Refresh, AddVehicle, ReplaceEcu, OpenCampaign, CloseCampaign, Deliver, Fetch}
 use Rattle.up_machine.specs.Vehicles.{NewVehicleData, has_ecu, is_among, in_place_of}
 use Rattle.up_machine.specs.declared.vehicle.NewEcu.{NewEcu}
 use Rattle.up_machine.specs.declared.vehicle.Replacement.{Replacement}
-use Rattle.up_machine.specs.State.{Entry, Vehicle, State, is_taken_in}
+use Rattle.up_machine.specs.State.{Chain, Entry, Vehicle, State, is_taken_in}
 use Rattle.up_machine.specs.Deciding.{Outcome, already}
 use Rattle.up_machine.specs.Inventory.{with_vehicle, with_replaced, with_replacement}
 use Rattle.up_machine.specs.Deliveries.{with_entry}
 use Rattle.up_machine.specs.Machine.{decide, outcome_of, step}
-use Rattle.up_machine.specs.Laws.{IsLaterVehicle, IsLater, LaterIsReflexive, LaterIsTransitive, StepsGrow, RunsGrow}
+use Rattle.up_machine.specs.Laws.{IsLaterVehicle, IsLaterChain, IsLater, LaterIsReflexive, LaterIsTransitive, StepsGrow, RunsGrow}
 use Rattle.up_canon.proofs.Steps.{one_value}
 use Rattle.up_machine.proofs.Tables.{one_name, get_new, kept_by_insert}
 use Rattle.up_machine.proofs.Decided.{found_ok, rotate_ok, image_ok, refresh_ok, vehicle_ok, replace_ok, open_ok, close_ok, delivery_ok, fetch_ok}
@@ -34,18 +33,25 @@ by_decision s (Err e) P here go = here
 pub same_later : (v : Vehicle) → IsLaterVehicle v v
 same_later v = record { primary = refl; more_entries = []; entries = sym (append-nil v.entries); more_retired = []; retired = sym (append-nil v.retired); taken = λ ecu h. h }
 
-pub later_with : (s next : State) (more : List Root) → next.roots ≡ s.roots ++ more
+-- the same root versions
+pub same_chain : (chain : Chain) → IsLaterChain chain chain
+same_chain chain = ([], sym (append-nil chain.texts))
+
+both_chains : (a b c : Chain) → IsLaterChain a b → IsLaterChain b c → IsLaterChain a c
+both_chains a b c first second = (first.0 ++ second.0, second.1 ∙ ap (λ ts. ts ++ second.0) first.1 ∙ append_assoc a.texts first.0 second.0)
+
+pub later_with : (s next : State) → IsLaterChain s.director next.director → IsLaterChain s.image next.image
     → ((file : Name) (image : ImageData) → table.get s.images file ≡ Some image → table.get next.images file ≡ Some image)
     → ((name : Name) (v : Vehicle) → table.get s.vehicles name ≡ Some v → table.get next.vehicles name ≡ Some v) → IsLater s next
-later_with s next more roots images vehicles = record {
-  more_roots = more;
-  roots = roots;
+later_with s next director image images vehicles = record {
+  director = director;
+  image = image;
   images = images;
   vehicles = λ name v there. (v, vehicles name v there, same_later v);
 }
 
 pub itself : LaterIsReflexive
-itself s = later_with s s [] (sym (append-nil s.roots)) (λ file image h. h) (λ name v h. h)
+itself s = later_with s s (same_chain s.director) (same_chain s.image) (λ file image h. h) (λ name v h. h)
 
 both_later : (v w x : Vehicle) → IsLaterVehicle v w → IsLaterVehicle w x → IsLaterVehicle v x
 both_later v w x a b = record {
@@ -59,8 +65,8 @@ both_later v w x a b = record {
 
 pub onward : LaterIsTransitive
 onward s t u a b = record {
-  more_roots = a.more_roots ++ b.more_roots;
-  roots = b.roots ∙ ap (λ rs. rs ++ b.more_roots) a.roots ∙ append_assoc s.roots a.more_roots b.more_roots;
+  director = both_chains s.director t.director u.director a.director b.director;
+  image = both_chains s.image t.image u.image a.image b.image;
   images = λ file image h. b.images file image (a.images file image h);
   vehicles = λ name v h.
       let first = a.vehicles name v h in
@@ -70,21 +76,21 @@ onward s t u a b = record {
 
 -- ---- each outcome
 
-grown_image : (s : State) (image : ImageData) (next : State) → table.get s.images image.file ≡ None → next.roots ≡ s.roots → next.vehicles ≡ s.vehicles
+grown_image : (s : State) (image : ImageData) (next : State) → table.get s.images image.file ≡ None → next.director ≡ s.director → next.image ≡ s.image → next.vehicles ≡ s.vehicles
     → next.images ≡ table.insert s.images image.file image → IsLater s next
-grown_image s image next new roots vehicles images =
-    later_with s next [] (roots ∙ sym (append-nil s.roots))
+grown_image s image next new director image_chain vehicles images =
+    later_with s next (subst (IsLaterChain s.director) (sym director) (same_chain s.director)) (subst (IsLaterChain s.image) (sym image_chain) (same_chain s.image))
     (λ file old there. ap (λ (t : Table ImageData). table.get t file) images ∙ kept_by_insert s.images image.file file image old new there)
     (λ name v there. ap (λ (t : Table Vehicle). table.get t name) vehicles ∙ there)
 
 grown_vehicle : (s : State) (new : NewVehicleData) → table.get s.vehicles new.vehicle ≡ None → IsLater s (with_vehicle s new)
 grown_vehicle s new none =
-    later_with s (with_vehicle s new) [] (sym (append-nil s.roots)) (λ file image h. h) (λ name v there. kept_by_insert s.vehicles new.vehicle name _ v none there)
+    later_with s (with_vehicle s new) (same_chain s.director) (same_chain s.image) (λ file image h. h) (λ name v there. kept_by_insert s.vehicles new.vehicle name _ v none there)
 
 pub grown_entries : (s : State) (name : Name) (v : Vehicle) (e : Entry) → table.get s.vehicles name ≡ Some v → IsLater s (with_entry s name v e)
 grown_entries s name v e found = record {
-  more_roots = [];
-  roots = sym (append-nil s.roots);
+  director = same_chain s.director;
+  image = same_chain s.image;
   images = λ file old there. there;
   vehicles = λ q w there. by_test q w there (eq_by_cmp (slice_cmp nat_cmp) q name) refl;
 }
@@ -148,8 +154,8 @@ replaced_later v old new = record { primary = refl; more_entries = []; entries =
 
 pub grown_replacement : (s : State) (r : Replacement) (v : Vehicle) → table.get s.vehicles r.vehicle ≡ Some v → IsLater s (with_replacement s r v)
 grown_replacement s r v found = record {
-  more_roots = [];
-  roots = sym (append-nil s.roots);
+  director = same_chain s.director;
+  image = same_chain s.image;
   images = λ file old there. there;
   vehicles = λ q w there. by_test q w there (eq_by_cmp (slice_cmp nat_cmp) q r.vehicle) refl;
 }
@@ -164,19 +170,19 @@ grown_replacement s r v found = record {
 unchanged : (s : State) (o : Outcome) → already s ≡ o → IsLater s o.next
 unchanged s o h = subst (λ (o : Outcome). IsLater s o.next) h (itself s)
 
-same_vehicles : (s next : State) (more : List Root) → next.roots ≡ s.roots ++ more → next.images ≡ s.images → next.vehicles ≡ s.vehicles → IsLater s next
-same_vehicles s next more roots images vehicles = later_with s next more roots
+same_vehicles : (s next : State) → IsLaterChain s.director next.director → IsLaterChain s.image next.image → next.images ≡ s.images → next.vehicles ≡ s.vehicles → IsLater s next
+same_vehicles s next director image images vehicles = later_with s next director image
     (λ file image there. ap (λ (t : Table ImageData). table.get t file) images ∙ there)
     (λ name v there. ap (λ (t : Table Vehicle). table.get t name) vehicles ∙ there)
 
 pub grow_outcome : (k : Rules) (s : State) (at : ℕ) (c : Command) (o : Outcome) → decide k s at c ≡ Ok o → IsLater s o.next
-grow_outcome k s at (Found keys) o h = subst (λ (o : Outcome). IsLater s o.next) (found_ok k s at keys o h).is (same_vehicles s _ _ refl refl refl)
-grow_outcome k s at (Rotate keys) o h = subst (λ (o : Outcome). IsLater s o.next) (rotate_ok k s at keys o h).is (same_vehicles s _ _ refl refl refl)
-grow_outcome k s at (AddImage image) o h = elim (image_ok s at image o h) [
+grow_outcome k s at (Found keys) o h = subst (λ (o : Outcome). IsLater s o.next) (found_ok k s at keys o h).is (same_vehicles s _ (_, refl) (_, refl) refl refl)
+grow_outcome k s at (Rotate keys) o h = subst (λ (o : Outcome). IsLater s o.next) (rotate_ok k s at keys o h).is (same_vehicles s _ (_, refl) (_, refl) refl refl)
+grow_outcome k s at (AddImage image) o h = elim (image_ok k s at image o h) [
   | inl same ↦ unchanged s o same
-  | inr new ↦ subst (λ (o : Outcome). IsLater s o.next) new.is (grown_image s image _ new.none refl refl refl)
+  | inr new ↦ subst (λ (o : Outcome). IsLater s o.next) new.is (grown_image s image _ new.none refl refl refl refl)
 ]
-grow_outcome k s at (Refresh version) o h = subst (λ (o : Outcome). IsLater s o.next) (refresh_ok s at version o h).is (same_vehicles s _ [] (sym (append-nil s.roots)) refl refl)
+grow_outcome k s at (Refresh version) o h = subst (λ (o : Outcome). IsLater s o.next) (refresh_ok k s at version o h).is (same_vehicles s _ (same_chain s.director) (same_chain s.image) refl refl)
 grow_outcome k s at (AddVehicle new) o h = elim (vehicle_ok k s at new o h) [
   | inl same ↦ unchanged s o same
   | inr is ↦ subst (λ (o : Outcome). IsLater s o.next) is.is (grown_vehicle s new is.none)
@@ -186,16 +192,16 @@ grow_outcome k s at (ReplaceEcu r) o h =
     subst (λ (o : Outcome). IsLater s o.next) is.is (grown_replacement s r is.vehicle is.there)
 grow_outcome k s at (OpenCampaign campaign) o h = elim (open_ok s at campaign o h) [
   | inl same ↦ unchanged s o same
-  | inr is ↦ subst (λ (o : Outcome). IsLater s o.next) is.is (same_vehicles s _ [] (sym (append-nil s.roots)) refl refl)
+  | inr is ↦ subst (λ (o : Outcome). IsLater s o.next) is.is (same_vehicles s _ (same_chain s.director) (same_chain s.image) refl refl)
 ]
 grow_outcome k s at (CloseCampaign name) o h = elim (close_ok s at name o h) [
   | inl same ↦ unchanged s o same
-  | inr is ↦ subst (λ (o : Outcome). IsLater s o.next) is.is (same_vehicles s _ [] (sym (append-nil s.roots)) refl refl)
+  | inr is ↦ subst (λ (o : Outcome). IsLater s o.next) is.is (same_vehicles s _ (same_chain s.director) (same_chain s.image) refl refl)
 ]
 grow_outcome k s at (Deliver body) o h =
     let is = delivery_ok k s at body o h in
     subst (λ (o : Outcome). IsLater s o.next) is.is (grown_entries s _ _ _ (received k s at body is.received is.receives).vehicle)
-grow_outcome k s at (Fetch repository name) o h = subst (λ (o : Outcome). IsLater s o.next) (fetch_ok k s at repository name o h).2 (itself s)
+grow_outcome k s at (Fetch repository name) o h = subst (λ (o : Outcome). IsLater s o.next) (fetch_ok s at repository name o h).2 (itself s)
 
 pub grow : StepsGrow
 unfolding step

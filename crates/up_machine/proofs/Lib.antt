@@ -26,6 +26,8 @@ pub mod Apart
 pub mod Separately
 pub mod Commuting
 pub mod Installing
+pub mod MadeRoots
+pub mod Making
 pub mod Signing
 pub mod Serving
 pub mod NewFiles

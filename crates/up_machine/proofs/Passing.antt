@@ -6,7 +6,6 @@ use Rattle.up_canon.specs.Names.{Name}
 use Rattle.up_canon.specs.Refusals.{is_memory}
 use Rattle.up_canon.specs.declared.refusal.Refusal.{Refusal}
 use Rattle.up_canon.specs.declared.refusal.Refusal.TheVariants.{Memory}
-use Rattle.up_sign.specs.Schemes.{Rules}
 use Rattle.up_machine.specs.declared.decision.Decision.{Decision}
 use Rattle.up_machine.specs.declared.decision.Delivered.{Delivered}
 use Rattle.up_machine.specs.State.{State}
@@ -46,8 +45,8 @@ decision_refused has s next result e computed is h =
     let (x, was, same) = err_from_is_err_and result is in
     subst (λ r. GivesDecision has s next r computed) (sym (was ∙ ap (λ x. Err x) same)) h
 
-pub delivery_refused : (k : Rules) (s : State) (name : Name) (result : Result Delivered Refusal) (e : Refusal) (computed : Result Outcome Refusal)
-    → IsErrAnd result (λ x. x ≡ e) → Refuses computed e → GivesDelivered k s name result computed
-delivery_refused k s name result e computed is h =
+pub delivery_refused : (s : State) (name : Name) (result : Result Delivered Refusal) (e : Refusal) (computed : Result Outcome Refusal)
+    → IsErrAnd result (λ x. x ≡ e) → Refuses computed e → GivesDelivered s name result computed
+delivery_refused s name result e computed is h =
     let (x, was, same) = err_from_is_err_and result is in
-    subst (λ r. GivesDelivered k s name r computed) (sym (was ∙ ap (λ x. Err x) same)) h
+    subst (λ r. GivesDelivered s name r computed) (sym (was ∙ ap (λ x. Err x) same)) h

@@ -1,5 +1,5 @@
 -- The items of a list by their place, which counts from 0, and by their number, which counts from 1.
-use Rattle.std.proofs.Common.{◌≡◌, ℕ, zero, suc, ◌+◌, ◌-◌, ◌<◌, ◌≤◌, List, [], ◌∷◌, ◌++◌, Bool, true, false, cond, Some, None, refl, ap, ◌∙◌, arith}
+use Rattle.std.proofs.Common.{◌≡◌, ℕ, zero, suc, ◌+◌, ◌-◌, ◌<◌, ◌≤◌, List, [], ◌∷◌, ◌++◌, Bool, true, false, cond, Some, None, ◌⊎◌, inl, inr, refl, sym, ap, ◌∙◌, arith}
 use Rattle.std.specs.Prelude.{length, slice_get, ◌==◌}
 use Rattle.std.proofs.lemmas.Bool.{ne_eqb}
 use Rattle.std.proofs.lemmas.List.{length-append}
@@ -41,3 +41,50 @@ pub nth_last : {A : Type 0} (xs : List A) (x : A) → nth (xs ++ x ∷ []) (leng
 nth_last xs x =
     let size = length-append xs (x ∷ []) in
     nth_at_place (xs ++ x ∷ []) (length (xs ++ x ∷ [])) (length xs) x (omega arith) (slice_get-last xs x)
+
+-- ---- within a list
+
+at_place : {A : Type 0} (ys : List A) (i : ℕ) → suc i ≤ length ys → (y : A) × (slice_get ys i ≡ Some y)
+at_place [] i h = absurd (omega arith)
+at_place (y ∷ ys) zero h = (y, refl)
+at_place (y ∷ ys) (suc i) h = at_place ys i (omega arith)
+
+pub nth_there : {A : Type 0} (xs : List A) (i : ℕ) → 1 ≤ i → i ≤ length xs → (x : A) × (nth xs i ≡ Some x)
+nth_there xs zero low high = absurd (omega arith)
+nth_there xs (suc i) low high =
+    let some = ne_eqb (suc i) 0 (λ e. omega arith) in
+    let before : suc i - 1 ≡ i = omega arith in
+    let found = at_place xs i (omega arith) in
+    (found.0, rw some (ap (slice_get xs) before ∙ found.1))
+
+pub place_of : {A : Type 0} (xs : List A) (i : ℕ) (x : A) → nth xs i ≡ Some x → (place : ℕ) × (i ≡ 1 + place) × (slice_get xs place ≡ Some x)
+place_of xs zero x h = cc
+place_of xs (suc i) x h =
+    let some = ne_eqb (suc i) 0 (λ e. omega arith) in
+    let there : slice_get xs (suc i - 1) ≡ Some x = sym (ap (λ b. cond b None (slice_get xs (suc i - 1))) some) ∙ h in
+    let before : suc i - 1 ≡ i = omega arith in
+    (i, omega arith, ap (slice_get xs) (sym before) ∙ there)
+
+-- ---- what an item of a longer list is
+
+pub nth_none : {A : Type 0} (i : ℕ) (x : A) → nth [] i ≡ Some x → ⊥
+nth_none zero x h = cc
+nth_none (suc i) x h = let place = place_of [] (suc i) x h in let none = place.2 in cc
+
+slice_get_one_more : {A : Type 0} (xs : List A) (y x : A) (i : ℕ) → slice_get (xs ++ y ∷ []) i ≡ Some x → (slice_get xs i ≡ Some x) ⊎ ((i ≡ length xs) × (y ≡ x))
+slice_get_one_more [] y x zero h = inr (refl, cc)
+slice_get_one_more [] y x (suc i) h = cc
+slice_get_one_more (z ∷ xs) y x zero h = inl h
+slice_get_one_more (z ∷ xs) y x (suc i) h = elim (slice_get_one_more xs y x i h) [
+  | inl old ↦ inl old
+  | inr new ↦ inr (ap suc new.0, new.1)
+]
+
+-- it was there, or is the one that was put behind
+pub nth_one_more : {A : Type 0} (xs : List A) (y x : A) (i : ℕ) → nth (xs ++ y ∷ []) i ≡ Some x → (nth xs i ≡ Some x) ⊎ ((i ≡ length xs + 1) × (y ≡ x))
+nth_one_more xs y x i h =
+    let place = place_of (xs ++ y ∷ []) i x h in
+    elim (slice_get_one_more xs y x place.0 place.2) [
+      | inl old ↦ inl (nth_at_place xs i place.0 x place.1 old)
+      | inr new ↦ inr (let number = place.1 in let last = new.0 in omega (arith, number, last), new.1)
+    ]

@@ -113,7 +113,7 @@ one_more s name v e other there =
 checked_stay : (k : Rules) (s : State) (at : ℕ) (r : Received) (name : Name) → table.get s.vehicles r.incoming.manifest.vehicle ≡ Some r.vehicle → (m : Result ⊤ Refusal)
     → primary_of (outcome_of s (m >>= (λ _. Ok (accepted k s at r)))).next name ≡ primary_of s name
 unfolding and_then
-checked_stay k s at r name there (Ok passed) = one_more s r.incoming.manifest.vehicle r.vehicle (entry_of s at r) name there
+checked_stay k s at r name there (Ok passed) = one_more s r.incoming.manifest.vehicle r.vehicle (entry_of k s at r) name there
 checked_stay k s at r name there (Err e) = refl
 
 received_stay : (k : Rules) (s : State) (at : ℕ) (body : List ℕ) (name : Name) (m : Result Received Refusal) → receive k s at body ≡ m

@@ -1,19 +1,18 @@
 -- What a delivery that passed the checks up to its Primary's signature says of its manifest and its vehicle.
-use Rattle.std.proofs.Common.{◌≡◌, ℕ, ◌<◌, ◌≤◌, List, true, Some, Ok, refl, ap, ◌∙◌, subst}
-use Rattle.std.specs.Prelude.{length}
+use Rattle.std.proofs.Common.{◌≡◌, ℕ, ◌≤◌, List, true, Some, Ok, refl, ap, ◌∙◌, subst}
 use Rattle.std.specs.Cmp.Lexicographic.{bytes_decides}
 use Rattle.std.specs.FinMap as table
 use Rattle.up_canon.specs.Moments.{last_command_moment}
 use Rattle.up_sign.specs.Schemes.{Rules}
 use Rattle.up_manifest.specs.declared.manifest.Incoming.{Incoming}
 use Rattle.up_manifest.specs.Manifests.{incoming_in}
-use Rattle.up_machine.specs.State.{State}
+use Rattle.up_machine.specs.State.{State, is_founded}
 use Rattle.up_machine.specs.Deliveries.{Received, receive_manifest, receive, is_signed_by}
 use Rattle.up_canon.proofs.Steps.{first_ok, same_ok, or_error_ok, unless_ok}
-use Rattle.up_machine.proofs.Decided.{in_time, is_founded}
+use Rattle.up_machine.proofs.Decided.{in_time, founded_is}
 
 pub record IsReceivedManifest (k : Rules) (s : State) (incoming : Incoming) (r : Received) : Type 0 where
-  pub founded : 0 < length s.roots
+  pub founded : is_founded s ≡ true
   pub vehicle : table.get s.vehicles r.incoming.manifest.vehicle ≡ Some r.vehicle
   pub primary : r.incoming.manifest.primary ≡ r.vehicle.primary
   pub signed : is_signed_by k r.vehicle.ecus r.vehicle.primary r.incoming.envelope ≡ true
@@ -24,7 +23,7 @@ unfolding receive_manifest
 manifest_received k s incoming r h =
     first_ok _ _ _ _ h (λ a there h. first_ok _ _ _ _ h (λ v found h. first_ok _ _ _ _ h (λ b primary h. first_ok _ _ _ _ h (λ c signed h.
     subst (IsReceivedManifest k s incoming) (same_ok _ _ h) (record {
-      founded = is_founded s a there;
+      founded = founded_is s a there;
       vehicle = or_error_ok _ _ _ found;
       primary = (bytes_decides incoming.manifest.primary v.primary).0 (unless_ok _ _ _ primary);
       signed = unless_ok _ _ _ signed;
@@ -34,7 +33,7 @@ manifest_received k s incoming r h =
 pub record IsReceived (k : Rules) (s : State) (at : ℕ) (body : List ℕ) (r : Received) : Type 0 where
   pub moment : at ≤ last_command_moment
   pub reads : incoming_in body ≡ Ok r.incoming
-  pub founded : 0 < length s.roots
+  pub founded : is_founded s ≡ true
   pub vehicle : table.get s.vehicles r.incoming.manifest.vehicle ≡ Some r.vehicle
   pub primary : r.incoming.manifest.primary ≡ r.vehicle.primary
 

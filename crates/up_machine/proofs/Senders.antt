@@ -150,13 +150,13 @@ none_above n counter (e ∷ entries) h =
     let more : last_counter entries < counter = omega arith in
     rw (other_counter e.counter counter here, none_above (n + 1) counter entries more)
 
-pub none_kept : (k : Rules) (s : State) (name : Name) (rows : VehicleRows) (counter : ℕ) → vehicle_rows s name ≡ Some rows → rows.vehicle.last < counter → kept_at k s name counter ≡ None
-none_kept k s name rows counter is later =
+pub none_kept : (s : State) (name : Name) (rows : VehicleRows) (counter : ℕ) → vehicle_rows s name ≡ Some rows → rows.vehicle.last < counter → kept_at s name counter ≡ None
+none_kept s name rows counter is later =
     let found = map_some (rows_of name) (table.get s.vehicles name) rows is in
     let v : Vehicle = found.0 in
     let above : last_counter v.entries < counter = subst (λ (r : VehicleRows). r.vehicle.last < counter) (sym found.2) later in
-    ap (option_and_then (λ (v : Vehicle). option_map (λ (e : ℕ × Entry). kept_row k s name e.0 e.1) (find (λ (e : ℕ × Entry). e.1.counter == counter) (enumerate_from 1 v.entries)))) found.1
-    ∙ ap (option_map (λ (e : ℕ × Entry). kept_row k s name e.0 e.1)) (none_above 1 counter v.entries above)
+    ap (option_and_then (λ (v : Vehicle). option_map (λ (e : ℕ × Entry). kept_row name e.0 e.1) (find (λ (e : ℕ × Entry). e.1.counter == counter) (enumerate_from 1 v.entries)))) found.1
+    ∙ ap (option_map (λ (e : ℕ × Entry). kept_row name e.0 e.1)) (none_above 1 counter v.entries above)
 
 -- ---- the rows of a state itself
 
@@ -164,16 +164,16 @@ same_images : (images : Table ImageData) (files : List Name) → AllByRecursion 
 same_images images [] = tt
 same_images images (file ∷ files) = (refl, same_images images files)
 
-abbrev all_rows : Rules → State → Manifest → DeliveryData
-all_rows k s manifest = record {
+abbrev all_rows : State → Manifest → DeliveryData
+all_rows s manifest = record {
   founding = founding_row s;
   vehicle = vehicle_rows s manifest.vehicle;
-  kept = kept_at k s manifest.vehicle manifest.counter;
+  kept = kept_at s manifest.vehicle manifest.counter;
   images = s.images;
   campaigns = table.values s.campaigns;
 }
 
-all_given : (k : Rules) (s : State) (at : ℕ) (incoming : Incoming) → IsSound k s → at ≤ last_command_moment → IsRead incoming → Given k s at incoming (all_rows k s incoming.manifest)
+all_given : (k : Rules) (s : State) (at : ℕ) (incoming : Incoming) → IsSound k s → at ≤ last_command_moment → IsRead incoming → Given k s at incoming (all_rows s incoming.manifest)
 all_given k s at incoming sound moment read = record {
   sound = sound;
   moment = moment;
@@ -193,10 +193,10 @@ all_given k s at incoming sound moment read = record {
 -- ---- a counter that isn't above the last
 
 pub again_repeated : BodiesAreRead → SignedTextsMean → (k : Rules) (s : State) (at : ℕ) (incoming : Incoming) (sender : SenderData) (kept : Option Kept) (row : Kept)
-    → IsSound k s → at ≤ last_command_moment → IsRead incoming → IsSenderOf k s incoming sender → kept ≡ kept_at k s incoming.manifest.vehicle incoming.manifest.counter → repeated incoming kept ≡ Some row
+    → IsSound k s → at ≤ last_command_moment → IsRead incoming → IsSenderOf k s incoming sender → kept ≡ kept_at s incoming.manifest.vehicle incoming.manifest.counter → repeated incoming kept ≡ Some row
     → decide_incoming k s at incoming ≡ Ok (record { answer = Replied (reply_kept row); next = s })
 again_repeated bodies texts k s at incoming sender kept row sound moment read from is again =
-    is_repeated bodies texts k s at incoming (all_rows k s incoming.manifest) sender.founding sender.vehicle row tt (all_given k s at incoming sound moment read)
+    is_repeated bodies texts k s at incoming (all_rows s incoming.manifest) sender.founding sender.vehicle row tt (all_given k s at incoming sound moment read)
     from.founding from.vehicle (signed_by k s incoming sender from) (ap (repeated incoming) (sym is) ∙ again)
 
 not_above : (a b : ℕ) → a ≤ b → nat_le a b ≡ true
@@ -208,10 +208,10 @@ stale_of k rows manifest older =
     bind-err _ _ (Stale rows.vehicle.last) (ap (λ b. refuse_if b (Stale rows.vehicle.last)) (not_above manifest.counter rows.vehicle.last older))
 
 pub again_stale : BodiesAreRead → SignedTextsMean → (k : Rules) (s : State) (at : ℕ) (incoming : Incoming) (sender : SenderData) (kept : Option Kept)
-    → IsSound k s → at ≤ last_command_moment → IsRead incoming → IsSenderOf k s incoming sender → kept ≡ kept_at k s incoming.manifest.vehicle incoming.manifest.counter → repeated incoming kept ≡ None
+    → IsSound k s → at ≤ last_command_moment → IsRead incoming → IsSenderOf k s incoming sender → kept ≡ kept_at s incoming.manifest.vehicle incoming.manifest.counter → repeated incoming kept ≡ None
     → incoming.manifest.counter ≤ sender.vehicle.vehicle.last → decide_incoming k s at incoming ≡ Err (Stale sender.vehicle.vehicle.last)
 again_stale bodies texts k s at incoming sender kept sound moment read from is fresh older =
-    bad_manifest bodies texts k s at incoming (all_rows k s incoming.manifest) sender.founding sender.vehicle tt (Stale sender.vehicle.vehicle.last) (all_given k s at incoming sound moment read)
+    bad_manifest bodies texts k s at incoming (all_rows s incoming.manifest) sender.founding sender.vehicle tt (Stale sender.vehicle.vehicle.last) (all_given k s at incoming sound moment read)
     from.founding from.vehicle (signed_by k s incoming sender from) (ap (repeated incoming) (sym is) ∙ fresh) (stale_of k sender.vehicle incoming.manifest older)
 
 -- ---- a counter above the last
@@ -225,21 +225,21 @@ later_of k rows manifest later =
     bind-ok _ _ tt (ap (λ b. refuse_if b (Stale rows.vehicle.last)) (above_it manifest.counter rows.vehicle.last later))
 
 not_repeated : (k : Rules) (s : State) (incoming : Incoming) (sender : SenderData) → IsSenderOf k s incoming sender → sender.vehicle.vehicle.last < incoming.manifest.counter
-    → repeated incoming (kept_at k s incoming.manifest.vehicle incoming.manifest.counter) ≡ None
-not_repeated k s incoming sender from later = ap (repeated incoming) (none_kept k s incoming.manifest.vehicle sender.vehicle incoming.manifest.counter from.vehicle later)
+    → repeated incoming (kept_at s incoming.manifest.vehicle incoming.manifest.counter) ≡ None
+not_repeated k s incoming sender from later = ap (repeated incoming) (none_kept s incoming.manifest.vehicle sender.vehicle incoming.manifest.counter from.vehicle later)
 
 pub new_refused : BodiesAreRead → SignedTextsMean → (k : Rules) (s : State) (at : ℕ) (incoming : Incoming) (sender : SenderData) (e : Refusal)
     → IsSound k s → at ≤ last_command_moment → IsRead incoming → IsSenderOf k s incoming sender → sender.vehicle.vehicle.last < incoming.manifest.counter
     → check_reports_of k sender.vehicle.ecus incoming.manifest.reports ≡ Err e → decide_incoming k s at incoming ≡ Err e
 new_refused bodies texts k s at incoming sender e sound moment read from later bad =
-    bad_manifest bodies texts k s at incoming (all_rows k s incoming.manifest) sender.founding sender.vehicle tt e (all_given k s at incoming sound moment read)
+    bad_manifest bodies texts k s at incoming (all_rows s incoming.manifest) sender.founding sender.vehicle tt e (all_given k s at incoming sound moment read)
     from.founding from.vehicle (signed_by k s incoming sender from) (not_repeated k s incoming sender from later) (later_of k sender.vehicle incoming.manifest later ∙ bad)
 
 pub new_accepted : OtherImagesChangeNothing → OffersAloneCount → BodiesAreRead → SignedTextsMean → (k : Rules) (s : State) (at : ℕ) (incoming : Incoming) (sender : SenderData) (images : Table ImageData) (items : List Item)
     → IsSound k s → at ≤ last_command_moment → IsRead incoming → IsSenderOf k s incoming sender → ArePlanned s incoming.manifest images items → sender.vehicle.vehicle.last < incoming.manifest.counter
     → check_reports_of k sender.vehicle.ecus incoming.manifest.reports ≡ Ok tt
-    → GivesDelivered k s incoming.manifest.vehicle (Ok (Accepted (accepted_rows k sender.founding sender.vehicle at incoming images items))) (decide_incoming k s at incoming)
+    → GivesDelivered s incoming.manifest.vehicle (Ok (Accepted (accepted_rows k sender.founding sender.vehicle at incoming images items))) (decide_incoming k s at incoming)
 new_accepted others offers bodies texts k s at incoming sender images items sound moment read from planned later passes =
-    is_accepted others offers bodies texts k s at incoming (all_rows k s incoming.manifest) sender.founding sender.vehicle tt tt images items planned (all_given k s at incoming sound moment read)
+    is_accepted others offers bodies texts k s at incoming (all_rows s incoming.manifest) sender.founding sender.vehicle tt tt images items planned (all_given k s at incoming sound moment read)
     from.founding from.vehicle (signed_by k s incoming sender from)
     (not_repeated k s incoming sender from later) (later_of k sender.vehicle incoming.manifest later ∙ passes) later

@@ -1,5 +1,5 @@
 -- The rows of a sound state, and what those that fit have.
-use Rattle.std.proofs.Common.{◌≡◌, ℕ, ◌≤◌, true, Option, Some, None, Result, Ok, Err, List, [], ◌∷◌, length, map, refl, ap, ap₂, ◌∙◌, subst, arith}
+use Rattle.std.proofs.Common.{◌≡◌, ℕ, ◌≤◌, true, Option, Some, None, Result, Ok, Err, List, [], ◌∷◌, map, refl, sym, ap, ap₂, ◌∙◌, subst, arith}
 use Rattle.std.specs.Prelude.{◌&&◌, IfOk, IsTrue, is_none, nat_le}
 use Rattle.std.proofs.lemmas.Bool.{leb-true}
 use Rattle.std.proofs.lemmas.Bool.Decides.{nat_tests}
@@ -9,21 +9,19 @@ use Rattle.up_canon.specs.declared.refusal.Refusal.{Refusal}
 use Rattle.up_manifest.specs.declared.manifest.Incoming.{Incoming}
 use Rattle.up_manifest.specs.Manifests.{incoming_in}
 use Rattle.up_canon.specs.Names.{first_repeated}
-use Rattle.up_metadata.specs.Files.{Root}
 use Rattle.up_machine.specs.declared.rows.EcuRow.{EcuRow}
 use Rattle.up_machine.specs.declared.vehicle.NewEcu.{NewEcu}
 use Rattle.up_machine.specs.Vehicles.{ecu_names}
 use Rattle.up_machine.specs.declared.rows.Founding.{Founding}
 use Rattle.up_machine.specs.declared.rows.VehicleRows.{VehicleRows}
-use Rattle.up_machine.specs.State.{Vehicle, State, root_at}
+use Rattle.up_machine.specs.State.{Vehicle, State, key_set}
 use Rattle.up_machine.specs.Rows.{ecu_row, rows_of}
 use Rattle.up_machine.specs.RowsFit.{founding_fits, rows_fit}
-use Rattle.up_machine.specs.Sound.{IsSoundRoot}
 use Rattle.up_machine.specs.Decisions.{IsRead}
 use Rattle.up_machine.specs.RowLaws.{FoundingRowFits, VehicleRowsFit}
 use Rattle.up_metadata.proofs.Lists.{and_left, and_right}
 use Rattle.up_machine.proofs.Counters.{versions_are_counts}
-use Rattle.up_machine.proofs.Keeping.{nth_at}
+use Rattle.up_machine.proofs.FoundingRows.{founding_of}
 use Rattle.up_machine.proofs.NewFiles.{both_sign}
 use Rattle.up_canon.proofs.Steps.{map_some}
 
@@ -36,15 +34,11 @@ row_names v (e ∷ ecus) = ap (λ names. e.ecu ∷ names) (row_names v ecus)
 
 -- ---- the founding's row
 
-abbrev row_of : State → Root → Founding
-row_of s root = record { root = length s.roots; keys = root.keys; image_version = s.image_version; stamp = s.stamp }
-
 pub founding_fits_in : FoundingRowFits
 founding_fits_in k s founding sound h =
-    let found = map_some (row_of s) (root_at s (length s.roots)) founding h in
-    let fits = (nth_at (IsSoundRoot k) s.roots (length s.roots) found.0 sound.repositories.each_root found.1).keys in
-    let each = both_sign k found.0.keys fits in
-    subst (λ (f : Founding). IsTrue (founding_fits k f)) found.2 (ap₂ (λ x y. x && y) each.0 each.1)
+    let is = founding_of s founding (sym h) in
+    let each = both_sign k (key_set s) (sound.repositories.founded is.0).keys in
+    subst (λ (f : Founding). IsTrue (founding_fits k f)) (sym is.1) (ap₂ (λ x y. x && y) each.0 each.1)
 
 -- ---- a vehicle's rows
 

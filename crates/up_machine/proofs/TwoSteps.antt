@@ -54,15 +54,15 @@ image_made : {R : Type 0} (has : R → Type 0) (s next : State) (made : Result R
 image_made has s next (Ok rows) computed decided is h = (is ∙ h.0, h.1)
 image_made has s next (Err r) computed decided is h = subst (λ o. MatchBool (is_memory r) ⊤ (o ≡ Err r)) (sym is) h
 
-both_of_image : {R : Type 0} (has : R → Type 0) (s next : State) (at : ℕ) (image : ImageData) (told : Result (Decision Founding) Refusal)
-    (make : Founding → Result R Refusal) (computed : Result Outcome Refusal) → GivesNewImage s at image told computed
+both_of_image : {R : Type 0} (has : R → Type 0) (k : Rules) (s next : State) (at : ℕ) (image : ImageData) (told : Result (Decision Founding) Refusal)
+    (make : Founding → Result R Refusal) (computed : Result Outcome Refusal) → GivesNewImage k s at image told computed
     → ((founding : Founding) → told ≡ Ok (New founding) → HasFounding s founding → table.get s.images image.file ≡ None
-    → GivesRows has next (make founding) (decide_new_image s at image))
+    → GivesRows has next (make founding) (decide_new_image k s at image))
     → GivesDecision has s next (unless_there told make) computed
-both_of_image has s next at image (Ok Already) make computed is made = is
-both_of_image has s next at image (Ok (New founding)) make computed is made =
-    image_made has s next (make founding) computed (decide_new_image s at image) is.2 (made founding refl is.0 is.1)
-both_of_image has s next at image (Err r) make computed is made = unless_memory (is_memory r) is
+both_of_image has k s next at image (Ok Already) make computed is made = is
+both_of_image has k s next at image (Ok (New founding)) make computed is made =
+    image_made has s next (make founding) computed (decide_new_image k s at image) is.2 (made founding refl is.0 is.1)
+both_of_image has k s next at image (Err r) make computed is made = unless_memory (is_memory r) is
 
 -- ---- the founding's row of a sound state
 
@@ -77,26 +77,26 @@ row_fits k s sound = if_there k s (founding_row s) sound refl
 
 pub founded_in_two_steps : FoundedInTwoSteps
 founded_in_two_steps k s at keys told make sound tells fits made =
-    let next = founded s at keys in
-    both (HasRoot next at keys) (CanMakeRoot k at keys) (HasRootRows k next) next told make (decide_found k s at keys) (tells s refl) fits
+    let next = founded k s at keys in
+    both (HasRoot k next at keys) (CanMakeRoot k at keys) (HasRootRows next) next told make (decide_found k s at keys) (tells s sound refl) fits
     (λ new can due. made new can next due refl)
 
 pub rotated_in_two_steps : RotatedInTwoSteps
 rotated_in_two_steps k s at keys told make sound tells fits made =
-    let next = rotated s at keys in
-    both (HasRoot next at keys) (CanMakeRoot k at keys) (HasRootRows k next) next told make (decide_rotate k s at keys) (tells s refl)
+    let next = rotated k s at keys in
+    both (HasRoot k next at keys) (CanMakeRoot k at keys) (HasRootRows next) next told make (decide_rotate k s at keys) (tells s sound refl)
     (fits (row_fits k s sound))
     (λ new can due. made new can next due refl)
 
 pub registered_in_two_steps : RegisteredInTwoSteps
 registered_in_two_steps k s at image told make sound tells same made =
-    let next = registered s at image in
-    both_of_image (HasRegisterRows k next) s next at image told make (decide_image s at image) (tells s refl refl)
+    let next = registered k s at image in
+    both_of_image (HasRegisterRows next) k s next at image told make (decide_image k s at image) (tells k s refl refl)
     (λ founding is due none. made founding (founding_fits_in k s founding sound (same founding is)) s sound due refl none)
 
 pub refreshed_in_two_steps : RefreshedInTwoSteps
 refreshed_in_two_steps k s at version told make sound tells fits made =
-    let next = stamped s at version in
-    both_outright (HasFounding next) (CanMakeFiles k) (HasRegisterRows k next) next told make (decide_refresh s at version) (tells s refl)
+    let next = stamped k s at version in
+    both_outright (HasFounding next) (CanMakeFiles k) (HasRegisterRows next) next told make (decide_refresh k s at version) (tells k s refl)
     (fits (row_fits k s sound))
-    (λ founding can due. made founding can next due refl)
+    (λ founding can due. made founding can next due refl refl)

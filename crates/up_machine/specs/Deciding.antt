@@ -1,13 +1,13 @@
 -- What decisions have in common: outcomes, and checks that several commands make.
-use Rattle.std.specs.Prelude.{ℕ, ◌==◌, Bool, nat_le, nat_lt, if◌then◌else◌, Option, Some, None, length, ⊤, Result, Ok, Err}
+use Rattle.std.specs.Prelude.{ℕ, Bool, nat_le, nat_lt, if◌then◌else◌, Option, Some, None, ⊤, Result, Ok, Err}
 use Rattle.up_canon.specs.Canon.{max_count}
 use Rattle.up_canon.specs.Moments.{last_command_moment}
-use Rattle.up_canon.specs.Steps.{refuse_if}
+use Rattle.up_canon.specs.Steps.{unless, refuse_if}
 use Rattle.up_canon.specs.declared.refusal.Refusal.{Refusal}
 use Rattle.up_canon.specs.declared.refusal.Refusal.TheVariants.{MomentOutOfRange, NotFounded, VersionLimit}
 use Rattle.up_machine.specs.declared.answer.Answer.{Answer}
 use Rattle.up_machine.specs.declared.answer.Answer.TheVariants.{Done, Already}
-use Rattle.up_machine.specs.State.{State}
+use Rattle.up_machine.specs.State.{State, is_founded}
 
 -- an answer, and the state after it
 pub record Outcome : Type 0 where
@@ -33,7 +33,7 @@ abbrev pub check_moment : ℕ → Result ⊤ Refusal
 check_moment at = refuse_if (nat_lt last_command_moment at) MomentOutOfRange
 
 abbrev pub check_founded : State → Result ⊤ Refusal
-check_founded s = refuse_if (length s.roots == 0) NotFounded
+check_founded s = unless (is_founded s) NotFounded
 
 -- the image repository's version can be raised
 abbrev pub check_version : State → Result ⊤ Refusal

@@ -18,8 +18,8 @@ use Rattle.up_plan.specs.Planning.{plan_of}
 use Rattle.up_machine.specs.declared.vehicle.NewEcu.{NewEcu}
 use Rattle.up_machine.specs.declared.answer.Answer.TheVariants.{Reply as Replied}
 use Rattle.up_machine.specs.Vehicles.{has_ecu, ecu_in, ecu_names}
-use Rattle.up_machine.specs.State.{Entry, Vehicle, State, version, last_counter, report_of, last_report}
-use Rattle.up_machine.specs.Replies.{reply_to}
+use Rattle.up_machine.specs.State.{Entry, Vehicle, State, root_number, version, last_counter, report_of, last_report}
+use Rattle.up_machine.specs.Replies.{reply_text, reply_to}
 use Rattle.up_machine.specs.Deciding.{Outcome, check_moment, check_founded}
 
 -- ---- up to the Primary's signature
@@ -86,13 +86,14 @@ plan_in s r =
     plan_of (table.values s.images) (table.values s.campaigns) r.incoming.manifest.vehicle
     (filter_map (fitted r.incoming.manifest.reports) r.vehicle.ecus)
 
-abbrev pub entry_of : State → ℕ → Received → Entry
-entry_of s at r = record {
+abbrev pub entry_of : Rules → State → ℕ → Received → Entry
+entry_of k s at r = record {
   counter = r.incoming.manifest.counter;
   signed = r.incoming.envelope.signed;
   at = at;
-  root = length s.roots;
+  root = root_number s;
   plan = plan_in s r;
+  reply = reply_text k s r.incoming.manifest.vehicle (version r.vehicle.entries + 1) at (plan_in s r);
 }
 
 abbrev pub with_entry : State → Name → Vehicle → Entry → State
@@ -102,8 +103,8 @@ with_entry s name v e = record s { vehicles = table.insert s.vehicles name (reco
 abbrev pub accepted : Rules → State → ℕ → Received → Outcome
 accepted k s at r =
     let name = r.incoming.manifest.vehicle in
-    let e = entry_of s at r in
-    record { answer = Replied (reply_to k s name (version r.vehicle.entries + 1) e); next = with_entry s name r.vehicle e }
+    let e = entry_of k s at r in
+    record { answer = Replied (reply_to name (version r.vehicle.entries + 1) e); next = with_entry s name r.vehicle e }
 
 unfoldable pub decide_received : Rules → State → ℕ → Received → Result Outcome Refusal
 decide_received k s at r = do

@@ -1,19 +1,22 @@
 -- What is due of a command, before all images are read and its files are made: what a first step of a decision answers, and what the
 -- second asks for.
-use Rattle.std.specs.Prelude.{◌≡◌, ℕ, ◌-◌, ◌≤◌, Some, None, IfSome, IsTrue, option_map, length, Result, Ok, Err}
+use Rattle.std.specs.Prelude.{◌≡◌, ℕ, ◌≤◌, Some, None, IfSome, IsTrue, Result, Ok, Err}
 use Rattle.std.specs.FinMap as table
 use Rattle.up_canon.specs.Moments.{last_command_moment}
 use Rattle.up_canon.specs.declared.refusal.Refusal.{Refusal}
 use Rattle.up_sign.specs.Schemes.{Rules}
+use Rattle.up_roles.specs.declared.repository.Repository.TheVariants.{Director, Image}
 use Rattle.up_roles.specs.Payload.{version_fits}
 use Rattle.up_plan.specs.Images.{ImageData}
 use Rattle.up_metadata.specs.declared.keys.KeySet.{KeySet}
+use Rattle.up_metadata.specs.Files.{root_text, role_texts}
 use Rattle.up_metadata.specs.Keys.{key_set_fits, hashed_key_set, roles_can_sign, all_can_sign}
 use Rattle.up_machine.specs.declared.rows.Founding.{Founding}
 use Rattle.up_machine.specs.declared.decision.NextRoot.{NextRoot}
 use Rattle.up_machine.specs.declared.decision.Decision.{Decision}
 use Rattle.up_machine.specs.declared.decision.Decision.TheVariants.{Already, New}
-use Rattle.up_machine.specs.State.{State, root_at}
+use Rattle.up_machine.specs.State.{State, last_text}
+use Rattle.up_machine.specs.Files.{image_metadata}
 use Rattle.up_machine.specs.Rows.{founding_row}
 use Rattle.up_machine.specs.Deciding.{Outcome, already}
 use Rattle.up_machine.specs.Repositories.{decide_new_image}
@@ -25,13 +28,18 @@ use Rattle.up_machine.specs.Decisions.{IsDone}
 abbrev pub row_with_root : ℕ → KeySet → NextRoot → Founding
 row_with_root at keys new = record { root = new.number; keys = keys; image_version = new.version; stamp = at }
 
--- the last root version, before its files are made: of these keys and this moment, which stamps the image repository's files too
-pub record HasRoot (next : State) (at : ℕ) (keys : KeySet) (new : NextRoot) : Type 0 where
-  pub root : root_at next (length next.roots) ≡ Some (record { keys = keys; at = at })
-  pub founding : founding_row next ≡ Some (row_with_root at keys new)
-  pub before : option_map (λ r. r.keys) (root_at next (length next.roots - 1)) ≡ new.before
+-- the image repository's files are those that are made of the rest
+abbrev pub HasNewFiles : Rules → State → Type 0
+HasNewFiles k next = next.files ≡ Some (role_texts k (image_metadata next))
 
--- the founding's row, before the image repository's files are made
+-- the last root version is made of these keys at this moment, which stamps the image repository's files too
+pub record HasRoot (k : Rules) (next : State) (at : ℕ) (keys : KeySet) (new : NextRoot) : Type 0 where
+  pub founding : founding_row next ≡ Some (row_with_root at keys new)
+  pub director : last_text next.director.texts ≡ Some (root_text k Director new.number (record { keys = keys; at = at }) new.before)
+  pub image : last_text next.image.texts ≡ Some (root_text k Image new.number (record { keys = keys; at = at }) new.before)
+  pub files : HasNewFiles k next
+
+-- the founding's row
 abbrev pub HasFounding : State → Founding → Type 0
 HasFounding next founding = founding_row next ≡ Some founding
 
@@ -62,7 +70,7 @@ GivesOutright has next (Err r) computed = computed ≡ Err r
 
 -- of an image, before all images are read: that it is there already, the refusal that is due, or, of a new filename, the founding's row,
 -- and that the rest is to be decided
-abbrev pub GivesNewImage : State → ℕ → ImageData → Result (Decision Founding) Refusal → Result Outcome Refusal → Type 0
-GivesNewImage s at image (Ok Already) computed = computed ≡ Ok (already s)
-GivesNewImage s at image (Ok (New founding)) computed = HasFounding s founding × (table.get s.images image.file ≡ None) × (computed ≡ decide_new_image s at image)
-GivesNewImage s at image (Err r) computed = computed ≡ Err r
+abbrev pub GivesNewImage : Rules → State → ℕ → ImageData → Result (Decision Founding) Refusal → Result Outcome Refusal → Type 0
+GivesNewImage k s at image (Ok Already) computed = computed ≡ Ok (already s)
+GivesNewImage k s at image (Ok (New founding)) computed = HasFounding s founding × (table.get s.images image.file ≡ None) × (computed ≡ decide_new_image k s at image)
+GivesNewImage k s at image (Err r) computed = computed ≡ Err r

@@ -1,16 +1,17 @@
--- The files of both repositories, as functions of the state.
-use Rattle.std.specs.Prelude.{ℕ, ◌-◌, ◌++◌, List, [], ◌∷◌, Option, Some, None, option_map, option_to_list, length, map, find, bytes_eq, codes, decimal}
+-- The files of both repositories: those that are served, and those that are made next.
+use Rattle.std.specs.Prelude.{ℕ, ◌++◌, List, [], ◌∷◌, Option, Some, None, option_map, option_to_list, map, find, bytes_eq, codes, decimal}
 use Rattle.std.specs.List.{enumerate_from}
 use Rattle.std.specs.FinMap as table
 use Rattle.up_canon.specs.Names.{Name}
-use Rattle.up_sign.specs.Schemes.{Rules}
 use Rattle.up_roles.specs.declared.repository.Repository.{Repository}
 use Rattle.up_roles.specs.declared.repository.Repository.TheVariants.{Director, Image}
 use Rattle.up_roles.specs.declared.targets.Target.{Target}
 use Rattle.up_metadata.specs.declared.role_files.RoleTexts.{RoleTexts}
-use Rattle.up_metadata.specs.Files.{Root, root_text, MetadataSet, role_texts}
+use Rattle.up_metadata.specs.Files.{MetadataSet}
 use Rattle.up_plan.specs.Images.{ImageData}
-use Rattle.up_machine.specs.State.{State, root_at}
+use Rattle.up_machine.specs.State.{State, key_set, last_text}
+
+-- ---- what is made
 
 -- the target of an image, with both of its hashes
 abbrev pub target_of : Option Name → ImageData → Target
@@ -25,15 +26,17 @@ target_of ecu image = record {
 }
 
 -- the image repository's files are of all images in the order of their filenames, under the last root's keys
-abbrev pub image_metadata : State → Root → MetadataSet
-image_metadata s root = record {
+abbrev pub image_metadata : State → MetadataSet
+image_metadata s = record {
   repository = Image;
-  keys = root.keys;
+  keys = key_set s;
   vehicle = None;
   version = s.image_version;
   at = s.stamp;
   targets = map (target_of None) (table.values s.images);
 }
+
+-- ---- what is served
 
 -- a file's name and text
 abbrev pub File : Type 0
@@ -42,18 +45,13 @@ File = Name × List ℕ
 abbrev pub numbered_root_name : ℕ → Name
 numbered_root_name number = decimal number ++ codes ".root.json"
 
--- the text of root version i
-abbrev pub root_text_at : Rules → State → Repository → ℕ → Root → List ℕ
-root_text_at k s repository i root = root_text k repository i root (root_at s (i - 1))
-
 -- `1.root.json`, `2.root.json` and so on
-abbrev pub numbered_roots : Rules → State → Repository → List File
-numbered_roots k s repository = map (λ r. (numbered_root_name r.0, root_text_at k s repository r.0 r.1)) (enumerate_from 1 s.roots)
+abbrev pub numbered_roots : List (List ℕ) → List File
+numbered_roots texts = map (λ r. (numbered_root_name r.0, r.1)) (enumerate_from 1 texts)
 
 -- `root.json` is the latest
-abbrev pub latest_root : Rules → State → Repository → List File
-latest_root k s repository =
-    option_to_list (option_map (λ root. (codes "root.json", root_text_at k s repository (length s.roots) root)) (root_at s (length s.roots)))
+abbrev pub latest_root : List (List ℕ) → List File
+latest_root texts = option_to_list (option_map (λ text. (codes "root.json", text)) (last_text texts))
 
 -- `targets.json`, `snapshot.json` and `timestamp.json`
 abbrev pub latest_texts : RoleTexts → List File
@@ -63,14 +61,11 @@ abbrev pub texts_in : Option RoleTexts → List File
 texts_in None = []
 texts_in (Some texts) = latest_texts texts
 
-abbrev pub image_texts : Rules → State → Option RoleTexts
-image_texts k s = option_map (λ root. role_texts k (image_metadata s root)) (root_at s (length s.roots))
-
 -- each repository's files; before founding there are none
-unfoldable pub files : Rules → State → Repository → List File
-files k s Director = latest_root k s Director ++ numbered_roots k s Director
-files k s Image = latest_root k s Image ++ numbered_roots k s Image ++ texts_in (image_texts k s)
+unfoldable pub files : State → Repository → List File
+files s Director = latest_root s.director.texts ++ numbered_roots s.director.texts
+files s Image = latest_root s.image.texts ++ numbered_roots s.image.texts ++ texts_in s.files
 
 -- the text of the file of this name
-abbrev pub file : Rules → State → Repository → Name → Option (List ℕ)
-file k s repository name = option_map (λ f. f.1) (find (λ f. bytes_eq f.0 name) (files k s repository))
+abbrev pub file : State → Repository → Name → Option (List ℕ)
+file s repository name = option_map (λ f. f.1) (find (λ f. bytes_eq f.0 name) (files s repository))

@@ -9,13 +9,12 @@ use Rattle.up_plan.specs.declared.assigned.Assigned.{Assigned}
 use Rattle.up_plan.specs.declared.assigned.Fitted.{Fitted}
 use Rattle.up_plan.specs.Images.{ImageData}
 use Rattle.up_plan.specs.Planning.{is_for, plan_of}
-use Rattle.up_metadata.specs.Files.{Root}
 use Rattle.up_machine.specs.declared.command.Command.{Command}
 use Rattle.up_machine.specs.declared.answer.Answer.TheVariants.{Refused, Already}
 use Rattle.up_machine.specs.declared.answer.Reply.{Reply}
 use Rattle.up_canon.specs.declared.refusal.Refusal.{Refusal}
 use Rattle.up_machine.specs.Commands.{is_command}
-use Rattle.up_machine.specs.State.{Entry, Vehicle, State, empty_state, version, last_counter, is_taken_in, is_recorded, is_retired}
+use Rattle.up_machine.specs.State.{Chain, Entry, Vehicle, State, empty_state, version, last_counter, is_taken_in, is_recorded, is_retired}
 use Rattle.up_machine.specs.Replies.{kept_reply}
 use Rattle.up_machine.specs.Machine.{Timed, step, run}
 use Rattle.up_machine.specs.Sound.{CountersRise, IsSound}
@@ -63,10 +62,14 @@ pub record IsLaterVehicle (v later : Vehicle) : Type 0 where
   pub retired : later.retired ≡ v.retired ++ more_retired
   pub taken : (ecu : Name) → IsTrue (is_taken_in ecu v) → IsTrue (is_taken_in ecu later)
 
--- roots and images are only added, and each vehicle stays, with all that was accepted of it
+-- the texts of root versions stay, and more may follow
+abbrev pub IsLaterChain : Chain → Chain → Type 0
+IsLaterChain chain later = (more : List (List ℕ)) × (later.texts ≡ chain.texts ++ more)
+
+-- root versions and images are only added, and each vehicle stays, with all that was accepted of it
 pub record IsLater (s later : State) : Type 0 where
-  pub more_roots : List Root
-  pub roots : later.roots ≡ s.roots ++ more_roots
+  pub director : IsLaterChain s.director later.director
+  pub image : IsLaterChain s.image later.image
   pub images : (file : Name) (image : ImageData) → table.get s.images file ≡ Some image → table.get later.images file ≡ Some image
   pub vehicles : (name : Name) (v : Vehicle) → table.get s.vehicles name ≡ Some v
       → (w : Vehicle) × (table.get later.vehicles name ≡ Some w) × IsLaterVehicle v w
@@ -118,10 +121,10 @@ AssignedFitTheirEcus = (k : Rules) (s : State) (vehicle : Name) (fitted : List F
 
 -- a kept reply is the same in each later state
 abbrev pub KeptRepliesStay : Type 0
-KeptRepliesStay = (k : Rules) (s later : State) (vehicle : Name) (number : ℕ) (reply : Reply) → IsSound k s → IsLater s later
-    → kept_reply k s vehicle number ≡ Some reply → kept_reply k later vehicle number ≡ Some reply
+KeptRepliesStay = (s later : State) (vehicle : Name) (number : ℕ) (reply : Reply) → IsLater s later
+    → kept_reply s vehicle number ≡ Some reply → kept_reply later vehicle number ≡ Some reply
 
 -- and so after each run
 abbrev pub KeptRepliesOutlastRuns : Type 0
-KeptRepliesOutlastRuns = (k : Rules) (s : State) (ts : List Timed) (vehicle : Name) (number : ℕ) (reply : Reply) → IsSound k s
-    → kept_reply k s vehicle number ≡ Some reply → kept_reply k (run k s ts) vehicle number ≡ Some reply
+KeptRepliesOutlastRuns = (k : Rules) (s : State) (ts : List Timed) (vehicle : Name) (number : ℕ) (reply : Reply)
+    → kept_reply s vehicle number ≡ Some reply → kept_reply (run k s ts) vehicle number ≡ Some reply

@@ -22,6 +22,7 @@ pub mod Reads
 pub mod Laws
 pub mod RepeatLaws
 pub mod ApartLaws
+pub mod Made
 pub mod SignedLaws
 pub mod RowLaws
 pub mod TwoSteps

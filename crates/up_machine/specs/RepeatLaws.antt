@@ -24,7 +24,7 @@ RepeatsAreStale = (k : Rules) (s : State) (at : ℕ) (c : Command) (r : KeptEntr
 -- a repeat's reply is the one kept for its entry
 abbrev pub RepeatsGetKeptReplies : Type 0
 RepeatsGetKeptReplies = (k : Rules) (s : State) (at : ℕ) (c : Command) (r : KeptEntry)
-    → repeat_of k s at c ≡ Some r → kept_reply k s r.vehicle r.number ≡ Some (reply_to k s r.vehicle r.number r.entry)
+    → repeat_of k s at c ≡ Some r → kept_reply s r.vehicle r.number ≡ Some (reply_to r.vehicle r.number r.entry)
 
 -- a delivery that no check up to the Primary's signature refuses is a repeat exactly where the vehicle's entry of its counter,
 -- of which there is at most one, has its signed text

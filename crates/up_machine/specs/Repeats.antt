@@ -39,7 +39,7 @@ repeat_of k s at _ = None
 -- a repeat is answered the kept reply and changes nothing; another item is the plain machine's
 abbrev pub served_as : Rules → State → ℕ → Command → Option KeptEntry → Outcome
 served_as k s at c None = step k s at c
-served_as k s at c (Some r) = record { answer = Replied (reply_to k s r.vehicle r.number r.entry); next = s }
+served_as k s at c (Some r) = record { answer = Replied (reply_to r.vehicle r.number r.entry); next = s }
 
 unfoldable pub serve : Rules → State → ℕ → Command → Outcome
 serve k s at c = served_as k s at c (repeat_of k s at c)

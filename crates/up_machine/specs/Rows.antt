@@ -4,7 +4,6 @@ use Rattle.std.specs.List.{enumerate_from}
 use Rattle.std.specs.Cmp.Lexicographic.{pointwise}
 use Rattle.std.specs.FinMap as table
 use Rattle.up_canon.specs.Names.{Name}
-use Rattle.up_sign.specs.Schemes.{Rules}
 use Rattle.up_machine.specs.declared.rows.Founding.{Founding}
 use Rattle.up_machine.specs.declared.rows.VehicleRow.{VehicleRow}
 use Rattle.up_machine.specs.declared.rows.EcuRow.{EcuRow}
@@ -13,12 +12,11 @@ use Rattle.up_machine.specs.declared.rows.Kept.{Kept}
 use Rattle.up_machine.specs.declared.answer.Reply.{Reply}
 use Rattle.up_machine.specs.declared.vehicle.NewEcu.{NewEcu}
 use Rattle.up_machine.specs.Vehicles.{NewVehicleData}
-use Rattle.up_machine.specs.State.{Entry, Vehicle, State, root_at, version, last_counter, last_report, installed_on}
-use Rattle.up_machine.specs.Replies.{reply_text}
+use Rattle.up_machine.specs.State.{Entry, Vehicle, State, root_number, key_set, version, last_counter, last_report, installed_on}
 
 -- none before founding
 abbrev pub founding_row : State → Option Founding
-founding_row s = option_map (λ root. record { root = length s.roots; keys = root.keys; image_version = s.image_version; stamp = s.stamp }) (root_at s (length s.roots))
+founding_row s = option_map (λ files. record { root = root_number s; keys = key_set s; image_version = s.image_version; stamp = s.stamp }) s.files
 
 abbrev pub vehicle_row : Name → Vehicle → VehicleRow
 vehicle_row name v = record { vehicle = name; primary = v.primary; version = version v.entries; last = last_counter v.entries }
@@ -35,8 +33,8 @@ ecu_row v e = record {
 }
 
 -- of the vehicle's entry of this number, counted from 1
-abbrev pub kept_row : Rules → State → Name → ℕ → Entry → Kept
-kept_row k s vehicle number e = record {
+abbrev pub kept_row : Name → ℕ → Entry → Kept
+kept_row vehicle number e = record {
   vehicle = vehicle;
   counter = e.counter;
   version = number;
@@ -44,7 +42,7 @@ kept_row k s vehicle number e = record {
   root = e.root;
   signed = e.signed;
   plan = e.plan;
-  reply = reply_text k s vehicle number e;
+  reply = e.reply;
 }
 
 abbrev pub rows_of : Name → Vehicle → VehicleRows
@@ -69,9 +67,9 @@ abbrev pub vehicle_rows : State → Name → Option VehicleRows
 vehicle_rows s name = option_map (rows_of name) (table.get s.vehicles name)
 
 -- the row of the vehicle's entry with this counter
-abbrev pub kept_at : Rules → State → Name → ℕ → Option Kept
-kept_at k s name counter =
-    option_and_then (λ v. option_map (λ e. kept_row k s name e.0 e.1) (find (λ e. e.1.counter == counter) (enumerate_from 1 v.entries))) (table.get s.vehicles name)
+abbrev pub kept_at : State → Name → ℕ → Option Kept
+kept_at s name counter =
+    option_and_then (λ v. option_map (λ e. kept_row name e.0 e.1) (find (λ e. e.1.counter == counter) (enumerate_from 1 v.entries))) (table.get s.vehicles name)
 
 -- the reply that a kept row holds
 abbrev pub reply_kept : Kept → Reply

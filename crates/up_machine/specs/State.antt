@@ -1,5 +1,6 @@
--- The state of the plain machine, and what is read off it. It holds nothing that can be computed from the rest of it.
-use Rattle.std.specs.Prelude.{ℕ, ◌-◌, ◌==◌, ◌||◌, max, List, [], ◌∷◌, Bool, Option, None, option_map, option_and_then, if◌then◌else◌, length, find, bytes_eq, slice_get}
+-- The state of the plain machine, and what is read off it. What was published is kept as it was published, and nothing else that can be
+-- computed from the rest. No part of it depends on the scheme.
+use Rattle.std.specs.Prelude.{ℕ, ◌-◌, ◌==◌, ◌||◌, max, List, [], ◌∷◌, Bool, Option, None, option_map, option_and_then, if◌then◌else◌, is_some, length, find, bytes_eq, slice_get}
 use Rattle.std.specs.List.{list_any}
 use Rattle.std.specs.FinMap as table
 use Rattle.up_canon.specs.Names.{Name, Table}
@@ -10,19 +11,31 @@ use Rattle.up_manifest.specs.Manifests.{manifest_of}
 use Rattle.up_plan.specs.declared.assigned.Plan.{Plan}
 use Rattle.up_plan.specs.Campaigns.{CampaignData}
 use Rattle.up_plan.specs.Images.{ImageData}
-use Rattle.up_metadata.specs.Files.{Root}
+use Rattle.up_roles.specs.declared.repository.Repository.{Repository}
+use Rattle.up_roles.specs.declared.repository.Repository.TheVariants.{Director, Image}
+use Rattle.up_metadata.specs.declared.keys.RoleSecrets.{RoleSecrets}
+use Rattle.up_metadata.specs.declared.keys.RepoKeys.{RepoKeys}
+use Rattle.up_metadata.specs.declared.keys.KeySet.{KeySet}
+use Rattle.up_metadata.specs.declared.role_files.RoleTexts.{RoleTexts}
 use Rattle.up_machine.specs.declared.vehicle.NewEcu.{NewEcu}
 use Rattle.up_machine.specs.Vehicles.{NewVehicleData, has_ecu, is_among}
 
 -- ---- the state
 
--- an accepted manifest: its counter and canonical signed text, the moment and the root version at that moment, and the plan
+-- a repository: the texts of its root versions, the i-th that of version i, and the keys of the last one
+pub record Chain : Type 0 where
+  pub texts : List (List ℕ)
+  pub keys : RepoKeys
+
+-- an accepted manifest: its counter and canonical signed text, the moment and the root version at that moment, the plan, and the text
+-- of the reply
 pub record Entry : Type 0 where
   pub counter : ℕ
   pub signed : List ℕ
   pub at : ℕ
   pub root : ℕ
   pub plan : Plan
+  pub reply : List ℕ
 
 -- a vehicle of the inventory: its Primary, its ECUs in inventory order, the identifiers of those that were replaced, and its accepted
 -- manifests in the order of acceptance
@@ -32,26 +45,62 @@ pub record Vehicle : Type 0 where
   pub retired : List Name
   pub entries : List Entry
 
--- the i-th root is root version i; before founding there is none, and the image repository's version and stamp are 0
+-- both repositories, and the image repository's other files; before founding there are none, and the image repository's version and stamp
+-- are 0
 pub record State : Type 0 where
-  pub roots : List Root
+  pub director : Chain
+  pub image : Chain
+  pub files : Option RoleTexts
   pub images : Table ImageData
   pub image_version : ℕ
   pub stamp : ℕ
   pub campaigns : Table CampaignData
   pub vehicles : Table Vehicle
 
+-- a role of no keys
+abbrev pub no_role : RoleSecrets
+no_role = record { keys = []; threshold = 0 }
+
+abbrev pub no_keys : RepoKeys
+no_keys = record { root = no_role; targets = no_role; snapshot = no_role; timestamp = no_role }
+
+-- before founding
+abbrev pub no_chain : Chain
+no_chain = record { texts = []; keys = no_keys }
+
 -- nothing is founded
 abbrev pub empty_state : State
-empty_state = record { roots = []; images = table.empty; image_version = 0; stamp = 0; campaigns = table.empty; vehicles = table.empty }
+empty_state = record { director = no_chain; image = no_chain; files = None; images = table.empty; image_version = 0; stamp = 0; campaigns = table.empty; vehicles = table.empty }
 
 -- the i-th, counted from 1
 abbrev pub nth : {A : Type 0} → List A → ℕ → Option A
 nth xs i = if i == 0 then None else slice_get xs (i - 1)
 
--- root version i
-abbrev pub root_at : State → ℕ → Option Root
-root_at s i = nth s.roots i
+-- ---- both repositories
+
+-- they are founded at once
+abbrev pub is_founded : State → Bool
+is_founded s = is_some s.files
+
+abbrev pub chain_of : Repository → State → Chain
+chain_of Director s = s.director
+chain_of Image s = s.image
+
+-- how many root versions there are
+abbrev pub root_number : State → ℕ
+root_number s = length s.director.texts
+
+-- the last of these texts; none of none
+abbrev pub last_text : List (List ℕ) → Option (List ℕ)
+last_text texts = nth texts (length texts)
+
+-- the keys of the last root version
+abbrev pub key_set : State → KeySet
+key_set s = record { director = s.director.keys; image = s.image.keys }
+
+-- none before founding
+abbrev pub keys_before : State → Option KeySet
+keys_before s = option_map (λ files. key_set s) s.files
 
 -- ---- a vehicle's version, last counter, plan and reports
 

@@ -2,7 +2,6 @@
 ghost use Rattle.std.specs.Prelude.{◌≡◌, ◌≤◌, is_some};
 ghost use Rattle.up_canon.specs.Moments.{last_command_moment};
 ghost use Rattle.up_canon.specs.Names.{Name};
-ghost use Rattle.up_sign.specs.Schemes.{Rules};
 ghost use Rattle.up_roles.specs.declared.repository.Repository.{Repository};
 ghost use Rattle.up_machine.specs.State.{State};
 ghost use Rattle.up_machine.specs.Files.{file};
@@ -18,9 +17,9 @@ use up_canon::text::Text;
 /// file, where there is one: the text; `NotFounded`; `UnknownFile`.
 pub fn decide_fetch(at: Moment, is_founded: bool, text: Option<Text>) -> Result<Text, Refusal>
     requires { at ≤ last_command_moment }
-    ensures { (k : Rules) (s : State) (repository : Repository) (name : Name)
-        → is_founded ≡ is_some (founding_row s) → text ≡ file k s repository name
-        → GivesFile s result (decide_fetch_in k s at repository name) }
+    ensures { (s : State) (repository : Repository) (name : Name)
+        → is_founded ≡ is_some (founding_row s) → text ≡ file s repository name
+        → GivesFile s result (decide_fetch_in s at repository name) }
 {
     if !is_founded {
         return Err(Refusal::NotFounded);

@@ -83,8 +83,8 @@ pub fn decide_manifest<K: Scheme>(
     requires rows { IfSome rows.now.vehicle (λ v. IsTrue (rows_fit v)) }
     ensures memory { result ≡ Err Memory → TakesMemory (K.rules scheme.now) incoming.now rows.now }
     ensures decided { (s : State) → IsSound (K.rules scheme.now) s
-        → AreRowsFor (K.rules scheme.now) s incoming.now.manifest rows.now
-        → GivesDelivered (K.rules scheme.now) s incoming.now.manifest.vehicle result
+        → AreRowsFor s incoming.now.manifest rows.now
+        → GivesDelivered s incoming.now.manifest.vehicle result
         (decide_incoming (K.rules scheme.now) s at incoming.now) }
 {
     let keys = KeyCache::new();
@@ -120,8 +120,8 @@ pub fn decide_again(
     ensures memory { result ≡ Err Memory → is_some (repeated_in incoming.now (option_copied kept.entry)) ≡ true }
     ensures decided { (k : Rules) (s : State) (at : ℕ) → at ≤ last_command_moment → IsSound k s
         → IsSenderOf k s incoming.now sender.now
-        → option_copied kept.entry ≡ kept_at k s incoming.now.manifest.vehicle incoming.now.manifest.counter
-        → GivesDelivered k s incoming.now.manifest.vehicle result (decide_incoming k s at incoming.now) }
+        → option_copied kept.entry ≡ kept_at s incoming.now.manifest.vehicle incoming.now.manifest.counter
+        → GivesDelivered s incoming.now.manifest.vehicle result (decide_incoming k s at incoming.now) }
 {
     body_laws();
     match repeated(incoming, kept) {
@@ -152,7 +152,7 @@ pub fn decide_new<K: Scheme>(
     requires hashed { hashed.now ≡ hashed_roles_of (K.rules scheme.now) sender.now.founding.keys.director }
     ensures { (s : State) → IsSound (K.rules scheme.now) s → IsSenderOf (K.rules scheme.now) s incoming.now sender.now
         → ArePlanned s incoming.now.manifest images.now (map (λ i. i.now) items.now)
-        → GivesDelivered (K.rules scheme.now) s incoming.now.manifest.vehicle result
+        → GivesDelivered s incoming.now.manifest.vehicle result
         (decide_incoming (K.rules scheme.now) s at incoming.now) }
 {
     body_laws();

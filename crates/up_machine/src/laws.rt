@@ -4,6 +4,7 @@ ghost use Rattle.up_machine.specs.RepeatLaws.{RepeatsAreStale, RepeatsGetKeptRep
 ghost use Rattle.up_machine.specs.ApartLaws.{VehiclesStandApart, DeliveriesCommute, InstalledIsOfTheVehicle};
 ghost use Rattle.up_machine.specs.Primaries.{DeliveriesKeepPrimaries};
 ghost use Rattle.up_machine.specs.RowLaws.{FoundingRowFits, VehicleRowsFit};
+ghost use Rattle.up_machine.specs.Made.{EmptyIsMade, StepsMake, RunsMake};
 ghost use Rattle.up_machine.specs.SignedLaws.{RootsAreSigned, ImageFilesAreSigned, RepliesAreSigned, ServedFilesAreKnown};
 ghost use Rattle.up_machine.specs.TwoSteps.{FoundedInTwoSteps, RotatedInTwoSteps, RegisteredInTwoSteps, RefreshedInTwoSteps};
 
@@ -98,8 +99,18 @@ pub fn vehicles_stand_apart()
     ensures installed { InstalledIsOfTheVehicle }
 {}
 
-/// Every Root file, every file of the image repository and every file in a kept reply is an envelope over the text of its
-/// payload, and is accepted under the keys and the threshold of its role in its root version, and a later Root file also
+/// Every run leaves just the Root files, other files and replies that are made, byte for byte, of the keys and moments of its
+/// foundings and rotations.
+pub fn runs_make_files()
+    ensures empty { EmptyIsMade }
+    ensures step { StepsMake }
+    ensures run { RunsMake }
+{
+    body_laws();
+}
+
+/// Every Root file, every file of the image repository and every file in a kept reply that is made is an envelope over the text
+/// of its payload, and is accepted under the keys and the threshold of its role in its root version, and a later Root file also
 /// under those of the version before. A kept reply has the three files of its metadata set.
 pub fn files_are_signed()
     ensures roots { RootsAreSigned }

@@ -1,12 +1,12 @@
 //! The rows and files of a root version, or of a change of the register, that is due.
-ghost use Rattle.std.specs.Prelude.{◌≡◌, ◌≤◌, Option, IsTrue, IfOk, MatchOption, ⊤, None, insert, map, option_copied, option_map};
+ghost use Rattle.std.specs.Prelude.{◌≡◌, ◌≤◌, IsTrue, IfOk, MatchOption, ⊤, None, insert, map, option_copied};
 ghost use Rattle.std.specs.List.{list_all};
 ghost use Rattle.up_canon.specs.Moments.{last_command_moment};
 ghost use Rattle.up_roles.specs.declared.repository.Repository.TheVariants.{Director, Image as ImageRepository};
 ghost use Rattle.up_canon.specs.Names.{are_distinct};
 ghost use Rattle.up_roles.specs.Payload.{version_fits};
 ghost use Rattle.up_roles.specs.Targets.{target_fits, ecus_of};
-ghost use Rattle.up_metadata.specs.Files.{role_texts as role_texts_of, root_text as root_text_of, Root};
+ghost use Rattle.up_metadata.specs.Files.{role_texts as role_texts_of, root_text as root_text_of};
 ghost use Rattle.up_metadata.specs.Keys.{key_set_fits, hashed_key_set, all_can_sign};
 ghost use Rattle.up_metadata.specs.Writing.{metadata_set};
 ghost use Rattle.up_machine.specs.Due.{CanMakeFiles, CanMakeRoot};
@@ -78,14 +78,15 @@ fn rows_of_root<K: Scheme>(
     requires number { IsTrue (version_fits number) }
     requires version { IsTrue (version_fits version) }
     requires moment { at ≤ last_command_moment }
-    ensures { (b : Option Root) → option_map (λ r. r.keys) b ≡ option_copied before.entry
-        → IfOk result (λ rows. rows ≡ record {
-          founding = record { root = number; keys = keys.now; image_version = version; stamp = at };
-          director = root_text_of (K.rules scheme.now) Director number (record { keys = keys.now; at = at }) b;
-          image = root_text_of (K.rules scheme.now) ImageRepository number (record { keys = keys.now; at = at }) b;
-          files = role_texts_of (K.rules scheme.now)
-              (metadata_set ImageRepository keys.now None version at (map (target_of None) images.now));
-        }) }
+    ensures { IfOk result (λ rows. rows ≡ record {
+      founding = record { root = number; keys = keys.now; image_version = version; stamp = at };
+      director = root_text_of (K.rules scheme.now) Director number (record { keys = keys.now; at = at })
+          (option_copied before.entry);
+      image = root_text_of (K.rules scheme.now) ImageRepository number (record { keys = keys.now; at = at })
+          (option_copied before.entry);
+      files = role_texts_of (K.rules scheme.now)
+          (metadata_set ImageRepository keys.now None version at (map (target_of None) images.now));
+    }) }
 {
     let targets = image_targets(alloc, images)?;
     let director = root_text(

@@ -59,21 +59,13 @@ root_file_is_fit k law sealed_fits repository number root version fits =
 
 -- ---- the signers
 
--- the root keys of the version before; none where there is none
-abbrev pub old_keys : Repository → Option KeySet → List (List ℕ)
-old_keys repository before = unwrap_or (option_map (λ b. (keys_of repository b).root.keys) before) []
-
-pub same_old_keys : (repository : Repository) (b : Option Root) (before : Option KeySet) → option_map (λ r. r.keys) b ≡ before → old_keys repository before ≡ root_secrets repository b
-same_old_keys repository None before is = ap (old_keys repository) (sym is)
-same_old_keys repository (Some root) before is = ap (old_keys repository) (sym is)
-
 -- secrets that fit, and few of them
 pub record AreFew (k : Rules) (secrets : List (List ℕ)) : Type 0 where
   pub fit : list_all k.secret_fits secrets ≡ true
   pub few : length secrets ≤ 4
 
 pub old_are_few : (k : Rules) (repository : Repository) (before : Option (Bor KeySet)) → MatchOption before ⊤ (λ b. IsTrue (can_sign k (keys_of repository b.now).root))
-    → AreFew k (old_keys repository (option_copied before))
+    → AreFew k (root_secrets repository (option_copied before))
 old_are_few k repository None h = record { fit = refl; few = omega arith }
 old_are_few k repository (Some b) h =
     let root = (keys_of repository b.now).root in
@@ -109,9 +101,7 @@ signers_seal k role old fits before = record { fit = signers_fit k role old fits
 
 -- ---- the text
 
-pub root_text_is : (k : Rules) (repository : Repository) (number : ℕ) (root : Root) (b : Option Root) (before : Option KeySet) → option_map (λ r. r.keys) b ≡ before
-    → root_text_of k ((keys_of repository root.keys).root.keys ++ others (keys_of repository root.keys).root.keys (old_keys repository before)) (root_file k repository number root) ≡ root_text k repository number root b
+pub root_text_is : (k : Rules) (repository : Repository) (number : ℕ) (root : Root) (before : Option KeySet)
+    → root_text_of k ((keys_of repository root.keys).root.keys ++ others (keys_of repository root.keys).root.keys (root_secrets repository before)) (root_file k repository number root) ≡ root_text k repository number root before
 unfolding root_text
-root_text_is k repository number root b before is =
-    let own = (keys_of repository root.keys).root.keys in
-    ap (λ old. root_text_of k (own ++ others own old) (root_file k repository number root)) (same_old_keys repository b before is)
+root_text_is k repository number root before = refl

@@ -21,6 +21,7 @@ use Rattle.up_roles.specs.Snapshot.{snapshot_payload, snapshot_text_of}
 use Rattle.up_roles.specs.Timestamp.{timestamp_payload, timestamp_text_of}
 use Rattle.up_metadata.specs.declared.keys.RoleSecrets.{RoleSecrets}
 use Rattle.up_metadata.specs.declared.keys.RepoKeys.{RepoKeys}
+use Rattle.up_metadata.specs.declared.keys.KeySet.{KeySet}
 use Rattle.up_metadata.specs.Keys.{secret_fits, keys_fit, threshold_fits, role_fits, repository_fits}
 use Rattle.up_metadata.specs.Files.{keys_of, Root, root_signers, root_file, root_text, targets_file, targets_text, snapshot_file, snapshot_text, timestamp_file, timestamp_text}
 use Rattle.up_metadata.specs.Signed.{IsAcceptedBy, IsSignedFor, root_role, HasFittingKeys, RootFilesAreSigned, RoleFilesAreSigned}
@@ -131,31 +132,31 @@ timestamp_fits k keys h = and_right (role_fits k keys.root && role_fits k keys.t
 
 -- ---- Root files
 
-root_sealed : (k : Rules) (repository : Repository) (number : ℕ) (root : Root) (before : Option Root)
+root_sealed : (k : Rules) (repository : Repository) (number : ℕ) (root : Root) (before : Option KeySet)
     → root_text k repository number root before ≡ envelope_text (sealed_envelope k (root_signers repository root before) (text (root_payload (root_file k repository number root))))
 unfolding root_text root_text_of sealed_text
 root_sealed k repository number root before = refl
 
-before_signs : (k : Rules) → IsScheme k → (repository : Repository) (root : Root) (signed : List ℕ) (before : Option Root) → IfSome before (HasFittingKeys k repository)
+before_signs : (k : Rules) → IsScheme k → (repository : Repository) (root : Root) (signed : List ℕ) (before : Option KeySet) → IfSome before (HasFittingKeys k repository)
     → AllByRecursion (IsAcceptedBy k (sealed_envelope k (root_signers repository root before) signed)) (option_to_list (option_map (root_role repository) before))
 before_signs k law repository root signed None fit = tt
 before_signs k law repository root signed (Some before) fit = (
-  accepted k law signed (root_signers repository root (Some before)) (root_role repository before) (root_fits k (keys_of repository before.keys) fit)
+  accepted k law signed (root_signers repository root (Some before)) (root_role repository before) (root_fits k (keys_of repository before) fit)
       (each_weaker (λ x. is_in x (root_role repository before).keys ≡ true) (λ x. is_in x (root_signers repository root (Some before)) ≡ true)
-      (λ x h. old_signs x (root_role repository root).keys (root_role repository before).keys h) (root_role repository before).keys (each_in (root_role repository before).keys)),
+      (λ x h. old_signs x (root_role repository root.keys).keys (root_role repository before).keys h) (root_role repository before).keys (each_in (root_role repository before).keys)),
   tt,
 )
 
 pub root_files_signed : RootFilesAreSigned
 root_files_signed k repository number root before law fit fit_before =
     let signed = text (root_payload (root_file k repository number root)) in
-    let own = (root_role repository root).keys in
+    let own = (root_role repository root.keys).keys in
     record {
       envelope = sealed_envelope k (root_signers repository root before) signed;
       is = root_sealed k repository number root before;
       signed = refl;
       accepted = (
-        accepted k law signed (root_signers repository root before) (root_role repository root) (root_fits k (keys_of repository root.keys) fit)
+        accepted k law signed (root_signers repository root before) (root_role repository root.keys) (root_fits k (keys_of repository root.keys) fit)
             (each_weaker (λ x. is_in x own ≡ true) (λ x. is_in x (root_signers repository root before) ≡ true) (λ x h. in_front x own _ h) own (each_in own)),
         before_signs k law repository root signed before fit_before,
       );

@@ -55,18 +55,18 @@ root_file k repository number root =
       timestamp = role_keys k keys.timestamp;
     }
 
--- the root keys of a root version; none of version 0
-abbrev pub root_secrets : Repository → Option Root → List (List ℕ)
-root_secrets repository root = unwrap_or (option_map (λ r. (keys_of repository r.keys).root.keys) root) []
+-- the root keys of the version before; none where there is none
+abbrev pub root_secrets : Repository → Option KeySet → List (List ℕ)
+root_secrets repository before = unwrap_or (option_map (λ keys. (keys_of repository keys).root.keys) before) []
 
 -- a Root file is signed by its own root keys, and by those of the version before that aren't among them
-abbrev pub root_signers : Repository → Root → Option Root → List (List ℕ)
+abbrev pub root_signers : Repository → Root → Option KeySet → List (List ℕ)
 root_signers repository root before =
     let own = (keys_of repository root.keys).root.keys in
     own ++ filter (λ secret. not (list_any (bytes_eq secret) own)) (root_secrets repository before)
 
--- the text of the Root file of this number, given the root of the number before it
-unfoldable pub root_text : Rules → Repository → ℕ → Root → Option Root → List ℕ
+-- the text of the Root file of this number, given the keys of the version before it
+unfoldable pub root_text : Rules → Repository → ℕ → Root → Option KeySet → List ℕ
 root_text k repository number root before = root_text_of k (root_signers repository root before) (root_file k repository number root)
 
 -- ---- Targets, Snapshot and Timestamp files, which are made together

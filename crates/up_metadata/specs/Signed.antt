@@ -13,6 +13,7 @@ use Rattle.up_roles.specs.Snapshot.{snapshot_payload}
 use Rattle.up_roles.specs.Targets.{targets_payload}
 use Rattle.up_roles.specs.Timestamp.{timestamp_payload}
 use Rattle.up_metadata.specs.declared.keys.RoleSecrets.{RoleSecrets}
+use Rattle.up_metadata.specs.declared.keys.KeySet.{KeySet}
 use Rattle.up_metadata.specs.Keys.{repository_fits}
 use Rattle.up_metadata.specs.Files.{keys_of, Root, root_file, root_text, MetadataSet, targets_file, targets_text, snapshot_file, snapshot_text, timestamp_file, timestamp_text}
 
@@ -27,17 +28,17 @@ pub record IsSignedFor (k : Rules) (roles : List RoleSecrets) (payload : Data) (
   pub signed : envelope.signed ≡ text payload
   pub accepted : AllByRecursion (IsAcceptedBy k envelope) roles
 
-abbrev pub root_role : Repository → Root → RoleSecrets
-root_role repository root = (keys_of repository root.keys).root
+abbrev pub root_role : Repository → KeySet → RoleSecrets
+root_role repository keys = (keys_of repository keys).root
 
 -- the keys of a root version fit
-abbrev pub HasFittingKeys : Rules → Repository → Root → Type 0
-HasFittingKeys k repository root = IsTrue (repository_fits k (keys_of repository root.keys))
+abbrev pub HasFittingKeys : Rules → Repository → KeySet → Type 0
+HasFittingKeys k repository keys = IsTrue (repository_fits k (keys_of repository keys))
 
 -- a Root file is signed for its own root role and for that of the version before
 abbrev pub RootFilesAreSigned : Type 0
-RootFilesAreSigned = (k : Rules) (repository : Repository) (number : ℕ) (root : Root) (before : Option Root) → IsScheme k → HasFittingKeys k repository root → IfSome before (HasFittingKeys k repository)
-    → IsSignedFor k (root_role repository root ∷ option_to_list (option_map (root_role repository) before)) (root_payload (root_file k repository number root)) (root_text k repository number root before)
+RootFilesAreSigned = (k : Rules) (repository : Repository) (number : ℕ) (root : Root) (before : Option KeySet) → IsScheme k → HasFittingKeys k repository root.keys → IfSome before (HasFittingKeys k repository)
+    → IsSignedFor k (root_role repository root.keys ∷ option_to_list (option_map (root_role repository) before)) (root_payload (root_file k repository number root)) (root_text k repository number root before)
 
 -- the three files of a set are signed for their roles
 pub record AreSignedFor (k : Rules) (m : MetadataSet) : Type 0 where

@@ -1,5 +1,5 @@
 -- What the calls ask for that write the files of a root version and those of the other three roles, and what they answer.
-use Rattle.std.specs.Prelude.{◌≡◌, ℕ, ◌≤◌, List, Bool, Option, IsTrue, Result, IfOk, OnOk, option_map, true}
+use Rattle.std.specs.Prelude.{◌≡◌, ℕ, ◌≤◌, List, Bool, Option, IsTrue, Result, IfOk, OnOk, true}
 use Rattle.std.specs.List.{list_all}
 use Rattle.serde_json.specs.Data.{Data}
 use Rattle.up_canon.specs.Moments.{last_command_moment}
@@ -25,10 +25,10 @@ pub record CanWriteRoot (k : Rules) (repository : Repository) (n : ℕ) (root : 
   pub number : IsTrue (version_fits n)
   pub moment : root.at ≤ last_command_moment
 
--- the text, given any root version with these keys before, of a payload that has a canonical text; and what the types of the
--- file's fields keep
+-- the text, given the keys of the version before, of a payload that has a canonical text; and what the types of the file's
+-- fields keep
 pub record WritesRoot {E : Type 0} (k : Rules) (repository : Repository) (number : ℕ) (root : Root) (before : Option KeySet) (r : Result (List ℕ) E) : Type 0 where
-  pub value : (b : Option Root) → option_map (λ it. it.keys) b ≡ before → IfOk r (λ text. text ≡ root_text k repository number root b)
+  pub value : IfOk r (λ text. text ≡ root_text k repository number root before)
   pub canonical : OnOk r (IsCanonical (root_payload (root_file k repository number root)))
   pub typed : OnOk r (root_is_typed (root_file k repository number root) ≡ true)
 

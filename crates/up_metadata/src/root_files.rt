@@ -1,11 +1,11 @@
 //! Making Root files.
-ghost use Rattle.std.specs.Prelude.{◌≡◌, ◌≤◌, ◌+◌, ◌++◌, Option, IsTrue, IfOk, OnOk, MatchOption, ⊤, bytes_eq, filter, map, not, option_copied, option_map, unwrap_or, []};
+ghost use Rattle.std.specs.Prelude.{◌≡◌, ◌≤◌, ◌+◌, ◌++◌, IsTrue, IfOk, OnOk, MatchOption, ⊤, bytes_eq, filter, map, not, option_copied};
 ghost use Rattle.std.specs.List.{list_any};
 ghost use Rattle.up_canon.specs.Moments.{last_command_moment};
 ghost use Rattle.up_sign.specs.Envelopes.{key_block};
 ghost use Rattle.up_roles.specs.Lifetimes.{lifetimes};
 ghost use Rattle.up_roles.specs.Payload.{version_fits};
-ghost use Rattle.up_metadata.specs.Files.{keys_of as keys_in, root_key as root_key_of, role_keys as role_keys_of, root_file as root_file_of, root_text as root_text_of, Root};
+ghost use Rattle.up_metadata.specs.Files.{keys_of as keys_in, root_key as root_key_of, role_keys as role_keys_of, root_file as root_file_of, root_secrets, root_text as root_text_of};
 ghost use Rattle.up_metadata.specs.Keys.{repository_fits, hashed_role, hashed_repo, can_sign};
 ghost use Rattle.up_metadata.specs.Writing.{CanWriteRoot, WritesRoot};
 
@@ -157,7 +157,7 @@ fn root_signers<K: Scheme>(
     requires { hashed.now.root ≡ hashed_role (K.rules scheme.now) (keys_in repository keys.now).root }
     ensures secrets { IfOk result (λ signers. signers.secrets.items ≡ (keys_in repository keys.now).root.keys
         ++ filter (λ secret. not (list_any (bytes_eq secret) (keys_in repository keys.now).root.keys))
-        (unwrap_or (option_map (λ b. (keys_in repository b).root.keys) (option_copied before.entry)) [])) }
+        (root_secrets repository (option_copied before.entry))) }
     ensures hashed { IfOk result
         (λ signers. signers.hashed.items ≡ map (key_block (K.rules scheme.now)) signers.secrets.items) }
 {

@@ -3,13 +3,13 @@ use Rattle.up_machine.proofs.Fetched.{fetch_unfounded, fetch_unknown, fetch_foun
 use Rattle.up_machine.proofs.decide_fetch.decide_fetch.Goals as goal
 
 pub returns-then-not-is_founded : goal.returns-then-not-is_founded
-returns-then-not-is_founded c = λ k s repository name founded there.
-    fetch_unfounded k s c.args.at repository name c.requires (sym c.if-not-is_founded.true ∙ founded)
+returns-then-not-is_founded c = λ s repository name founded there.
+    fetch_unfounded s c.args.at repository name c.requires (sym c.if-not-is_founded.true ∙ founded)
 
 pub returns-in-Some : goal.returns-in-Some
-returns-in-Some c = λ k s repository name founded there.
-    fetch_found k s c.args.at repository name c.in-Some.text c.requires (sym c.if-not-is_founded.false ∙ founded) (sym c.in-Some.is ∙ there)
+returns-in-Some c = λ s repository name founded there.
+    fetch_found s c.args.at repository name c.in-Some.text c.requires (sym c.if-not-is_founded.false ∙ founded) (sym c.in-Some.is ∙ there)
 
 pub returns-in-None : goal.returns-in-None
-returns-in-None c = λ k s repository name founded there.
-    fetch_unknown k s c.args.at repository name c.requires (sym c.if-not-is_founded.false ∙ founded) (sym c.in-None.is ∙ there)
+returns-in-None c = λ s repository name founded there.
+    fetch_unknown s c.args.at repository name c.requires (sym c.if-not-is_founded.false ∙ founded) (sym c.in-None.is ∙ there)

@@ -14,7 +14,7 @@ returns-in_err-sender-clause-decided g c = λ s sound rows.
     let e = c.in_err-sender.field-0.0 in
     let founding = ap (λ (d : DeliveryData). d.founding) c.rows.view_is ∙ rows.founding in
     let vehicle = ap (λ (d : DeliveryData). d.vehicle) c.rows.view_is ∙ rows.vehicle in
-    delivery_refused k s c.args.incoming.now.manifest.vehicle c.from_residual.result e _ c.from_residual.ensures.1
+    delivery_refused s c.args.incoming.now.manifest.vehicle c.from_residual.result e _ c.from_residual.ensures.1
     (surely _ e (refused_first k s c.args.at c.args.incoming.now e (c.in_err-sender.ensures.from s founding vehicle)))
 
 pub returns-then-not-is_later-clause-decided : goal.returns-then-not-is_later-clause-decided

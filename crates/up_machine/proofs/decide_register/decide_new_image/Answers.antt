@@ -17,7 +17,7 @@ returns-then-len-ge-MAX_IMAGES-clause-decided g c = λ s sound row images none.
     let size : c.len.result ≡ table.len s.images = c.len.ensures ∙ ap (λ t. table.len t) images in
     let test = c.if-len-ge-MAX_IMAGES.true in
     let full : 1024 ≤ table.len s.images = omega (arith, size, test) in
-    image_full s c.args.at c.args.image.now full
+    image_full (g.K.Scheme.rules c.args.scheme.now) s c.args.at c.args.image.now full
 
 pub returns-then-founding-ge-MAX_COUNT-clause-decided : goal.returns-then-founding-ge-MAX_COUNT-clause-decided
 returns-then-founding-ge-MAX_COUNT-clause-decided g c = λ s sound row images none.
@@ -25,10 +25,10 @@ returns-then-founding-ge-MAX_COUNT-clause-decided g c = λ s sound row images no
     let size : c.len.result ≡ table.len s.images = c.len.ensures ∙ ap (λ t. table.len t) images in
     let test = c.if-len-ge-MAX_IMAGES.false in
     let room : table.len s.images < 1024 = omega (arith, size, test) in
-    let version = ap (λ f. f.image_version) of.is in
+    let version = ap (λ f. f.image_version) of.1 in
     let test = c.if-founding-ge-MAX_COUNT.true in
     let limit : max_count ≤ s.image_version = omega (arith, version, test) in
-    image_limit s c.args.at c.args.image.now room limit
+    image_limit (g.K.Scheme.rules c.args.scheme.now) s c.args.at c.args.image.now room limit
 
 pub rows_with_image-requires : goal.rows_with_image-requires
 rows_with_image-requires g c =
@@ -46,7 +46,7 @@ returns-clause-decided g c = λ s sound row images none.
     let size : c.len.result ≡ table.len s.images = c.len.ensures ∙ ap (λ t. table.len t) images in
     let test = c.if-len-ge-MAX_IMAGES.false in
     let room : table.len s.images < 1024 = omega (arith, size, test) in
-    let version : c.args.founding.image_version ≡ s.image_version = ap (λ f. f.image_version) of.is in
+    let version : c.args.founding.image_version ≡ s.image_version = ap (λ f. f.image_version) of.1 in
     let test = c.if-founding-ge-MAX_COUNT.false in
     let below : s.image_version < max_count = omega (arith, version, test) in
     let values : c.values.result.now ≡ table.values s.images = c.values.ensures ∙ ap (λ t. table.values t) images in
@@ -55,9 +55,9 @@ returns-clause-decided g c = λ s sound row images none.
     ap (λ xs. insert xs (place_among image.file xs) image) values
     ∙ sym (values_insert s.images image (λ file image is. (sound.repositories.each_image file image is).named) none) in
     let founding = c.with_version-founding.ensures ∙ ap (λ v. row_with c.args.founding (v + 1) at) version in
-    let next = stamped (with_image s image) at (s.image_version + 1) in
+    let next = stamped k (with_image s image) at (s.image_version + 1) in
     let new = row_with c.args.founding (s.image_version + 1) at in (
-      image_done s at image room below,
-      subst (HasRegisterRows k next) (sym (c.in_ok-rows_with_image.ensures ∙ ap (λ f. record { founding = f; files = files_of k f placed-images }) founding ∙ ap (λ xs. record { founding = new; files = files_of k new xs }) placed))
-          (register_rows_hold k next new (files_are_due s (table.insert s.images image.file image) at (s.image_version + 1) c.args.founding row)),
+      image_done k s at image room below,
+      subst (HasRegisterRows next) (sym (c.in_ok-rows_with_image.ensures ∙ ap (λ f. record { founding = f; files = files_of k f placed-images }) founding ∙ ap (λ xs. record { founding = new; files = files_of k new xs }) placed))
+          (register_rows_hold k next new (files_are_due k s (table.insert s.images image.file image) at (s.image_version + 1) c.args.founding row) refl),
     )
