@@ -23,7 +23,7 @@ use Rattle.up_laws.specs.Deliveries.{decide_body, DeliveriesAreDecided, NewDeliv
 -- the kept reply of what is a repeat, or what was decided
 chosen : Rules → State → Option KeptEntry → Result Outcome Refusal → Result Outcome Refusal
 chosen k s None decided = decided
-chosen k s (Some r) decided = Ok (record { answer = Replied (reply_to k s r.vehicle r.number r.entry); next = s })
+chosen k s (Some r) decided = Ok (record { answer = Replied (reply_to r.vehicle r.number r.entry); next = s })
 
 resolved : (k : Rules) (s : State) (at : ℕ) (d : Received) (o : Option KeptEntry) → chosen k s o (decide_received k s at d) ≡ resolve k s at d o
 unfolding chosen
@@ -79,8 +79,8 @@ repeat_decided k s at body r h is = sym (body_chosen k s at body h) ∙ ap (λ o
 pub in_two_steps : DeliveredInTwoSteps
 unfolding and_then
 in_two_steps k s at body name (Ok incoming) make gives named decided =
-    subst (GivesDelivered k s name (make incoming)) (sym (bind-ok (incoming_in body) (decide_incoming k s at) incoming gives))
-    (subst (λ n. GivesDelivered k s n (make incoming) (decide_incoming k s at incoming)) named (decided incoming (body, gives)))
+    subst (GivesDelivered s name (make incoming)) (sym (bind-ok (incoming_in body) (decide_incoming k s at) incoming gives))
+    (subst (λ n. GivesDelivered s n (make incoming) (decide_incoming k s at incoming)) named (decided incoming (body, gives)))
 in_two_steps k s at body name (Err r) make gives named decided = by_memory (is_memory r) gives
   where
     by_memory : (b : Bool) → MatchBool b ⊤ (incoming_in body ≡ Err r) → MatchBool b ⊤ (decide_body k s at body ≡ Err r)

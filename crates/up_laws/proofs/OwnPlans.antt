@@ -143,11 +143,11 @@ replaced_own s r v there later own =
 acted : (k : Rules) (s : State) (at : ℕ) (c : Command) (o : Outcome) → IsSound k s → HasOwnPlans s → decide k s at c ≡ Ok o → IsLater s o.next → HasOwnPlans o.next
 acted k s at (Found keys) o sound own h later = subst (λ (o : Outcome). HasOwnPlans o.next) (found_ok k s at keys o h).is own
 acted k s at (Rotate keys) o sound own h later = subst (λ (o : Outcome). HasOwnPlans o.next) (rotate_ok k s at keys o h).is own
-acted k s at (AddImage image) o sound own h later = elim (image_ok s at image o h) [
+acted k s at (AddImage image) o sound own h later = elim (image_ok k s at image o h) [
   | inl same ↦ subst (λ (o : Outcome). HasOwnPlans o.next) same own
   | inr is ↦ subst (λ (o : Outcome). HasOwnPlans o.next) is.is own
 ]
-acted k s at (Refresh version) o sound own h later = subst (λ (o : Outcome). HasOwnPlans o.next) (refresh_ok s at version o h).is own
+acted k s at (Refresh version) o sound own h later = subst (λ (o : Outcome). HasOwnPlans o.next) (refresh_ok k s at version o h).is own
 acted k s at (AddVehicle new) o sound own h later = elim (vehicle_ok k s at new o h) [
   | inl same ↦ subst (λ (o : Outcome). HasOwnPlans o.next) same own
   | inr is ↦ subst (λ (o : Outcome). HasOwnPlans o.next) is.is (one_changed s new.vehicle _ own tt)
@@ -169,12 +169,12 @@ acted k s at (Deliver body) o sound own h later =
     let r = is.received in
     let there = (received k s at body r is.receives).vehicle in
     let of = sound.vehicles r.incoming.manifest.vehicle r.vehicle there in
-    let e = entry_of s at r in
+    let e = entry_of k s at r in
     let w : Vehicle = record { primary = r.vehicle.primary; ecus = r.vehicle.ecus; retired = r.vehicle.retired; entries = r.vehicle.entries ++ e ∷ [] } in
     let before : AllByRecursion (λ e. IsPlanFor w e.plan) r.vehicle.entries = stays_own r.vehicle w (λ ecu h. h) r.vehicle.entries (own r.incoming.manifest.vehicle r.vehicle there) in
     let new : IsPlanFor w e.plan = plan_for_ecus s r w refl of.once (few_ecus k s r.incoming.manifest.vehicle r.vehicle of) in
     subst (λ (o : Outcome). HasOwnPlans o.next) is.is (one_changed s r.incoming.manifest.vehicle w own (each_one_more (λ (e : Entry). IsPlanFor w e.plan) r.vehicle.entries e before new))
-acted k s at (Fetch repository name) o sound own h later = subst (λ (o : Outcome). HasOwnPlans o.next) (fetch_ok k s at repository name o h).2 own
+acted k s at (Fetch repository name) o sound own h later = subst (λ (o : Outcome). HasOwnPlans o.next) (fetch_ok s at repository name o h).2 own
 
 pub steps_keep : StepsKeepOwnPlans
 unfolding step
@@ -197,7 +197,7 @@ target_ecu s p (a ∷ assigned) h = by_image (table.get s.images a.file) (and_le
     by_image (Some image) here rest = rw (here, rest)
 
 pub replies_name_once : RepliesNameEcusOnce
-replies_name_once s vehicle v number e root own there is =
+replies_name_once s keys vehicle v number e own there is =
     let plan = nth_at (λ (e : Entry). IsPlanFor v e.plan) v.entries number e (own vehicle v there) is in
     let some = few_some (assigned_target s) e.plan.assigned in
     let few = plan.few in

@@ -26,14 +26,15 @@ use Rattle.up_plan.specs.declared.assigned.Assigned.{Assigned}
 use Rattle.up_plan.specs.Images.{ImageData}
 use Rattle.up_metadata.specs.declared.keys.RoleSecrets.{RoleSecrets}
 use Rattle.up_metadata.specs.Keys.{role_fits}
-use Rattle.up_metadata.specs.Files.{Root, targets_file, targets_text, snapshot_file, snapshot_text, timestamp_file, timestamp_text}
+use Rattle.up_metadata.specs.Files.{targets_file, targets_text, snapshot_file, snapshot_text, timestamp_file, timestamp_text}
 use Rattle.up_metadata.proofs.Lists.{and_left, and_right}
 use Rattle.up_metadata.proofs.RoleFiles.{secrets_fit, secrets_are_few, role_signs, roles_fit}
-use Rattle.up_machine.specs.State.{Entry, Vehicle, State, nth, root_at, is_taken_in}
+use Rattle.up_machine.specs.State.{Entry, Vehicle, State, nth, is_taken_in}
 use Rattle.up_machine.specs.Files.{target_of}
 use Rattle.up_machine.specs.Replies.{assigned_target, reply_metadata}
 use Rattle.up_machine.specs.Laws.{VersionsAreCounts}
-use Rattle.up_machine.specs.Sound.{IsSoundRoot, IsGrounded, IsSound}
+use Rattle.up_machine.specs.Made.{IsSoundRoot}
+use Rattle.up_machine.specs.Sound.{IsGrounded}
 use Rattle.up_machine.proofs.Counters.{versions_are_counts}
 use Rattle.up_machine.proofs.DirectorTargets.{fits}
 use Rattle.up_machine.proofs.Keeping.{nth_at}
@@ -107,18 +108,18 @@ sealed_by seals k secrets signed signers = (seals k secrets signed signers.schem
 
 pub read_again : MomentTextIsPlain → SealedFits → TargetsAreRead → SnapshotsAreRead → TimestampsAreRead → RepliesAreReadAgain
 unfolding targets_text snapshot_text timestamp_text
-read_again moments seals targets_read snapshots_read timestamps_read k s vehicle v number e root law sound typed own there entry rooted =
-    let m = reply_metadata s vehicle number e root in
+read_again moments seals targets_read snapshots_read timestamps_read k s roots vehicle v number e root law sound typed own made there entry rooted =
+    let m = reply_metadata s root.keys vehicle number e.at e.plan in
     let name = typed.vehicles vehicle v there in
     let plan = nth_at (λ (e : Entry). IsPlanFor v e.plan) v.entries number e (own vehicle v there) entry in
     let grounded = nth_at (IsGrounded s) v.entries number e (sound.vehicles vehicle v there).grounded entry in
-    let of = replies_name_once s vehicle v number e root own there entry in
+    let of = replies_name_once s root.keys vehicle v number e own there entry in
     let place = numbered v.entries number e entry in
     let counts = versions_are_counts k s vehicle v sound there in
     let high : number ≤ max_count = omega (arith, place.1, counts.0, counts.1) in
     let version : version_fits number ≡ true = version_in_limits number place.0 high in
     let expires : is_moment (e.at + 7 * 86400) ≡ true = in_time e.at grounded.moment in
-    let roles = roles_fit k root.keys.director (and_left _ _ (nth_at (IsSoundRoot k) s.roots e.root root sound.repositories.each_root rooted).keys) in
+    let roles = roles_fit k root.keys.director (and_left _ _ (nth_at (IsSoundRoot k) roots e.root root made.each_root rooted).keys) in
     let each_fits : list_all (target_fits Director) m.targets ≡ true =
     targets_pass s (λ n. is_taken_in n v) (target_fits Director) e.plan.assigned
     (λ f image ecu found taken. fits ecu image (sound.repositories.each_image f image found).fits) plan.known in

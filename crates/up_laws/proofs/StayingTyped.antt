@@ -87,7 +87,7 @@ acted k s at (Found keys) o fits typed h =
     subst (λ (o : Outcome). IsTyped o.next) (found_ok k s at keys o h).is (record { images = typed.images; vehicles = typed.vehicles })
 acted k s at (Rotate keys) o fits typed h =
     subst (λ (o : Outcome). IsTyped o.next) (rotate_ok k s at keys o h).is (record { images = typed.images; vehicles = typed.vehicles })
-acted k s at (AddImage image) o fits typed h = elim (image_ok s at image o h) [
+acted k s at (AddImage image) o fits typed h = elim (image_ok k s at image o h) [
   | inl same ↦ subst (λ (o : Outcome). IsTyped o.next) same typed
   | inr is ↦ subst (λ (o : Outcome). IsTyped o.next) is.is (record {
     images = λ file x found. get_after-insert (λ n. Typed) s.images image.file file x image found fits (typed.images file x);
@@ -95,7 +95,7 @@ acted k s at (AddImage image) o fits typed h = elim (image_ok s at image o h) [
   })
 ]
 acted k s at (Refresh version) o fits typed h =
-    subst (λ (o : Outcome). IsTyped o.next) (refresh_ok s at version o h).is (record { images = typed.images; vehicles = typed.vehicles })
+    subst (λ (o : Outcome). IsTyped o.next) (refresh_ok k s at version o h).is (record { images = typed.images; vehicles = typed.vehicles })
 acted k s at (AddVehicle new) o fits typed h = elim (vehicle_ok k s at new o h) [
   | inl same ↦ subst (λ (o : Outcome). IsTyped o.next) same typed
   | inr is ↦ subst (λ (o : Outcome). IsTyped o.next) is.is (one_changed s new.vehicle _ typed (record { named = and_left _ _ fits; ecus = and_right (is_ident new.vehicle) _ fits; retired = refl }))
@@ -116,7 +116,7 @@ acted k s at (Deliver body) o fits typed h =
     let r = is.received in
     let of = typed.vehicles r.incoming.manifest.vehicle r.vehicle (received k s at body r is.receives).vehicle in
     subst (λ (o : Outcome). IsTyped o.next) is.is (one_changed s r.incoming.manifest.vehicle _ typed (record { named = of.named; ecus = of.ecus; retired = of.retired }))
-acted k s at (Fetch repository name) o fits typed h = subst (λ (o : Outcome). IsTyped o.next) (fetch_ok k s at repository name o h).2 typed
+acted k s at (Fetch repository name) o fits typed h = subst (λ (o : Outcome). IsTyped o.next) (fetch_ok s at repository name o h).2 typed
 
 pub steps_typed : StepsStayTyped
 unfolding step

@@ -38,7 +38,7 @@ NewDeliveriesAreDecided = (k : Rules) (s : State) (at : ℕ) (body : List ℕ) �
 abbrev pub RepeatsAreDecided : Type 0
 RepeatsAreDecided = (k : Rules) (s : State) (at : ℕ) (body : List ℕ) (r : KeptEntry) → at ≤ last_command_moment
     → repeat_of k s at (Deliver body) ≡ Some r
-    → decide_body k s at body ≡ Ok (record { answer = Replied (reply_to k s r.vehicle r.number r.entry); next = s })
+    → decide_body k s at body ≡ Ok (record { answer = Replied (reply_to r.vehicle r.number r.entry); next = s })
 
 -- ---- both steps
 
@@ -48,5 +48,5 @@ abbrev pub DeliveredInTwoSteps : Type 0
 DeliveredInTwoSteps = (k : Rules) (s : State) (at : ℕ) (body : List ℕ) (name : Name) (told : Result Incoming Refusal) (make : Incoming → Result Delivered Refusal)
     → Gives told (incoming_in body)
     → IfOk told (λ incoming. incoming.manifest.vehicle ≡ name)
-    → ((incoming : Incoming) → IsRead incoming → GivesDelivered k s incoming.manifest.vehicle (make incoming) (decide_incoming k s at incoming))
-    → GivesDelivered k s name (told >>= make) (decide_body k s at body)
+    → ((incoming : Incoming) → IsRead incoming → GivesDelivered s incoming.manifest.vehicle (make incoming) (decide_incoming k s at incoming))
+    → GivesDelivered s name (told >>= make) (decide_body k s at body)

@@ -12,7 +12,7 @@ use Rattle.up_plan.specs.declared.campaign.Item.{Item}
 use Rattle.up_plan.specs.Campaigns.{CampaignData}
 use Rattle.up_plan.specs.Images.{ImageData}
 use Rattle.up_plan.specs.Planning.{plan_of}
-use Rattle.up_metadata.specs.Files.{Root}
+use Rattle.up_metadata.specs.declared.keys.KeySet.{KeySet}
 use Rattle.up_machine.specs.State.{Entry, Vehicle, State, empty_state, nth, is_taken_in}
 use Rattle.up_machine.specs.Replies.{reply_metadata}
 use Rattle.up_machine.specs.Machine.{Timed, step, run}
@@ -74,6 +74,6 @@ pub record AreTargetsFor (v : Vehicle) (targets : List Target) : Type 0 where
 
 -- so are those of the reply to each accepted manifest, and so of a repeat's, whatever was replaced since
 abbrev pub RepliesNameEcusOnce : Type 0
-RepliesNameEcusOnce = (s : State) (vehicle : Name) (v : Vehicle) (number : ℕ) (e : Entry) (root : Root) → HasOwnPlans s
+RepliesNameEcusOnce = (s : State) (keys : KeySet) (vehicle : Name) (v : Vehicle) (number : ℕ) (e : Entry) → HasOwnPlans s
     → table.get s.vehicles vehicle ≡ Some v → nth v.entries number ≡ Some e
-    → AreTargetsFor v (reply_metadata s vehicle number e root).targets
+    → AreTargetsFor v (reply_metadata s keys vehicle number e.at e.plan).targets

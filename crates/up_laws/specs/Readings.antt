@@ -13,8 +13,9 @@ use Rattle.up_roles.specs.Snapshot.{snapshot_payload, snapshot_in}
 use Rattle.up_roles.specs.Targets.{targets_payload, targets_in}
 use Rattle.up_roles.specs.Timestamp.{timestamp_payload, timestamp_in}
 use Rattle.up_metadata.specs.Files.{keys_of, Root, MetadataSet, targets_file, targets_text, snapshot_file, snapshot_text, timestamp_file, timestamp_text}
-use Rattle.up_machine.specs.State.{Entry, Vehicle, State, nth, root_at}
+use Rattle.up_machine.specs.State.{Entry, Vehicle, State, nth}
 use Rattle.up_machine.specs.Replies.{reply_metadata}
+use Rattle.up_machine.specs.Made.{IsMade}
 use Rattle.up_machine.specs.Sound.{IsSound}
 use Rattle.up_laws.specs.Plans.{HasOwnPlans}
 use Rattle.up_laws.specs.Typed.{IsTyped}
@@ -31,9 +32,9 @@ pub record AreReadAgain (k : Rules) (m : MetadataSet) : Type 0 where
   pub snapshot : IsReadAgain snapshot_in k (keys_of m.repository m.keys).snapshot.keys (snapshot_payload (snapshot_file m)) (snapshot_file m) (snapshot_text k m)
   pub timestamp : IsReadAgain timestamp_in k (keys_of m.repository m.keys).timestamp.keys (timestamp_payload (timestamp_file k m)) (timestamp_file k m) (timestamp_text k m)
 
--- so are those in the reply to each accepted manifest, new or a repeat
+-- so are those in the reply to each accepted manifest, new or a repeat, under the keys of its root version
 abbrev pub RepliesAreReadAgain : Type 0
-RepliesAreReadAgain = (k : Rules) (s : State) (vehicle : Name) (v : Vehicle) (number : ℕ) (e : Entry) (root : Root) → IsScheme k
-    → IsSound k s → IsTyped s → HasOwnPlans s
-    → table.get s.vehicles vehicle ≡ Some v → nth v.entries number ≡ Some e → root_at s e.root ≡ Some root
-    → AreReadAgain k (reply_metadata s vehicle number e root)
+RepliesAreReadAgain = (k : Rules) (s : State) (roots : List Root) (vehicle : Name) (v : Vehicle) (number : ℕ) (e : Entry) (root : Root) → IsScheme k
+    → IsSound k s → IsTyped s → HasOwnPlans s → IsMade k s roots
+    → table.get s.vehicles vehicle ≡ Some v → nth v.entries number ≡ Some e → nth roots e.root ≡ Some root
+    → AreReadAgain k (reply_metadata s root.keys vehicle number e.at e.plan)

@@ -19,12 +19,12 @@ use Rattle.up_rows.specs.Fitting.{NewImagesAreNew, IsNewVehicle, NewVehiclesAreN
 not_already : {A : Type 0} (s next : State) → already s ≡ done next → A
 not_already s next same = let answers : Already ≡ Done = ap (λ (o : Outcome). o.answer) same in cc
 
-new_image : (s next : State) (at : ℕ) (image : ImageData) → (already s ≡ done next) ⊎ IsAddedImage s at image (done next) → table.get s.images image.file ≡ None
-new_image s next at image (inl same) = not_already s next same
-new_image s next at image (inr is) = is.none
+new_image : (k : Rules) (s next : State) (at : ℕ) (image : ImageData) → (already s ≡ done next) ⊎ IsAddedImage k s at image (done next) → table.get s.images image.file ≡ None
+new_image k s next at image (inl same) = not_already s next same
+new_image k s next at image (inr is) = is.none
 
 pub images_new : NewImagesAreNew
-images_new s at version image h = new_image s _ at image (image_ok s at image _ h)
+images_new k s at version image h = new_image k s _ at image (image_ok k s at image _ h)
 
 new_vehicle : (k : Rules) (s next : State) (new : NewVehicleData) → (already s ≡ done next) ⊎ IsAddedVehicle k s new (done next) → IsNewVehicle s new
 new_vehicle k s next new (inl same) = not_already s next same

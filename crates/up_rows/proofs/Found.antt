@@ -6,7 +6,6 @@ use Rattle.std.specs.Option.{option_or}
 use Rattle.std.specs.Cmp.Lexicographic.{bytes_decides}
 use Rattle.std.specs.FinMap as table
 use Rattle.up_canon.specs.Names.{Name}
-use Rattle.up_sign.specs.Schemes.{Rules}
 use Rattle.up_manifest.specs.declared.report.Installed.{Installed}
 use Rattle.up_machine.specs.declared.rows.EcuRow.{EcuRow}
 use Rattle.up_machine.specs.declared.rows.VehicleRows.{VehicleRows}
@@ -21,22 +20,22 @@ use Rattle.up_rows.specs.StateRows.{retired_names, rows_of_state}
 use Rattle.up_rows.specs.Lookups.{stands_among, owner_among, last_owner, installed_among, kept_with}
 use Rattle.up_rows.specs.Laws.{VehiclesAreFound, KeptAreFound, TakenAreFound, VersionsAreTold, EcusAreTold, InstalledIsTold, AssignedIsTold}
 use Rattle.up_rows.proofs.Tables.{changed, entries_changed, get_changed}
-use Rattle.up_rows.proofs.Staying.{rows_for}
+use Rattle.up_rows.proofs.Vehicles.{rows_for}
 
 -- ---- vehicles
 
 pub vehicles_found : VehiclesAreFound
-vehicles_found k s name = get_changed rows_of s.vehicles name
+vehicles_found s name = get_changed rows_of s.vehicles name
 
 pub versions_told : VersionsAreTold
-versions_told k s name = ap (option_map (λ (rows : VehicleRows). rows.vehicle.version)) (vehicles_found k s name) ∙ by_case (table.get s.vehicles name)
+versions_told s name = ap (option_map (λ (rows : VehicleRows). rows.vehicle.version)) (vehicles_found s name) ∙ by_case (table.get s.vehicles name)
   where
     by_case : (o : Option Vehicle) → option_map (λ (rows : VehicleRows). rows.vehicle.version) (option_map (rows_of name) o) ≡ option_map (λ (v : Vehicle). length v.entries) o
     by_case None = refl
     by_case (Some v) = refl
 
 pub ecus_told : EcusAreTold
-ecus_told k s name = ap (option_map (λ (rows : VehicleRows). map (λ (row : EcuRow). row.ecu) rows.ecus)) (vehicles_found k s name) ∙ by_case (table.get s.vehicles name)
+ecus_told s name = ap (option_map (λ (rows : VehicleRows). map (λ (row : EcuRow). row.ecu) rows.ecus)) (vehicles_found s name) ∙ by_case (table.get s.vehicles name)
   where
     by_case : (o : Option Vehicle) → option_map (λ (rows : VehicleRows). map (λ (row : EcuRow). row.ecu) rows.ecus) (option_map (rows_of name) o) ≡ option_map (λ (v : Vehicle). ecu_names v.ecus) o
     by_case None = refl
@@ -85,20 +84,20 @@ some_or : {A B : Type 0} (f : A → B) (o : Option A) (p : Option B) → is_some
 some_or f None p = refl
 some_or f (Some x) p = refl
 
-has_found : (k : Rules) (s : State) (ecu : Name) → is_some (owner_among ecu (table.values (rows_of_state k s).vehicles)) ≡ list_any (λ (v : Vehicle). has_ecu ecu v.ecus) (table.values s.vehicles)
-has_found k s ecu =
-    found_any (λ (rows : VehicleRows). stands_among ecu rows.ecus) (table.values (rows_of_state k s).vehicles)
+has_found : (s : State) (ecu : Name) → is_some (owner_among ecu (table.values (rows_of_state s).vehicles)) ≡ list_any (λ (v : Vehicle). has_ecu ecu v.ecus) (table.values s.vehicles)
+has_found s ecu =
+    found_any (λ (rows : VehicleRows). stands_among ecu rows.ecus) (table.values (rows_of_state s).vehicles)
     ∙ ap (λ (es : List (Name × VehicleRows)). any_has ecu (map (λ e. e.1) es)) (entries_changed rows_of s.vehicles) ∙ among_vehicles ecu (table.entries s.vehicles)
 
-had_found : (k : Rules) (s : State) (ecu : Name) → is_some (last_owner ecu (rows_of_state k s)) ≡ list_any (λ (v : Vehicle). is_among ecu v.retired) (table.values s.vehicles)
-had_found k s ecu =
-    found_any (λ (name : Name). is_among ecu (retired_names s name)) (table.keys (rows_of_state k s).vehicles)
+had_found : (s : State) (ecu : Name) → is_some (last_owner ecu (rows_of_state s)) ≡ list_any (λ (v : Vehicle). is_among ecu v.retired) (table.values s.vehicles)
+had_found s ecu =
+    found_any (λ (name : Name). is_among ecu (retired_names s name)) (table.keys (rows_of_state s).vehicles)
     ∙ ap (λ (es : List (Name × VehicleRows)). any_had s ecu (map (λ e. e.0) es)) (entries_changed rows_of s.vehicles) ∙ among_retired s ecu (table.entries s.vehicles) (each_found s.vehicles)
 
 pub taken_found : TakenAreFound
-taken_found k s ecu =
-    some_or (λ (v : VehicleRows). v.vehicle.vehicle) (owner_among ecu (table.values (rows_of_state k s).vehicles)) (last_owner ecu (rows_of_state k s))
-    ∙ ap₂ (λ a c. a || c) (has_found k s ecu) (had_found k s ecu)
+taken_found s ecu =
+    some_or (λ (v : VehicleRows). v.vehicle.vehicle) (owner_among ecu (table.values (rows_of_state s).vehicles)) (last_owner ecu (rows_of_state s))
+    ∙ ap₂ (λ a c. a || c) (has_found s ecu) (had_found s ecu)
     ∙ either_any (λ (v : Vehicle). has_ecu ecu v.ecus) (λ (v : Vehicle). is_among ecu v.retired) (table.values s.vehicles)
 
 -- ---- the image that an ECU reported last
@@ -130,56 +129,56 @@ owner_read ecu (e ∷ es) =
     by_test false is more = more
 
 pub installed_told : InstalledIsTold
-installed_told k s ecu = ap (λ (es : List (Name × VehicleRows)). found_image ecu (map (λ e. e.1) es)) (entries_changed rows_of s.vehicles) ∙ owner_read ecu (table.entries s.vehicles)
+installed_told s ecu = ap (λ (es : List (Name × VehicleRows)). found_image ecu (map (λ e. e.1) es)) (entries_changed rows_of s.vehicles) ∙ owner_read ecu (table.entries s.vehicles)
 
 -- ---- the kept row of a counter
 
-find_row : (k : Rules) (s : State) (name : Name) (counter n : ℕ) (entries : List Entry)
-    → find (λ (row : Kept). row.counter == counter) (map (λ (e : ℕ × Entry). kept_row k s name e.0 e.1) (enumerate_from n entries))
-    ≡ option_map (λ (e : ℕ × Entry). kept_row k s name e.0 e.1) (find (λ (e : ℕ × Entry). e.1.counter == counter) (enumerate_from n entries))
-find_row k s name counter n [] = refl
-find_row k s name counter n (e ∷ entries) = by_test (e.counter == counter) (find_row k s name counter (n + 1) entries)
+find_row : (name : Name) (counter n : ℕ) (entries : List Entry)
+    → find (λ (row : Kept). row.counter == counter) (map (λ (e : ℕ × Entry). kept_row name e.0 e.1) (enumerate_from n entries))
+    ≡ option_map (λ (e : ℕ × Entry). kept_row name e.0 e.1) (find (λ (e : ℕ × Entry). e.1.counter == counter) (enumerate_from n entries))
+find_row name counter n [] = refl
+find_row name counter n (e ∷ entries) = by_test (e.counter == counter) (find_row name counter (n + 1) entries)
   where
     by_test : (t : Bool)
-        → find (λ (row : Kept). row.counter == counter) (map (λ (e : ℕ × Entry). kept_row k s name e.0 e.1) (enumerate_from (n + 1) entries))
-        ≡ option_map (λ (e : ℕ × Entry). kept_row k s name e.0 e.1) (find (λ (e : ℕ × Entry). e.1.counter == counter) (enumerate_from (n + 1) entries))
-        → cond t (Some (kept_row k s name n e)) (find (λ (row : Kept). row.counter == counter) (map (λ (e : ℕ × Entry). kept_row k s name e.0 e.1) (enumerate_from (n + 1) entries)))
-        ≡ option_map (λ (e : ℕ × Entry). kept_row k s name e.0 e.1) (cond t (Some (n, e)) (find (λ (e : ℕ × Entry). e.1.counter == counter) (enumerate_from (n + 1) entries)))
+        → find (λ (row : Kept). row.counter == counter) (map (λ (e : ℕ × Entry). kept_row name e.0 e.1) (enumerate_from (n + 1) entries))
+        ≡ option_map (λ (e : ℕ × Entry). kept_row name e.0 e.1) (find (λ (e : ℕ × Entry). e.1.counter == counter) (enumerate_from (n + 1) entries))
+        → cond t (Some (kept_row name n e)) (find (λ (row : Kept). row.counter == counter) (map (λ (e : ℕ × Entry). kept_row name e.0 e.1) (enumerate_from (n + 1) entries)))
+        ≡ option_map (λ (e : ℕ × Entry). kept_row name e.0 e.1) (cond t (Some (n, e)) (find (λ (e : ℕ × Entry). e.1.counter == counter) (enumerate_from (n + 1) entries)))
     by_test true more = refl
     by_test false more = more
 
 pub kept_found : KeptAreFound
-kept_found k s name counter = by_case (table.get s.vehicles name)
+kept_found s name counter = by_case (table.get s.vehicles name)
   where
-    by_case : (o : Option Vehicle) → find (λ (row : Kept). row.counter == counter) (unwrap_or (option_map (rows_for k s name) o) [])
-        ≡ option_and_then (λ (v : Vehicle). option_map (λ (e : ℕ × Entry). kept_row k s name e.0 e.1) (find (λ (e : ℕ × Entry). e.1.counter == counter) (enumerate_from 1 v.entries))) o
+    by_case : (o : Option Vehicle) → find (λ (row : Kept). row.counter == counter) (unwrap_or (option_map (rows_for name) o) [])
+        ≡ option_and_then (λ (v : Vehicle). option_map (λ (e : ℕ × Entry). kept_row name e.0 e.1) (find (λ (e : ℕ × Entry). e.1.counter == counter) (enumerate_from 1 v.entries))) o
     by_case None = refl
-    by_case (Some v) = find_row k s name counter 1 v.entries
+    by_case (Some v) = find_row name counter 1 v.entries
 
 -- ---- what is assigned to a vehicle
 
-plan_row : (k : Rules) (s : State) (name : Name) (counter n : ℕ) (entries : List Entry)
-    → option_map (λ (row : Kept). row.plan) (option_map (λ (e : ℕ × Entry). kept_row k s name e.0 e.1) (find (λ (e : ℕ × Entry). e.1.counter == counter) (enumerate_from n entries)))
+plan_row : (name : Name) (counter n : ℕ) (entries : List Entry)
+    → option_map (λ (row : Kept). row.plan) (option_map (λ (e : ℕ × Entry). kept_row name e.0 e.1) (find (λ (e : ℕ × Entry). e.1.counter == counter) (enumerate_from n entries)))
     ≡ option_map (λ (e : Entry). e.plan) (find (λ (e : Entry). e.counter == counter) entries)
-plan_row k s name counter n [] = refl
-plan_row k s name counter n (e ∷ entries) = by_test (e.counter == counter) (plan_row k s name counter (n + 1) entries)
+plan_row name counter n [] = refl
+plan_row name counter n (e ∷ entries) = by_test (e.counter == counter) (plan_row name counter (n + 1) entries)
   where
     by_test : (t : Bool)
-        → option_map (λ (row : Kept). row.plan) (option_map (λ (e : ℕ × Entry). kept_row k s name e.0 e.1) (find (λ (e : ℕ × Entry). e.1.counter == counter) (enumerate_from (n + 1) entries)))
+        → option_map (λ (row : Kept). row.plan) (option_map (λ (e : ℕ × Entry). kept_row name e.0 e.1) (find (λ (e : ℕ × Entry). e.1.counter == counter) (enumerate_from (n + 1) entries)))
         ≡ option_map (λ (e : Entry). e.plan) (find (λ (e : Entry). e.counter == counter) entries)
-        → option_map (λ (row : Kept). row.plan) (option_map (λ (e : ℕ × Entry). kept_row k s name e.0 e.1) (cond t (Some (n, e)) (find (λ (e : ℕ × Entry). e.1.counter == counter) (enumerate_from (n + 1) entries))))
+        → option_map (λ (row : Kept). row.plan) (option_map (λ (e : ℕ × Entry). kept_row name e.0 e.1) (cond t (Some (n, e)) (find (λ (e : ℕ × Entry). e.1.counter == counter) (enumerate_from (n + 1) entries))))
         ≡ option_map (λ (e : Entry). e.plan) (cond t (Some e) (find (λ (e : Entry). e.counter == counter) entries))
     by_test true more = refl
     by_test false more = more
 
 pub assigned_told : AssignedIsTold
-assigned_told k s name =
-    ap (λ (o : Option VehicleRows). option_map (λ (row : Kept). row.plan) (option_and_then (λ (rows : VehicleRows). kept_with name rows.vehicle.last (rows_of_state k s)) o)) (vehicles_found k s name) ∙ by_case (table.get s.vehicles name) refl
+assigned_told s name =
+    ap (λ (o : Option VehicleRows). option_map (λ (row : Kept). row.plan) (option_and_then (λ (rows : VehicleRows). kept_with name rows.vehicle.last (rows_of_state s)) o)) (vehicles_found s name) ∙ by_case (table.get s.vehicles name) refl
   where
     by_case : (o : Option Vehicle) → table.get s.vehicles name ≡ o
-        → option_map (λ (row : Kept). row.plan) (option_and_then (λ (rows : VehicleRows). kept_with name rows.vehicle.last (rows_of_state k s)) (option_map (rows_of name) o)) ≡ option_and_then plan_for o
+        → option_map (λ (row : Kept). row.plan) (option_and_then (λ (rows : VehicleRows). kept_with name rows.vehicle.last (rows_of_state s)) (option_map (rows_of name) o)) ≡ option_and_then plan_for o
     by_case None is = refl
     by_case (Some v) is =
-        ap (option_map (λ (row : Kept). row.plan)) (kept_found k s name (last_counter v.entries)
-        ∙ ap (option_and_then (λ (w : Vehicle). option_map (λ (e : ℕ × Entry). kept_row k s name e.0 e.1) (find (λ (e : ℕ × Entry). e.1.counter == last_counter v.entries) (enumerate_from 1 w.entries)))) is)
-        ∙ plan_row k s name (last_counter v.entries) 1 v.entries
+        ap (option_map (λ (row : Kept). row.plan)) (kept_found s name (last_counter v.entries)
+        ∙ ap (option_and_then (λ (w : Vehicle). option_map (λ (e : ℕ × Entry). kept_row name e.0 e.1) (find (λ (e : ℕ × Entry). e.1.counter == last_counter v.entries) (enumerate_from 1 w.entries)))) is)
+        ∙ plan_row name (last_counter v.entries) 1 v.entries

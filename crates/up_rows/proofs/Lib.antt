@@ -1,11 +1,9 @@
 pub mod Tables
 mod Numbered
-mod Staying
 pub mod Told
 mod Found
 pub mod Files
-pub mod Roots
-mod Registers
+mod Repositories
 pub mod Vehicles
 mod Replacements
 mod Fitting

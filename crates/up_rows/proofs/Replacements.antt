@@ -15,7 +15,6 @@ use Rattle.up_machine.specs.declared.rows.VehicleRows.{VehicleRows}
 use Rattle.up_machine.specs.declared.vehicle.NewEcu.{NewEcu}
 use Rattle.up_machine.specs.declared.vehicle.Replacement.{Replacement}
 use Rattle.up_machine.specs.Deliveries.{report_name}
-use Rattle.up_machine.specs.Files.{image_texts}
 use Rattle.up_machine.specs.Inventory.{with_replaced, with_replacement}
 use Rattle.up_machine.specs.Rows.{founding_row, ecu_row, new_row, rows_of}
 use Rattle.up_machine.specs.Sound.{IsEntryOf}
@@ -26,12 +25,11 @@ use Rattle.up_machine.proofs.Installing.{found_is}
 use Rattle.up_machine.proofs.Tables.{one_name, get_new}
 use Rattle.up_machine.proofs.Values.{found_any}
 use Rattle.up_rows.specs.Tables.{each_value}
-use Rattle.up_rows.specs.StateRows.{root_rows, kept_rows, retired_names}
+use Rattle.up_rows.specs.StateRows.{kept_rows, retired_names}
 use Rattle.up_rows.specs.Changes.{in_place_of_row, replaced_rows}
 use Rattle.up_rows.specs.Laws.{EcusAreReplaced}
 use Rattle.up_rows.proofs.Tables.{get_changed}
-use Rattle.up_rows.proofs.Staying.{rows_for}
-use Rattle.up_rows.proofs.Vehicles.{by_name, same_test, inserted, same_read, names_of, rows_alike}
+use Rattle.up_rows.proofs.Vehicles.{by_name, same_test, inserted, same_read, names_of, rows_for}
 
 -- ---- the new ECU has no report yet
 
@@ -116,11 +114,10 @@ retired_replaced s r v there q =
     by_test true same = ap (λ (o : Option Vehicle). names_of o ++ r.old ∷ []) (ap (table.get s.vehicles) (one_name q r.vehicle same) ∙ there)
     by_test false same = refl
 
-replaced_kept : (k : Rules) (s : State) (r : Replacement) (v : Vehicle) → table.get s.vehicles r.vehicle ≡ Some v → (q : Name) → kept_rows k s q ≡ kept_rows k (with_replacement s r v) q
-replaced_kept k s r v there q =
-    let rows : Option Vehicle → List Kept = λ o. unwrap_or (option_map (rows_for k s q) o) [] in
+replaced_kept : (s : State) (r : Replacement) (v : Vehicle) → table.get s.vehicles r.vehicle ≡ Some v → (q : Name) → kept_rows s q ≡ kept_rows (with_replacement s r v) q
+replaced_kept s r v there q =
+    let rows : Option Vehicle → List Kept = λ o. unwrap_or (option_map (rows_for q) o) [] in
     same_read rows s.vehicles r.vehicle (with_replaced v r.old r.ecu) (ap rows there) q
-    ∙ sym (rows_alike k s (with_replacement s r v).vehicles q (table.get (with_replacement s r v).vehicles q))
 
 -- a name that is taken nowhere isn't taken in the vehicle
 free_in : (s : State) (name : Name) (v : Vehicle) (ecu : Name) → table.get s.vehicles name ≡ Some v → is_taken s ecu ≡ false → is_taken_in ecu v ≡ false
@@ -130,6 +127,6 @@ pub ecus_replaced : EcusAreReplaced
 ecus_replaced k s r v sound there free =
     let none : last_report v r.ecu.ecu ≡ None = no_report r.vehicle v r.ecu.ecu (free_in s r.vehicle v r.ecu.ecu there free) (sound.vehicles r.vehicle v there).entries in
     let vehicles = vehicles_replaced s r v there none in
-    let kept : (q : Name) → kept_rows k s q ≡ kept_rows k (with_replacement s r v) q = replaced_kept k s r v there in
+    let kept : (q : Name) → kept_rows s q ≡ kept_rows (with_replacement s r v) q = replaced_kept s r v there in
     let retired : (q : Name) → (if bytes_eq r.vehicle q then retired_names s q ++ r.old ∷ [] else retired_names s q) ≡ retired_names (with_replacement s r v) q = retired_replaced s r v there in
-    λ i. record { founding = founding_row s; roots = root_rows k s; images = s.images; files = image_texts k s; campaigns = s.campaigns; vehicles = vehicles i; kept = λ q. kept q i; retired = λ q. retired q i }
+    λ i. record { founding = founding_row s; director = s.director.texts; image = s.image.texts; images = s.images; files = s.files; campaigns = s.campaigns; vehicles = vehicles i; kept = λ q. kept q i; retired = λ q. retired q i }

@@ -10,23 +10,13 @@ use Rattle.up_machine.specs.declared.decision.RootRows.{RootRows}
 use Rattle.up_machine.specs.declared.rows.EcuRow.{EcuRow}
 use Rattle.up_machine.specs.declared.rows.VehicleRows.{VehicleRows}
 use Rattle.up_machine.specs.declared.vehicle.Replacement.{Replacement}
-use Rattle.up_machine.specs.Files.{numbered_root_name}
 use Rattle.up_machine.specs.Rows.{new_row}
-use Rattle.up_rows.specs.declared.root_row.RootRow.{RootRow}
 use Rattle.up_rows.specs.StateRows.{StateRows}
 
 -- one more root version
-abbrev pub new_root : RootRows → RootRow
-new_root rows = record {
-  name = numbered_root_name rows.founding.root;
-  keys = rows.founding.keys;
-  at = rows.founding.stamp;
-  director = rows.director;
-  image = rows.image;
-}
-
 abbrev pub with_root_rows : StateRows → RootRows → StateRows
-with_root_rows old rows = record old { founding = Some rows.founding; roots = old.roots ++ new_root rows ∷ []; files = Some rows.files }
+with_root_rows old rows =
+    record old { founding = Some rows.founding; director = old.director ++ rows.director ∷ []; image = old.image ++ rows.image ∷ []; files = Some rows.files }
 
 -- the image repository's files are made anew
 abbrev pub with_register_rows : StateRows → RegisterRows → StateRows

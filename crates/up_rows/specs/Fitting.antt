@@ -15,7 +15,7 @@ use Rattle.up_machine.specs.Vehicles.{NewVehicleData, has_ecu, ecu_names}
 
 -- an image that is done has a filename that is new
 abbrev pub NewImagesAreNew : Type 0
-NewImagesAreNew = (s : State) (at version : ℕ) (image : ImageData) → decide_image s at image ≡ Ok (done (stamped (with_image s image) at version))
+NewImagesAreNew = (k : Rules) (s : State) (at version : ℕ) (image : ImageData) → decide_image k s at image ≡ Ok (done (stamped k (with_image s image) at version))
     → table.get s.images image.file ≡ None
 
 -- no vehicle has the name, no ECU has or had one of its ECUs' names, and these are distinct

@@ -1,6 +1,6 @@
 -- The laws of the rows of a state: they tell the state, what is looked up among them is the state's, and what a command changes of
 -- them makes the rows of the next state.
-use Rattle.std.specs.Prelude.{◌≡◌, ◌==◌, ℕ, false, Some, None, is_some, is_none, length}
+use Rattle.std.specs.Prelude.{◌≡◌, ℕ, false, Some, None, is_some}
 use Rattle.std.specs.List.{AllByRecursion}
 use Rattle.std.specs.FinMap as table
 use Rattle.up_canon.specs.Names.{Name}
@@ -21,7 +21,7 @@ use Rattle.up_machine.specs.Reads.{ecus_of, version_of, installed, assigned_to}
 use Rattle.up_machine.specs.Repositories.{stamped, with_root, with_image}
 use Rattle.up_machine.specs.Rows.{founding_row, rows_of, vehicle_rows, kept_at}
 use Rattle.up_machine.specs.Sound.{IsSound}
-use Rattle.up_machine.specs.State.{Entry, Vehicle, State, empty_state, added, is_taken}
+use Rattle.up_machine.specs.State.{Entry, Vehicle, State, empty_state, is_founded, added, is_taken}
 use Rattle.up_machine.specs.Vehicles.{NewVehicleData}
 use Rattle.up_rows.specs.StateRows.{no_rows, rows_of_state, state_of_rows}
 use Rattle.up_rows.specs.SecondHashes.{TellsItsHash}
@@ -31,43 +31,43 @@ use Rattle.up_rows.specs.Changes.{with_root_rows, with_register_rows, with_image
 -- ---- the state
 
 abbrev pub RowsTellTheState : Type 0
-RowsTellTheState = (k : Rules) (s : State) → IsSound k s → state_of_rows (rows_of_state k s) ≡ s
+RowsTellTheState = (k : Rules) (s : State) → IsSound k s → state_of_rows (rows_of_state s) ≡ s
 
 abbrev pub NoRowsOfTheEmptyState : Type 0
-NoRowsOfTheEmptyState = (k : Rules) → rows_of_state k empty_state ≡ no_rows
+NoRowsOfTheEmptyState = rows_of_state empty_state ≡ no_rows
 
 -- ---- what is looked up
 
 -- the founding's row is there from founding on
 abbrev pub FoundedIsFound : Type 0
-FoundedIsFound = (s : State) → is_none (founding_row s) ≡ (length s.roots == 0)
+FoundedIsFound = (s : State) → is_some (founding_row s) ≡ is_founded s
 
 abbrev pub VehiclesAreFound : Type 0
-VehiclesAreFound = (k : Rules) (s : State) (name : Name) → table.get (rows_of_state k s).vehicles name ≡ vehicle_rows s name
+VehiclesAreFound = (s : State) (name : Name) → table.get (rows_of_state s).vehicles name ≡ vehicle_rows s name
 
 abbrev pub KeptAreFound : Type 0
-KeptAreFound = (k : Rules) (s : State) (name : Name) (counter : ℕ) → kept_with name counter (rows_of_state k s) ≡ kept_at k s name counter
+KeptAreFound = (s : State) (name : Name) (counter : ℕ) → kept_with name counter (rows_of_state s) ≡ kept_at s name counter
 
 -- a name is that of an ECU, or of one that was replaced, where an owner is found
 abbrev pub TakenAreFound : Type 0
-TakenAreFound = (k : Rules) (s : State) (ecu : Name) → is_some (owner_found ecu (rows_of_state k s)) ≡ is_taken s ecu
+TakenAreFound = (s : State) (ecu : Name) → is_some (owner_found ecu (rows_of_state s)) ≡ is_taken s ecu
 
 abbrev pub FilesAreFound : Type 0
-FilesAreFound = (k : Rules) (s : State) (repository : Repository) (name : Name) → text_held (rows_of_state k s) repository name ≡ file k s repository name
+FilesAreFound = (s : State) (repository : Repository) (name : Name) → text_held (rows_of_state s) repository name ≡ file s repository name
 
 -- ---- what is told of the inventory
 
 abbrev pub VersionsAreTold : Type 0
-VersionsAreTold = (k : Rules) (s : State) (vehicle : Name) → version_told (rows_of_state k s) vehicle ≡ version_of s vehicle
+VersionsAreTold = (s : State) (vehicle : Name) → version_told (rows_of_state s) vehicle ≡ version_of s vehicle
 
 abbrev pub EcusAreTold : Type 0
-EcusAreTold = (k : Rules) (s : State) (vehicle : Name) → ecus_told (rows_of_state k s) vehicle ≡ ecus_of s vehicle
+EcusAreTold = (s : State) (vehicle : Name) → ecus_told (rows_of_state s) vehicle ≡ ecus_of s vehicle
 
 abbrev pub InstalledIsTold : Type 0
-InstalledIsTold = (k : Rules) (s : State) (ecu : Name) → installed_told (rows_of_state k s) ecu ≡ installed s ecu
+InstalledIsTold = (s : State) (ecu : Name) → installed_told (rows_of_state s) ecu ≡ installed s ecu
 
 abbrev pub AssignedIsTold : Type 0
-AssignedIsTold = (k : Rules) (s : State) (vehicle : Name) → plan_told (rows_of_state k s) vehicle ≡ assigned_to s vehicle
+AssignedIsTold = (s : State) (vehicle : Name) → plan_told (rows_of_state s) vehicle ≡ assigned_to s vehicle
 
 -- the row of each ECU, of any vehicle, tells the second hash that the text of its last report has
 abbrev pub EcusTellTheirHash : Type 0
@@ -77,36 +77,36 @@ EcusTellTheirHash = (name : Name) (v : Vehicle) → AllByRecursion TellsItsHash 
 
 -- a founding or a rotation
 abbrev pub RootsAreAdded : Type 0
-RootsAreAdded = (k : Rules) (s : State) (at version : ℕ) (keys : KeySet) (rows : RootRows) → IsSound k s
-    → HasRootRows k (stamped (with_root s at keys) at version) rows
-    → with_root_rows (rows_of_state k s) rows ≡ rows_of_state k (stamped (with_root s at keys) at version)
+RootsAreAdded = (k : Rules) (s : State) (at version : ℕ) (keys : KeySet) (rows : RootRows)
+    → HasRootRows (stamped k (with_root k s at keys) at version) rows
+    → with_root_rows (rows_of_state s) rows ≡ rows_of_state (stamped k (with_root k s at keys) at version)
 
 -- a refresh
 abbrev pub FilesAreReplaced : Type 0
-FilesAreReplaced = (k : Rules) (s : State) (at version : ℕ) (rows : RegisterRows) → IsSound k s
-    → HasRegisterRows k (stamped s at version) rows → with_register_rows (rows_of_state k s) rows ≡ rows_of_state k (stamped s at version)
+FilesAreReplaced = (k : Rules) (s : State) (at version : ℕ) (rows : RegisterRows)
+    → HasRegisterRows (stamped k s at version) rows → with_register_rows (rows_of_state s) rows ≡ rows_of_state (stamped k s at version)
 
--- an image whose filename is new
+-- an image
 abbrev pub ImagesAreAdded : Type 0
-ImagesAreAdded = (k : Rules) (s : State) (at version : ℕ) (image : ImageData) (rows : RegisterRows) → IsSound k s
-    → table.get s.images image.file ≡ None → HasRegisterRows k (stamped (with_image s image) at version) rows
-    → with_image_rows (rows_of_state k s) image rows ≡ rows_of_state k (stamped (with_image s image) at version)
+ImagesAreAdded = (k : Rules) (s : State) (at version : ℕ) (image : ImageData) (rows : RegisterRows)
+    → HasRegisterRows (stamped k (with_image s image) at version) rows
+    → with_image_rows (rows_of_state s) image rows ≡ rows_of_state (stamped k (with_image s image) at version)
 
 -- a vehicle whose name is new
 abbrev pub VehiclesAreAdded : Type 0
-VehiclesAreAdded = (k : Rules) (s : State) (new : NewVehicleData) → table.get s.vehicles new.vehicle ≡ None
-    → with_vehicle_rows (rows_of_state k s) (rows_of new.vehicle (added new)) ≡ rows_of_state k (with_vehicle s new)
+VehiclesAreAdded = (s : State) (new : NewVehicleData) → table.get s.vehicles new.vehicle ≡ None
+    → with_vehicle_rows (rows_of_state s) (rows_of new.vehicle (added new)) ≡ rows_of_state (with_vehicle s new)
 
 -- an ECU of a vehicle, by another one whose name no ECU has or had: no report of the new one was accepted
 abbrev pub EcusAreReplaced : Type 0
 EcusAreReplaced = (k : Rules) (s : State) (r : Replacement) (v : Vehicle) → IsSound k s → table.get s.vehicles r.vehicle ≡ Some v
-    → is_taken s r.ecu.ecu ≡ false → with_replaced_rows (rows_of_state k s) r ≡ rows_of_state k (with_replacement s r v)
+    → is_taken s r.ecu.ecu ≡ false → with_replaced_rows (rows_of_state s) r ≡ rows_of_state (with_replacement s r v)
 
 -- a campaign, opened or closed
 abbrev pub CampaignsAreWritten : Type 0
-CampaignsAreWritten = (k : Rules) (s : State) (campaign : CampaignData) → with_campaign_row (rows_of_state k s) campaign ≡ rows_of_state k (with_campaign s campaign)
+CampaignsAreWritten = (s : State) (campaign : CampaignData) → with_campaign_row (rows_of_state s) campaign ≡ rows_of_state (with_campaign s campaign)
 
 -- an accepted manifest
 abbrev pub ManifestsAreAdded : Type 0
-ManifestsAreAdded = (k : Rules) (s : State) (name : Name) (v : Vehicle) (e : Entry) (rows : AcceptedRows) → table.get s.vehicles name ≡ Some v
-    → HasAcceptedRows k s name v e rows → with_accepted_rows (rows_of_state k s) rows ≡ rows_of_state k (with_entry s name v e)
+ManifestsAreAdded = (s : State) (name : Name) (v : Vehicle) (e : Entry) (rows : AcceptedRows) → table.get s.vehicles name ≡ Some v
+    → HasAcceptedRows name v e rows → with_accepted_rows (rows_of_state s) rows ≡ rows_of_state (with_entry s name v e)

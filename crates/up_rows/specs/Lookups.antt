@@ -1,5 +1,5 @@
 -- What is looked up among the rows of a state.
-use Rattle.std.specs.Prelude.{ℕ, ◌-◌, ◌==◌, Bool, List, Option, None, option_and_then, option_map, if◌then◌else◌, map, find, slice_get, length, codes, bytes_eq}
+use Rattle.std.specs.Prelude.{ℕ, ◌==◌, Bool, List, Option, None, option_and_then, option_map, if◌then◌else◌, map, find, codes, bytes_eq}
 use Rattle.std.specs.List.{list_any}
 use Rattle.std.specs.Option.{option_or}
 use Rattle.std.specs.FinMap as table
@@ -12,9 +12,9 @@ use Rattle.up_metadata.specs.declared.role_files.RoleTexts.{RoleTexts}
 use Rattle.up_machine.specs.declared.rows.EcuRow.{EcuRow}
 use Rattle.up_machine.specs.declared.rows.Kept.{Kept}
 use Rattle.up_machine.specs.declared.rows.VehicleRows.{VehicleRows}
-use Rattle.up_machine.specs.Files.{texts_in}
+use Rattle.up_machine.specs.State.{last_text}
+use Rattle.up_machine.specs.Files.{File, numbered_roots, texts_in}
 use Rattle.up_machine.specs.Vehicles.{is_among}
-use Rattle.up_rows.specs.declared.root_row.RootRow.{RootRow}
 use Rattle.up_rows.specs.StateRows.{StateRows}
 
 -- ---- accepted manifests
@@ -51,17 +51,22 @@ installed_among ecu rows = option_and_then (λ row. row.installed) (find (λ row
 
 -- ---- files
 
-abbrev pub text_in : Repository → RootRow → List ℕ
-text_in Director row = row.director
-text_in Image row = row.image
+-- the texts of a repository's root versions
+abbrev pub root_texts : Repository → StateRows → List (List ℕ)
+root_texts Director rows = rows.director
+root_texts Image rows = rows.image
 
--- the root version of a file of this name; `root.json` is the last one's
-abbrev pub row_named : Name → List RootRow → Option RootRow
-row_named name rows = option_or (if bytes_eq (codes "root.json") name then slice_get rows (length rows - 1) else None) (find (λ row. bytes_eq row.name name) rows)
+-- the text of the first of these files of this name
+abbrev pub text_named : Name → List File → Option (List ℕ)
+text_named name files = option_map (λ f. f.1) (find (λ f. bytes_eq f.0 name) files)
+
+-- the text of a root version's file of this name; `root.json` is the last one's
+abbrev pub root_named : Name → List (List ℕ) → Option (List ℕ)
+root_named name texts = option_or (if bytes_eq (codes "root.json") name then last_text texts else None) (text_named name (numbered_roots texts))
 
 -- the text of one of the image repository's other files
 abbrev pub text_among : Option RoleTexts → Name → Option (List ℕ)
-text_among texts name = option_map (λ f. f.1) (find (λ f. bytes_eq f.0 name) (texts_in texts))
+text_among texts name = text_named name (texts_in texts)
 
 -- the text of a file of this name
 abbrev pub other_text : Repository → Option RoleTexts → Name → Option (List ℕ)
@@ -69,7 +74,7 @@ other_text Director texts name = None
 other_text Image texts name = text_among texts name
 
 abbrev pub text_held : StateRows → Repository → Name → Option (List ℕ)
-text_held rows repository name = option_or (option_map (text_in repository) (row_named name rows.roots)) (other_text repository rows.files name)
+text_held rows repository name = option_or (root_named name (root_texts repository rows)) (other_text repository rows.files name)
 
 -- ---- what is told of the inventory
 

@@ -3,29 +3,26 @@ use Rattle.std.specs.Prelude.{ℕ, List, [], Option, None, option_map, unwrap_or
 use Rattle.std.specs.List.{enumerate_from}
 use Rattle.std.specs.FinMap as table
 use Rattle.up_canon.specs.Names.{Name, Table}
-use Rattle.up_sign.specs.Schemes.{Rules}
-use Rattle.up_roles.specs.declared.repository.Repository.TheVariants.{Director, Image}
 use Rattle.up_plan.specs.Campaigns.{CampaignData}
 use Rattle.up_plan.specs.Images.{ImageData}
 use Rattle.up_metadata.specs.declared.role_files.RoleTexts.{RoleTexts}
-use Rattle.up_metadata.specs.Files.{Root}
+use Rattle.up_metadata.specs.declared.keys.RepoKeys.{RepoKeys}
 use Rattle.up_machine.specs.declared.rows.EcuRow.{EcuRow}
 use Rattle.up_machine.specs.declared.rows.Founding.{Founding}
 use Rattle.up_machine.specs.declared.rows.Kept.{Kept}
 use Rattle.up_machine.specs.declared.rows.VehicleRows.{VehicleRows}
 use Rattle.up_machine.specs.declared.vehicle.NewEcu.{NewEcu}
-use Rattle.up_machine.specs.State.{Entry, Vehicle, State}
-use Rattle.up_machine.specs.Files.{numbered_root_name, root_text_at, image_texts}
+use Rattle.up_machine.specs.State.{Chain, Entry, Vehicle, State, no_keys}
 use Rattle.up_machine.specs.Rows.{founding_row, rows_of, kept_row}
-use Rattle.up_rows.specs.declared.root_row.RootRow.{RootRow}
 use Rattle.up_rows.specs.Tables.{each_value}
 
--- the founding, the root versions in order, the registered images, the image repository's other files, the campaigns, the
--- vehicles with their ECUs, for each vehicle a row for each accepted manifest in the order of acceptance, and the identifiers of
--- its replaced ECUs in the order of their replacement
+-- the founding, the texts of each repository's root versions in order, the registered images, the image repository's other files, the
+-- campaigns, the vehicles with their ECUs, for each vehicle a row for each accepted manifest in the order of acceptance, and the
+-- identifiers of its replaced ECUs in the order of their replacement
 pub record StateRows : Type 0 where
   pub founding : Option Founding
-  pub roots : List RootRow
+  pub director : List (List ℕ)
+  pub image : List (List ℕ)
   pub images : Table ImageData
   pub files : Option RoleTexts
   pub campaigns : Table CampaignData
@@ -35,54 +32,43 @@ pub record StateRows : Type 0 where
 
 -- nothing is founded
 abbrev pub no_rows : StateRows
-no_rows = record { founding = None; roots = []; images = table.empty; files = None; campaigns = table.empty; vehicles = table.empty; kept = λ name. []; retired = λ name. [] }
+no_rows = record { founding = None; director = []; image = []; images = table.empty; files = None; campaigns = table.empty; vehicles = table.empty; kept = λ name. []; retired = λ name. [] }
 
 -- ---- the rows of a state
 
--- root version i, with its file's name and text in each repository
-abbrev pub root_row : Rules → State → ℕ → Root → RootRow
-root_row k s i root = record {
-  name = numbered_root_name i;
-  keys = root.keys;
-  at = root.at;
-  director = root_text_at k s Director i root;
-  image = root_text_at k s Image i root;
-}
-
-abbrev pub root_rows : Rules → State → List RootRow
-root_rows k s = map (λ r. root_row k s r.0 r.1) (enumerate_from 1 s.roots)
-
 -- the rows kept for a vehicle's entries, replies included; none of an unknown vehicle
-abbrev pub kept_rows : Rules → State → Name → List Kept
-kept_rows k s name =
-    unwrap_or (option_map (λ v. map (λ e. kept_row k s name e.0 e.1) (enumerate_from 1 v.entries)) (table.get s.vehicles name)) []
+abbrev pub kept_rows : State → Name → List Kept
+kept_rows s name =
+    unwrap_or (option_map (λ v. map (λ e. kept_row name e.0 e.1) (enumerate_from 1 v.entries)) (table.get s.vehicles name)) []
 
 -- the identifiers of a vehicle's replaced ECUs; none of an unknown vehicle
 abbrev pub retired_names : State → Name → List Name
 retired_names s name = unwrap_or (option_map (λ v. v.retired) (table.get s.vehicles name)) []
 
-abbrev pub rows_of_state : Rules → State → StateRows
-rows_of_state k s = record {
+abbrev pub rows_of_state : State → StateRows
+rows_of_state s = record {
   founding = founding_row s;
-  roots = root_rows k s;
+  director = s.director.texts;
+  image = s.image.texts;
   images = s.images;
-  files = image_texts k s;
+  files = s.files;
   campaigns = s.campaigns;
   vehicles = each_value rows_of s.vehicles;
-  kept = kept_rows k s;
+  kept = kept_rows s;
   retired = retired_names s;
 }
 
 -- ---- the state of rows
 
-abbrev pub root_of : RootRow → Root
-root_of row = record { keys = row.keys; at = row.at }
+-- the root versions' texts, with the founding's keys of the last one
+abbrev pub chain_of_rows : (Founding → RepoKeys) → Option Founding → List (List ℕ) → Chain
+chain_of_rows keys founding texts = record { texts = texts; keys = unwrap_or (option_map keys founding) no_keys }
 
 abbrev pub ecu_of : EcuRow → NewEcu
 ecu_of row = record { ecu = row.ecu; hardware = row.hardware; public = row.public }
 
 abbrev pub entry_of : Kept → Entry
-entry_of row = record { counter = row.counter; signed = row.signed; at = row.at; root = row.root; plan = row.plan }
+entry_of row = record { counter = row.counter; signed = row.signed; at = row.at; root = row.root; plan = row.plan; reply = row.reply }
 
 abbrev pub vehicle_of_rows : (Name → List Kept) → (Name → List Name) → Name → VehicleRows → Vehicle
 vehicle_of_rows kept retired name rows =
@@ -90,7 +76,9 @@ vehicle_of_rows kept retired name rows =
 
 abbrev pub state_of_rows : StateRows → State
 state_of_rows rows = record {
-  roots = map root_of rows.roots;
+  director = chain_of_rows (λ f. f.keys.director) rows.founding rows.director;
+  image = chain_of_rows (λ f. f.keys.image) rows.founding rows.image;
+  files = rows.files;
   images = rows.images;
   image_version = unwrap_or (option_map (λ row. row.image_version) rows.founding) 0;
   stamp = unwrap_or (option_map (λ row. row.stamp) rows.founding) 0;

@@ -1,5 +1,0 @@
-use Rattle.up_rows.proofs.Roots.{roots_added}
-use Rattle.up_rows.proofs.laws.roots_are_added.Goals as goal
-
-pub returns : goal.returns
-returns c = roots_added
