@@ -18,7 +18,6 @@ use Rattle.up_plan.specs.Images.{ImageData}
 use Rattle.up_plan.specs.Planning.{plan_of}
 use Rattle.up_roles.specs.declared.targets.Target.{Target}
 use Rattle.up_roles.specs.Targets.{ecus_of}
-use Rattle.up_metadata.specs.Files.{Root}
 use Rattle.up_machine.specs.declared.command.Command.{Command}
 use Rattle.up_machine.specs.declared.command.Command.TheVariants.{Found, Rotate, AddImage, Refresh, AddVehicle, ReplaceEcu, OpenCampaign, CloseCampaign, Deliver, Fetch}
 use Rattle.up_machine.specs.declared.vehicle.NewEcu.{NewEcu}

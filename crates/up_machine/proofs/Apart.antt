@@ -1,7 +1,7 @@
 -- What is served to one vehicle doesn't depend on what other vehicles deliver.
 use Rattle.std.proofs.Common.{◌≡◌, ℕ, List, Bool, true, false, cond, not, Option, Some, None, Result, Ok, Err, refl, sym, ap, ◌∙◌, subst}
 use Rattle.std.proofs.lemmas.Bool.{not-true, not-false}
-use Rattle.std.specs.Prelude.{⊤, ◌≢◌, option_map, unwrap_or, is_some, find, bytes_eq, length, ◌==◌, nat_le}
+use Rattle.std.specs.Prelude.{⊤, ◌≢◌, option_map, unwrap_or, is_some, find, bytes_eq, nat_le}
 use Rattle.std.specs.List.{list_any, list_all}
 use Rattle.std.specs.Ordering.{nat_cmp, eq_by_cmp}
 use Rattle.std.specs.Cmp.Lexicographic.{slice_cmp, bytes_decides}

@@ -1,5 +1,5 @@
 -- The founding's row of a state, what is due of the state that a new root version or a change of the register leaves, and its rows.
-use Rattle.std.proofs.Common.{◌≡◌, ℕ, ◌+◌, List, [], ◌∷◌, ◌++◌, true, false, Option, Some, None, Result, Ok, Err, length, refl, sym, ap, ap₂, ◌∙◌, subst}
+use Rattle.std.proofs.Common.{◌≡◌, ℕ, ◌+◌, List, [], ◌∷◌, true, false, Option, Some, None, Result, Ok, Err, length, refl, sym, ap, ap₂, ◌∙◌, subst}
 use Rattle.std.specs.Prelude.{option_map, map, is_some, IfOk}
 use Rattle.std.specs.FinMap as table
 use Rattle.std.proofs.lemmas.List.{length-append}
@@ -13,12 +13,12 @@ use Rattle.up_plan.specs.Images.{ImageData}
 use Rattle.up_metadata.specs.declared.hashed_keys.HashedKeySet.{HashedKeySet}
 use Rattle.up_metadata.specs.declared.keys.KeySet.{KeySet}
 use Rattle.up_metadata.specs.declared.role_files.RoleTexts.{RoleTexts}
-use Rattle.up_metadata.specs.Files.{Root, MetadataSet, root_text, role_texts}
+use Rattle.up_metadata.specs.Files.{MetadataSet, root_text, role_texts}
 use Rattle.up_machine.specs.declared.rows.Founding.{Founding}
 use Rattle.up_machine.specs.declared.decision.NextRoot.{NextRoot}
 use Rattle.up_machine.specs.declared.decision.RegisterRows.{RegisterRows}
 use Rattle.up_machine.specs.declared.decision.RootRows.{RootRows}
-use Rattle.up_machine.specs.State.{Chain, State, is_founded, chain_of, root_number, key_set, keys_before, last_text}
+use Rattle.up_machine.specs.State.{State, is_founded, chain_of, root_number, key_set, keys_before, last_text}
 use Rattle.up_machine.specs.Files.{target_of}
 use Rattle.up_machine.specs.Rows.{founding_row}
 use Rattle.up_machine.specs.Repositories.{next_chain, with_root, stamped}

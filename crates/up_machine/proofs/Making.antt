@@ -1,5 +1,5 @@
 -- Every run leaves what is made of the keys and moments of its foundings and rotations.
-use Rattle.std.proofs.Common.{◌≡◌, ℕ, ◌+◌, List, [], ◌∷◌, ◌++◌, true, false, Some, Ok, Err, Result, inl, inr, refl, sym, ap, ap₂, ◌∙◌, subst, append-nil, append_assoc}
+use Rattle.std.proofs.Common.{◌≡◌, ℕ, ◌+◌, List, [], ◌∷◌, ◌++◌, true, Some, Ok, Err, Result, inl, inr, refl, sym, ap, ap₂, ◌∙◌, subst, append-nil, append_assoc, Option, ◌≤◌}
 use Rattle.std.specs.Prelude.{length, option_map, filter_map, is_some, IsTrue}
 use Rattle.std.specs.List.{AllByRecursion}
 use Rattle.std.specs.Ordering.{nat_cmp}
@@ -21,14 +21,13 @@ use Rattle.up_metadata.specs.Keys.{key_set_fits}
 use Rattle.up_metadata.specs.Files.{Root, root_text, role_texts}
 use Rattle.up_machine.specs.declared.command.Command.{Command}
 use Rattle.up_machine.specs.declared.command.Command.TheVariants.{Found, Rotate, AddImage, Refresh, AddVehicle, ReplaceEcu, OpenCampaign, CloseCampaign, Deliver, Fetch}
-use Rattle.up_machine.specs.Commands.{is_command}
 use Rattle.up_machine.specs.State.{Chain, Entry, Vehicle, State, nth, chain_of, is_founded, key_set, keys_before}
 use Rattle.up_machine.specs.Files.{image_metadata, target_of}
 use Rattle.up_machine.specs.Replies.{assigned_target, reply_metadata, reply_json, reply_text}
-use Rattle.up_machine.specs.Deciding.{Outcome, already}
+use Rattle.up_machine.specs.Deciding.{Outcome}
 use Rattle.up_machine.specs.Repositories.{next_chain, with_root, stamped}
 use Rattle.up_machine.specs.Deliveries.{Received, entry_of, with_entry}
-use Rattle.up_machine.specs.Machine.{Timed, decide, outcome_of, step, run}
+use Rattle.up_machine.specs.Machine.{decide, outcome_of, step, run}
 use Rattle.up_machine.specs.Sound.{IsGrounded, IsSound}
 use Rattle.up_machine.specs.Laws.{IsLater}
 use Rattle.up_machine.specs.Made.{IsSoundRoot, keys_at, root_texts, IsReplyMade, IsMade, new_roots, roots_of, EmptyIsMade, StepsMake, RunsMake}
@@ -36,7 +35,7 @@ use Rattle.up_machine.proofs.Lists.{each_one_more}
 use Rattle.up_machine.proofs.Tables.{get_after-insert}
 use Rattle.up_machine.proofs.Places.{nth_stays, nth_last, nth_none, nth_one_more}
 use Rattle.up_machine.proofs.Decided.{found_ok, rotate_ok, image_ok, refresh_ok, vehicle_ok, replace_ok, open_ok, close_ok, delivery_ok, fetch_ok}
-use Rattle.up_machine.proofs.Receiving.{IsReceived, received}
+use Rattle.up_machine.proofs.Receiving.{received}
 use Rattle.up_machine.proofs.Growing.{grow_outcome}
 use Rattle.up_machine.proofs.Keeping.{nth_at, there}
 use Rattle.up_machine.proofs.Soundness.{stay}

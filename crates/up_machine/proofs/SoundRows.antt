@@ -14,7 +14,7 @@ use Rattle.up_machine.specs.declared.vehicle.NewEcu.{NewEcu}
 use Rattle.up_machine.specs.Vehicles.{ecu_names}
 use Rattle.up_machine.specs.declared.rows.Founding.{Founding}
 use Rattle.up_machine.specs.declared.rows.VehicleRows.{VehicleRows}
-use Rattle.up_machine.specs.State.{Vehicle, State, key_set}
+use Rattle.up_machine.specs.State.{Vehicle, key_set}
 use Rattle.up_machine.specs.Rows.{ecu_row, rows_of}
 use Rattle.up_machine.specs.RowsFit.{founding_fits, rows_fit}
 use Rattle.up_machine.specs.Decisions.{IsRead}

@@ -1,5 +1,5 @@
 -- The decision on a manifest that a vehicle delivers. Each check carries the name of its refusal, in the order of refusals.
-use Rattle.std.specs.Prelude.{ℕ, ◌+◌, ◌++◌, ◌||◌, ◌&&◌, ◌==◌, List, [], ◌∷◌, Bool, true, false, not, nat_le, nat_lt, Option, Some, None, option_map, unwrap_or, length, map, filter_map, find, bytes_eq, ⊤, Result, Ok}
+use Rattle.std.specs.Prelude.{ℕ, ◌+◌, ◌++◌, ◌||◌, ◌&&◌, ◌==◌, List, [], ◌∷◌, Bool, true, false, not, nat_le, nat_lt, Option, Some, None, option_map, unwrap_or, map, filter_map, find, bytes_eq, ⊤, Result, Ok}
 use Rattle.std.specs.List.{list_any}
 use Rattle.std.specs.FinMap as table
 use Rattle.up_canon.specs.Names.{Name, first_repeated}

@@ -1,10 +1,10 @@
 -- The text that is found among the rows of a state is the file's.
-use Rattle.std.proofs.Common.{◌≡◌, ℕ, List, [], ◌∷◌, ◌++◌, Bool, true, false, cond, Option, Some, None, refl, sym, ap, ap₂, ◌∙◌}
+use Rattle.std.proofs.Common.{◌≡◌, ℕ, List, [], ◌∷◌, ◌++◌, Bool, true, false, cond, Option, Some, None, refl, sym, ap, ◌∙◌}
 use Rattle.std.specs.Prelude.{option_map, option_to_list, find, bytes_eq, codes, if◌then◌else◌}
 use Rattle.std.specs.Option.{option_or}
 use Rattle.up_canon.specs.Names.{Name}
 use Rattle.up_roles.specs.declared.repository.Repository.TheVariants.{Director, Image}
-use Rattle.up_machine.specs.State.{State, last_text}
+use Rattle.up_machine.specs.State.{last_text}
 use Rattle.up_machine.specs.Files.{File, numbered_roots, latest_root, texts_in, files}
 use Rattle.up_rows.specs.Lookups.{text_named, root_named}
 use Rattle.up_rows.specs.Laws.{FilesAreFound}

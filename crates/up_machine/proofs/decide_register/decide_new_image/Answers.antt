@@ -1,4 +1,4 @@
-use Rattle.std.proofs.Common.{◌≡◌, ◌+◌, ◌<◌, ◌≤◌, sym, ap, ◌∙◌, subst, arith}
+use Rattle.std.proofs.Common.{◌≡◌, ◌+◌, ◌<◌, ◌≤◌, sym, ap, ◌∙◌, subst, arith, refl}
 use Rattle.std.specs.Prelude.{insert}
 use Rattle.std.specs.FinMap as table
 use Rattle.up_canon.specs.Canon.{max_count}
