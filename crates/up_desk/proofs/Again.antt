@@ -228,7 +228,7 @@ is_accepted stale counters k s at body incoming o sound reads decides =
 
 -- ---- it acts once
 
-same_reply : (k : Rules) (s : State) (name other : Name) (v : Vehicle) (e : Entry) (number : ℕ) (of_entry : Entry) → reply_to k s name number of_entry ≡ reply_to k (with_entry s other v e) name number of_entry
+same_reply : (k : Rules) (s : State) (name other : Name) (v : Vehicle) (e : Entry) (number : ℕ) (of_entry : Entry) → reply_to name number of_entry ≡ reply_to k (with_entry s other v e) name number of_entry
 unfolding reply_text
 same_reply k s name other v e number of_entry = refl
 
@@ -319,7 +319,7 @@ served_as_accepted stale counters k s at body incoming o sound reads decides =
 
 -- a crash leaves the state before the call or the next one
 either : {S : Type 0} (g : Ghosts S) (k : Rules) (s : State) (at : ℕ) (body : List ℕ) (incoming : Incoming) (old new : Held S) → IsDelivered g k s at body incoming old new → HasCleanDisk (state g new)
-    → (left : Trees) → (state g new).may_leave left → HoldsState k s left ⊎ HoldsState k (serve k s at (Deliver body)).next left
+    → (left : Trees) → (state g new).may_leave left → HoldsState s left ⊎ HoldsState (serve k s at (Deliver body)).next left
 either g k s at body incoming old new it clean left may =
     let before : HasCleanDisk (state g old) = omega (arith, it.survives.clean) in
     elim (it.survives.crash clean left may) [
@@ -346,19 +346,19 @@ both_act stale counters grow thin stays k s at body incoming o sound reads decid
 
 pub crashes_act_once : {S : Type 0} (g : Ghosts S) → RepeatsAreStale → CountersFindRepeats → RunsGrow → ServedIsThinned → ServedStaysSound → CrashesActOnce g
 crashes_act_once g stale counters grow thin stays k s at body incoming old new it clean left may =
-    both_act stale counters grow thin stays k s at body incoming it.accepted it.sound it.reads it.accepts (λ t. HoldsState k t left) (either g k s at body incoming old new it clean left may)
+    both_act stale counters grow thin stays k s at body incoming it.accepted it.sound it.reads it.accepts (λ t. HoldsState t left) (either g k s at body incoming old new it clean left may)
 
 pub reopened_acts_once : {D : Type 0} (g : DiskGhosts D) → RepeatsAreStale → CountersFindRepeats → RunsGrow → ServedIsThinned → ServedStaysSound → ReopenedActsOnce g
 reopened_acts_once g stale counters grow thin stays k s at body incoming old new it clean stopped again whole left may opened is found =
     let f = again whole left may opened is found in
     let next = (serve k s at (Deliver body)).next in
-    ∥∥₁_map f.left (λ r. both_act stale counters grow thin stays k s at body incoming it.accepted it.sound it.reads it.accepts (λ t. KeepsState k t (file_state opened))
+    ∥∥₁_map f.left (λ r. both_act stale counters grow thin stays k s at body incoming it.accepted it.sound it.reads it.accepts (λ t. KeepsState t (file_state opened))
     (elim (either over_files k s at body incoming old new it clean (file_state opened).committed.trees r) [
-      | inl was ↦ inl (f.shown (rows_of_state k s) was)
-      | inr made ↦ inr (f.shown (rows_of_state k next) made)
+      | inl was ↦ inl (f.shown (rows_of_state s) was)
+      | inr made ↦ inr (f.shown (rows_of_state next) made)
     ]))
 
 pub reopened_outlast : {D : Type 0} (g : DiskGhosts D) → ReopenedOutlast g
 reopened_outlast g k cs answers old new outlasts s sound keeps before rest m made clean stopped again whole left may opened is found =
     let f = again whole left may opened is found in
-    ∥∥₁_map f.left (λ r. let held = outlasts s sound keeps before rest m made clean (file_state opened).committed.trees r in (held.0, held.1, f.shown (rows_of_state k held.0) held.2))
+    ∥∥₁_map f.left (λ r. let held = outlasts s sound keeps before rest m made clean (file_state opened).committed.trees r in (held.0, held.1, f.shown (rows_of_state held.0) held.2))

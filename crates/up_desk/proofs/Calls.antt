@@ -28,7 +28,7 @@ Obeys k at c r old new = CarriesOut k (λ s. outcome_due k s at c) old new r
 
 cleaned : (laws : CallLaws) (k : Rules) (at : ℕ) (c : Command) (r : Result Answer Refusal) (old new : Standing) → Obeys k at c r old new → HasCleanDisk new → HasCleanDisk old
 cleaned laws k at c r old new obeys =
-    clean_once k old new (λ s. HoldsState k (serve k s at c).next) laws.empty
+    clean_once k old new (λ s. HoldsState (serve k s at c).next) laws.empty
     (λ s sound never. crashed k s old new at c r (obeys.serves s sound (λ now. absurd (never now))))
 
 serves : (laws : CallLaws) (k : Rules) (at : ℕ) (c : Command) (r : Result Answer Refusal) (old new : Standing) → IsTrue (is_command c) → Obeys k at c r old new → ServesCall k at c (told r) old new

@@ -63,7 +63,7 @@ store_told fault.Store is = refl
 
 -- what is kept in memory is of the state of which it was, and can be used, if it could be
 pub record KeepsFit {S : Type 0} (g : Ghosts S) (k : Rules) (old new : MutBor (Held S)) (kept left : Option Catalog) : Type 0 where
-  pub fits : HasCleanDisk (state g new.now) → (s : State) → SeesState k s (state g old.now) → Fits s kept → Fits s left
+  pub fits : HasCleanDisk (state g new.now) → (s : State) → SeesState s (state g old.now) → Fits s kept → Fits s left
   pub can : IfSome kept (CanDecide k) → IfSome left (CanDecide k)
 
 module _ {S R : Type 0} (g : Ghosts S) (k : Rules) {known : State → Type 0} {gives : State → Result R Refusal → Result Outcome Refusal → Type 0} {rule : State → Result Outcome Refusal} {old new : MutBor (Held S)} {kept left : Option Catalog}
@@ -183,7 +183,7 @@ module _ {S R : Type 0} (g : Ghosts S) (k : Rules) {known : State → Type 0} {g
     (given : is_failed answer ≡ false) (so : (rows : StateRows) → ListsRows rows (state g mid.now).now.trees → held rows → P (state g mid.now)) (knows : (s : State) → Fits s kept → known s) (fit : KeepsFit g k old mid kept left)
     (wills : (s : State) → IsSound k s → gives s (Ok x) (rule s) → WillPut k s answer (rule s) these held fits change)
     (moves : (s : State) (sound : IsSound k s) (given : gives s (Ok x) (rule s)) → Fits s left → Fits (wills s sound given).next left) where
-  seen : HasCleanDisk (state g mid.now) → (s : State) → SeesState k s (state g old.now) → SeesState k s (state g mid.now)
+  seen : HasCleanDisk (state g mid.now) → (s : State) → SeesState s (state g old.now) → SeesState s (state g mid.now)
   seen then s sees = seen_on k s (d.sees then tt) sees
 
   module _ {p : Result ⊤ StoreFault} (two : Puts g (PutsRows fits change) these P mid new p) where
@@ -194,7 +194,7 @@ module _ {S R : Type 0} (g : Ghosts S) (k : Rules) {known : State → Type 0} {g
     step = steps_on g d.step (record { same_reference = two.step.same_reference; steps = two.step.steps })
 
   -- a part was refused
-  refused_one : (f : StoreFault) → Puts {A = ⊤} g (PutsRows fits change) these P mid new (Err f) → HasCleanDisk (state g new.now) → (s : State) → IsSound k s → SeesState k s (state g old.now) → Fits s kept → IsSound k (outcome_of s (rule s)).next
+  refused_one : (f : StoreFault) → Puts {A = ⊤} g (PutsRows fits change) these P mid new (Err f) → HasCleanDisk (state g new.now) → (s : State) → IsSound k s → SeesState s (state g old.now) → Fits s kept → IsSound k (outcome_of s (rule s)).next
       → f ≡ fault.Store → IsBlamed k s (state g old.now) (state g new.now) (outcome_of s (rule s))
   refused_one f two clean s sound sees fitting next_sound store is_open unlimited = by_closing (d.step.steps.survives.closes then is_open)
     where
@@ -223,8 +223,8 @@ module _ {S R : Type 0} (g : Ghosts S) (k : Rules) {known : State → Type 0} {g
           → MoreFaults (state g old.now).faults (state g new.now).faults ⊎ RefusesOutcome k s (state g old.now).step_limit (state g old.now).now (outcome_of s (rule s))
       by_closing (inl still) =
           let sees_mid = seen then s sees in
-          by_part still (two.blame clean store still (has_tables (rows_of_state k s) (state g mid.now) sees_mid)
-          (so (rows_of_state k s) (sees_mid.here still).rows (it.write.holds (subst (λ c. IsSound k (outcome_of s c).next) it.computed_is next_sound))))
+          by_part still (two.blame clean store still (has_tables (rows_of_state s) (state g mid.now) sees_mid)
+          (so (rows_of_state s) (sees_mid.here still).rows (it.write.holds (subst (λ c. IsSound k (outcome_of s c).next) it.computed_is next_sound))))
       by_closing (inr more) = inl (omega (arith, two.step.steps.survives.counts, more))
 
   by_put : (p : Result ⊤ StoreFault) → Puts g (PutsRows fits change) these P mid new p → CarriesOn g k rule old new kept left (carried_put answer p)
@@ -238,7 +238,7 @@ module _ {S R : Type 0} (g : Ghosts S) (k : Rules) {known : State → Type 0} {g
           given = given;
           next = it.next;
           computed_is = it.computed_is;
-          tables = subst (λ rows. GoesOn up_schema (ListsRows rows) (state g new.now)) it.write.rows (two.put clean (rows_of_state k s) (seen then s sees) it.write.fit);
+          tables = subst (λ rows. GoesOn up_schema (ListsRows rows) (state g new.now)) it.write.rows (two.put clean (rows_of_state s) (seen then s sees) it.write.fit);
           moved = moves s sound gave same;
           same = same;
         };
@@ -295,37 +295,37 @@ module _ {S : Type 0} (g : Ghosts S) (k : Rules) (viewed old : Held S) (tx mid :
         by_cause (inl more) = inl (omega (arith, ends.counts, more))
         by_cause (inr refuses) = inr refuses
 
-    module _ (s : State) (sound : IsSound k s) (was : standing.IfClean (ShowsState k s) (over g old kept)) where
-      pub sees : HasCleanDisk (state g mid.now) → SeesState k s (state g tx.now)
-      sees then = subst (λ h. SeesState k s (state g h)) (sym began) (record { mode = refl; here = (was (first then)).tables.here })
+    module _ (s : State) (sound : IsSound k s) (was : standing.IfClean (ShowsState s) (over g old kept)) where
+      pub sees : HasCleanDisk (state g mid.now) → SeesState s (state g tx.now)
+      sees then = subst (λ h. SeesState s (state g h)) (sym began) (record { mode = refl; here = (was (first then)).tables.here })
 
       comes : HasCleanDisk (state g mid.now) → LeavesIn k s (state g tx.now) (state g mid.now) left c (rule s)
       comes then = it.leaves then s sound (sees then) (was (first then)).memory
 
       -- where the transaction is undone the tables show the state
-      back : (HasCleanDisk (state g last) → HasCleanDisk (state g mid.now)) → IfClean (IsRolledBack (state g mid.now)) (state g last) → HasCleanDisk (state g last) → KeepsState k s (state g last)
-      back before rolled = stands_kept up_schema (ListsRows (rows_of_state k s)) (state g old) (state g last) (λ clean. (was clean).tables) (λ clean. first (before clean)) (as_before g old mid.now (state g last) went before rolled)
+      back : (HasCleanDisk (state g last) → HasCleanDisk (state g mid.now)) → IfClean (IsRolledBack (state g mid.now)) (state g last) → HasCleanDisk (state g last) → KeepsState s (state g last)
+      back before rolled = stands_kept up_schema (ListsRows (rows_of_state s)) (state g old) (state g last) (λ clean. (was clean).tables) (λ clean. first (before clean)) (as_before g old mid.now (state g last) went before rolled)
 
   -- nothing was put
-  unchanged : (answer : Answer) → CarriesOn g k rule tx mid kept left (Ok (Unchanged answer)) → IsDropped (state g mid.now) (state g last) → (s : State) → IsSound k s → standing.IfClean (ShowsState k s) (over g old kept)
+  unchanged : (answer : Answer) → CarriesOn g k rule tx mid kept left (Ok (Unchanged answer)) → IsDropped (state g mid.now) (state g last) → (s : State) → IsSound k s → standing.IfClean (ShowsState s) (over g old kept)
       → Serves k s (over g old kept) (over g last left) (Ok answer) (rule s)
   unchanged answer it ends s sound was =
       let before : HasCleanDisk (state g last) → HasCleanDisk (state g mid.now) = λ clean. omega (arith, clean, ends.survives.clean) in
       record {
         leaves = λ clean. let left_is = comes it s sound was (before clean) in (left_is.given, (s, left_is.computed_is, record { tables = back it s sound was before ends.undone clean; memory = left_is.memory }));
-        crash = survived it (HoldsState k (outcome_of s (rule s)).next) (λ _. ⊥) ends.survives (λ clean db none. absurd none);
+        crash = survived it (HoldsState (outcome_of s (rule s)).next) (λ _. ⊥) ends.survives (λ clean db none. absurd none);
         durable = λ commit clean. let left_is = comes it s sound was (before clean) in absurd (left_is.none (subst (λ o. IsCommit s answer (outcome_of s o).next) left_is.computed_is commit));
         blame = λ clean next_sound. tt;
       }
 
   -- it is refused, or lost
-  refused : (r : Refusal) → CarriesOn g k rule tx mid kept left (Err r) → IsDropped (state g mid.now) (state g last) → (s : State) → IsSound k s → standing.IfClean (ShowsState k s) (over g old kept)
+  refused : (r : Refusal) → CarriesOn g k rule tx mid kept left (Err r) → IsDropped (state g mid.now) (state g last) → (s : State) → IsSound k s → standing.IfClean (ShowsState s) (over g old kept)
       → Serves k s (over g old kept) (over g last left) (Err r) (rule s)
   refused r it ends s sound was =
       let before : HasCleanDisk (state g last) → HasCleanDisk (state g mid.now) = λ clean. omega (arith, clean, ends.survives.clean) in
       record {
         leaves = λ clean. let left_is = comes it s sound was (before clean) in (record { tables = back it s sound was before ends.undone clean; memory = left_is.memory }, alone (is_fault r) left_is.due);
-        crash = survived it (HoldsState k (outcome_of s (rule s)).next) (λ _. ⊥) ends.survives (λ clean db none. absurd none);
+        crash = survived it (HoldsState (outcome_of s (rule s)).next) (λ _. ⊥) ends.survives (λ clean db none. absurd none);
         durable = λ commit. absurd commit;
         blame = λ clean next_sound store.
             let then = before clean in
@@ -338,7 +338,7 @@ module _ {S : Type 0} (g : Ghosts S) (k : Rules) (viewed old : Held S) (tx mid :
 
   -- rows were put, and are committed, unless that fails
   put : (answer : Answer) → CarriesOn g k rule tx mid kept left (Ok (Put answer)) → (w : Result ⊤ StoreFault) → EndsWrite (Ok tt) (state g mid.now) (state g last) w
-      → (IsTrue (state g last).is_open → (trees : Trees) → (state g last).may_leave trees → trees ≡ (state g last).committed.trees) → (s : State) → IsSound k s → standing.IfClean (ShowsState k s) (over g old kept)
+      → (IsTrue (state g last).is_open → (trees : Trees) → (state g last).may_leave trees → trees ≡ (state g last).committed.trees) → (s : State) → IsSound k s → standing.IfClean (ShowsState s) (over g old kept)
       → Serves k s (over g old kept) (over g last left) (answer_written answer w) (rule s)
   put answer it w ends settled s sound was = by_commit w ends
     where
@@ -354,15 +354,15 @@ module _ {S : Type 0} (g : Ghosts S) (k : Rules) (viewed old : Held S) (tx mid :
       next_is : (then : HasCleanDisk (state g mid.now)) → (has then).next ≡ next
       next_is then = sym (ap (λ (o : Result Outcome Refusal). (outcome_of s o).next) (has then).computed_is)
 
-      goes : (then : HasCleanDisk (state g mid.now)) → GoesOn up_schema (ListsRows (rows_of_state k next)) (state g mid.now)
-      goes then = subst (λ n. GoesOn up_schema (ListsRows (rows_of_state k n)) (state g mid.now)) (next_is then) (has then).tables
+      goes : (then : HasCleanDisk (state g mid.now)) → GoesOn up_schema (ListsRows (rows_of_state next)) (state g mid.now)
+      goes then = subst (λ n. GoesOn up_schema (ListsRows (rows_of_state n)) (state g mid.now)) (next_is then) (has then).tables
 
       inside : IfClean IsInside (state g mid.now)
       inside then = (has then).tables.mode
 
-      crash : Survives (state g old) (state g last) (HoldsState k next)
-      crash = survived it (HoldsState k next) (λ trees. trees ≡ (state g mid.now).now.trees) ends.survives
-          (λ clean trees is. as_held up_schema (ListsRows (rows_of_state k next)) (state g mid.now).now trees (goes (before clean)).here is)
+      crash : Survives (state g old) (state g last) (HoldsState next)
+      crash = survived it (HoldsState next) (λ trees. trees ≡ (state g mid.now).now.trees) ends.survives
+          (λ clean trees is. as_held up_schema (ListsRows (rows_of_state next)) (state g mid.now).now trees (goes (before clean)).here is)
 
       by_commit : (w : Result ⊤ StoreFault) → EndsWrite (Ok tt) (state g mid.now) (state g last) w → Serves k s (over g old kept) (over g last left) (answer_written answer w) (rule s)
       by_commit (Ok done) ends = record {
@@ -372,13 +372,13 @@ module _ {S : Type 0} (g : Ghosts S) (k : Rules) (viewed old : Held S) (tx mid :
             next,
             (has then).computed_is ∙ ap (λ (n : State). Ok (record { answer = answer; next = n })) (next_is then),
             record {
-              tables = stands_after up_schema (ListsRows (rows_of_state k next)) (state g mid.now) (state g last) (goes then) (ends.committed clean);
+              tables = stands_after up_schema (ListsRows (rows_of_state next)) (state g mid.now) (state g last) (goes then) (ends.committed clean);
               memory = subst (λ n. Fits n left) (next_is then) (has then).moved;
             },
           ),
         );
         crash = crash;
-        durable = λ commit clean. durable_after up_schema (ListsRows (rows_of_state k next)) (state g mid.now) (state g last) settled (goes (before clean)) (ends.committed clean);
+        durable = λ commit clean. durable_after up_schema (ListsRows (rows_of_state next)) (state g mid.now) (state g last) settled (goes (before clean)) (ends.committed clean);
         blame = λ clean next_sound. tt;
       }
       by_commit (Err f) ends = record {

@@ -47,7 +47,7 @@ when_closing s name (New other) row computed is h = let same : other ≡ row = c
     subst (λ (c : CampaignData). IsClosed s name c computed) same (record { was = h.0; there = h.1; is = h.2; decided = h.3 })
 
 pub when_repeated : (k : Rules) (s : State) (name : Name) (d : Delivered) (reply : Reply) (computed : Result Outcome Refusal) → d ≡ Repeat reply
-    → GivesDelivered k s name (Ok d) computed → computed ≡ Ok (record { answer = Replied reply; next = s })
+    → GivesDelivered s name (Ok d) computed → computed ≡ Ok (record { answer = Replied reply; next = s })
 when_repeated k s name (Repeat other) reply computed is h =
     let same : other ≡ reply = cc in h ∙ ap (λ (r : Reply). Ok (record { answer = Replied r; next = s })) same
 when_repeated k s name (Accepted rows) reply computed is h = cc
@@ -58,10 +58,10 @@ pub record IsAccepted (k : Rules) (s : State) (name : Name) (rows : AcceptedRows
   pub entry : Entry
   pub found : table.get s.vehicles name ≡ Some vehicle
   pub decided : computed ≡ Ok (record { answer = Replied (reply_kept rows.kept); next = with_entry s name vehicle entry })
-  pub has : HasAcceptedRows k s name vehicle entry rows
+  pub has : HasAcceptedRows s name vehicle entry rows
 
 pub when_accepted : (k : Rules) (s : State) (name : Name) (d : Delivered) (rows : AcceptedRows) (computed : Result Outcome Refusal) → d ≡ Accepted rows
-    → GivesDelivered k s name (Ok d) computed → IsAccepted k s name rows computed
+    → GivesDelivered s name (Ok d) computed → IsAccepted k s name rows computed
 when_accepted k s name (Repeat reply) rows computed is h = cc
 when_accepted k s name (Accepted other) rows computed is h =
     let same : other ≡ rows = cc in

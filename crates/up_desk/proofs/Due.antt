@@ -20,13 +20,13 @@ when_there s at image (New founding) computed is h = cc
 
 -- what is known of an image whose filename is new
 pub when_new_image : (s : State) (at : ℕ) (image : ImageData) (d : Decision Founding) (founding : Founding) (computed : Result Outcome Refusal) → d ≡ New founding → GivesNewImage s at image (Ok d) computed
-    → HasFounding s founding × (table.get s.images image.file ≡ None) × (computed ≡ decide_new_image s at image)
+    → HasFounding s founding × (table.get s.images image.file ≡ None) × (computed ≡ decide_new_image k s at image)
 when_new_image s at image Already founding computed is h = cc
 when_new_image s at image (New other) founding computed is h = let same : other ≡ founding = cc in (subst (HasFounding s) same h.0, h.1, h.2)
 
 -- the rows with it are what is decided
 pub new_rows : {R : Type 0} (has : R → Type 0) (next s : State) (at : ℕ) (image : ImageData) (d : Decision Founding) (founding : Founding) (computed : Result Outcome Refusal) (made : Result R Refusal) → d ≡ New founding → GivesNewImage s at image (Ok d) computed
-    → (HasFounding s founding → table.get s.images image.file ≡ None → GivesRows has next made (decide_new_image s at image)) → GivesRows has next made computed
+    → (HasFounding s founding → table.get s.images image.file ≡ None → GivesRows has next made (decide_new_image k s at image)) → GivesRows has next made computed
 new_rows has next s at image d founding computed made is h so = let it = when_new_image s at image d founding computed is h in subst (GivesRows has next made) (sym it.2) (so it.0 it.1)
 
 -- what refuses the rows refuses the decision

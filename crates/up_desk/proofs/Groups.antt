@@ -267,7 +267,7 @@ carried_as_one g k cs {old = old} {new} (Some true) all = record {
         given = refl;
         next = after k s (none_lost cs);
         computed_is = refl;
-        tables = subst (λ (t : State). GoesOn up_schema (ListsRows (rows_of_state k t)) (state g new.now)) (whole_next all.outright at)
+        tables = subst (λ (t : State). GoesOn up_schema (ListsRows (rows_of_state t)) (state g new.now)) (whole_next all.outright at)
             (record { mode = at.tables.mode; is_open = at.rows; here = at.tables.here at.rows });
         moved = tt;
         same = tt;
@@ -320,12 +320,12 @@ clean_before (Some false) old new r ends clean = let it : HasCleanDisk old = ome
 clean_before None old new r ends clean = let it : HasCleanDisk old = omega (arith, ends.0.survives.clean) in it
 
 module _ {S : Type 0} (g : Ghosts S) (k : Rules) (cs : List (ℕ × Command)) (old last : Held S) (kept : Option Catalog) where
-  crashes : (put : Option Bool) {r : Result Answer Refusal} → CarriesOut k (whole_rule k cs put) (over g old kept) (over g last None) r → (s : State) → IsSound k s → standing.IfClean (ShowsState k s) (over g old kept)
-      → standing.Survives (over g old kept) (over g last None) (HoldsState k (after k s (none_lost cs)))
-  crashes put out s sound was = subst (λ (t : State). standing.Survives (over g old kept) (over g last None) (HoldsState k t)) (rule_next k cs put s) (out.serves s sound was).crash
+  crashes : (put : Option Bool) {r : Result Answer Refusal} → CarriesOut k (whole_rule k cs put) (over g old kept) (over g last None) r → (s : State) → IsSound k s → standing.IfClean (ShowsState s) (over g old kept)
+      → standing.Survives (over g old kept) (over g last None) (HoldsState (after k s (none_lost cs)))
+  crashes put out s sound was = subst (λ (t : State). standing.Survives (over g old kept) (over g last None) (HoldsState t)) (rule_next k cs put s) (out.serves s sound was).crash
 
   cleaned : EmptyIsSound → (put : Option Bool) {r : Result Answer Refusal} → CarriesOut k (whole_rule k cs put) (over g old kept) (over g last None) r → HasCleanDisk (state g last) → HasCleanDisk (state g old)
-  cleaned empty put out = clean_once k (over g old kept) (over g last None) (λ s. HoldsState k (after k s (none_lost cs))) empty (λ s sound never. crashes put out s sound (λ now. absurd (never now)))
+  cleaned empty put out = clean_once k (over g old kept) (over g last None) (λ s. HoldsState (after k s (none_lost cs))) empty (λ s sound never. crashes put out s sound (λ now. absurd (never now)))
 
   -- a command failed, or the commit did
   pub undone : EmptyIsSound → (held answers : Vec Answer) → answers.items ≡ held.items → vec_len answers + length cs ≤ vec_capacity answers → (put : Option Bool) (r : Result Answer Refusal) → CarriesOut k (whole_rule k cs put) (over g old kept) (over g last None) r → is_ok r ≡ false
@@ -345,16 +345,16 @@ module _ {S : Type 0} (g : Ghosts S) (k : Rules) (cs : List (ℕ × Command)) (o
       one : CarriesOn g k (whole_rule k cs (Some p)) tx mid kept None (as_one (Some p))
       one = carried_as_one g k cs (Some p) all
 
-      leaves : (s : State) → IsSound k s → standing.IfClean (ShowsState k s) (over g old kept) → HasCleanDisk (state g last) → LeavesAll k s cs all.told (state g tx.now) (state g mid.now) left p
+      leaves : (s : State) → IsSound k s → standing.IfClean (ShowsState s) (over g old kept) → HasCleanDisk (state g last) → LeavesAll k s cs all.told (state g tx.now) (state g mid.now) left p
       leaves s sound was clean =
           all.leaves (before clean) s sound (sees g k old old tx mid last kept None (whole_rule k cs (Some p)) refl begun one s sound was (before clean))
           (was (first g k old old tx mid last kept None (whole_rule k cs (Some p)) refl begun one (before clean))).memory
 
-      shown : (s : State) → IsSound k s → standing.IfClean (ShowsState k s) (over g old kept) → HasCleanDisk (state g last) → (next : State) → next ≡ after k s (none_lost cs) → Fits next left → ShowsState k next (over g last left)
+      shown : (s : State) → IsSound k s → standing.IfClean (ShowsState s) (over g old kept) → HasCleanDisk (state g last) → (next : State) → next ≡ after k s (none_lost cs) → Fits next left → ShowsState next (over g last left)
       shown s sound was clean next is memory =
           let it = (out.serves s sound was).leaves clean in
           let same : it.1.0 ≡ next = sym (ap (λ (o : Result Outcome Refusal). (outcome_of s o).next) it.1.1) ∙ rule_next k cs (Some p) s ∙ sym is in
-          record { tables = subst (λ (t : State). KeepsState k t (state g last)) same it.1.2.tables; memory = memory }
+          record { tables = subst (λ (t : State). KeepsState t (state g last)) same it.1.2.tables; memory = memory }
 
       so_far : SoFar k (over g old kept) (over g last left) cs held.items answers.items
       so_far = record {
@@ -365,7 +365,7 @@ module _ {S : Type 0} (g : Ghosts S) (k : Rules) (cs : List (ℕ × Command)) (o
             let at = leaves s sound was clean in
             (at.next, at.served, at.sound, shown s sound was clean at.next (whole_next all.outright at) at.memory);
         spares = λ s sound was.
-            survives_weaker (state g old) (state g last) (HoldsState k (after k s (none_lost cs))) _
+            survives_weaker (state g old) (state g last) (HoldsState (after k s (none_lost cs))) _
             (λ clean trees holds. (
               after k s (none_lost cs),
               ([], sent cs all.told, [], sym (append-nil (sent cs all.told)), ap (λ (ms : List Sent). after k s ms) (sym (carried_all k cs all.told all.outright))),
@@ -376,15 +376,15 @@ module _ {S : Type 0} (g : Ghosts S) (k : Rules) (cs : List (ℕ × Command)) (o
         clean = cleaned empty (Some p) out;
       }
         where
-          by_put : (b : Bool) → p ≡ b → (s : State) → IsSound k s → standing.IfClean (ShowsState k s) (over g old kept) → (first_ones rest : List Sent) (m : Sent) → IsAnsweredCommit k s (sent cs all.told) first_ones rest m
-              → HasCleanDisk (state g last) → standing.LeavesOnly (λ trees. (at : State) × StaysOrComesTo k (outcome_behind k s first_ones m).next rest at × HoldsState k at trees) (over g last left)
+          by_put : (b : Bool) → p ≡ b → (s : State) → IsSound k s → standing.IfClean (ShowsState s) (over g old kept) → (first_ones rest : List Sent) (m : Sent) → IsAnsweredCommit k s (sent cs all.told) first_ones rest m
+              → HasCleanDisk (state g last) → standing.LeavesOnly (λ trees. (at : State) × StaysOrComesTo k (outcome_behind k s first_ones m).next rest at × HoldsState at trees) (over g last left)
           by_put true is s sound was first_ones rest m made clean = λ trees may.
               let at = leaves s sound was clean in
               let o = outcome_behind k s first_ones m in
               let rows = (out.serves s sound was).durable (subst (λ (b : Bool). IsCommit s (whole_answer b) (outcome_of s (whole_rule k cs (Some p) s)).next) (sym is) tt) clean trees may in
               let end : after k s (none_lost cs) ≡ after k o.next rest =
               ap (λ (ms : List Sent). after k s ms) (sym (unfailed_sent k cs all.told all.outright at.unfailed) ∙ made.list) ∙ behind_answered k s first_ones rest m made.answered in
-              (after k s (none_lost cs), inr (rest, [], [], sym (append-nil rest) ∙ sym (append-nil (rest ++ [])), end), subst (λ (t : State). HoldsState k t trees) (rule_next k cs (Some p) s) rows)
+              (after k s (none_lost cs), inr (rest, [], [], sym (append-nil rest) ∙ sym (append-nil (rest ++ [])), end), subst (λ (t : State). HoldsState t trees) (rule_next k cs (Some p) s) rows)
           by_put false is s sound was first_ones rest m made clean =
               let at = leaves s sound was clean in
               let quiet = subst (λ (b : Bool). MatchBool b (IsTrue (state g mid.now).is_open) ((at.next ≡ s) × AreIdle k s cs (state g tx.now) (state g mid.now))) is at.rows in
@@ -421,7 +421,7 @@ called_behind k cs held between answers old mid new undone called = record {
   outright = called.outright;
   ran = λ clean s sound was. called.ran clean s sound (undone.shown s sound was);
   crash = λ s sound was.
-      survives_then old.connection mid.connection new.connection (HoldsState k (after k s (none_lost cs))) _ _
+      survives_then old.connection mid.connection new.connection (HoldsState (after k s (none_lost cs))) _ _
       (λ clean trees holds. (
         after k s (none_lost cs),
         ([], sent cs called.told, [], sym (append-nil (sent cs called.told)), ap (λ (ms : List Sent). after k s ms) (sym (carried_all k cs called.told called.outright))),

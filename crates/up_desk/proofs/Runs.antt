@@ -146,7 +146,7 @@ after_unchanged k s (m ∷ ms) all = ap (λ t. after k t ms) (met_unchanged k s 
 -- the commands have run, over a clean disk: from each state that the tables showed
 abbrev RunsFrom : Rules → Standing → Standing → List (ℕ × Command) → List Answer → Type 0
 RunsFrom k old new cs answers =
-    HasCleanDisk new → (s : State) → IsSound k s → IfClean (ShowsState k s) old → (next : State) × ServesEach k s cs answers next × IsSound k next × ShowsState k next new
+    HasCleanDisk new → (s : State) → IsSound k s → IfClean (ShowsState s) old → (next : State) × ServesEach k s cs answers next × IsSound k next × ShowsState next new
 
 runs_next : (k : Rules) (old mid new : Standing) (cs : List (ℕ × Command)) (c : ℕ × Command) (answers : List Answer) (a : Answer)
     → RunsFrom k old mid cs answers → (HasCleanDisk new → HasCleanDisk mid) → ServesCall k c.0 c.1 a mid new → IsTrue (is_command c.1) → RunsFrom k old new (cs ++ c ∷ []) (answers ++ a ∷ [])
@@ -159,10 +159,10 @@ runs_next k old mid new cs c answers a runs clean serves fits = λ now s sound w
 record Between (k : Rules) (s : State) (mid : Standing) (cs : List (ℕ × Command)) (answers : List Answer) : Type 0 where
   at : State
   sound : IsSound k at
-  shown : IfClean (ShowsState k at) mid
+  shown : IfClean (ShowsState at) mid
   ran : HasCleanDisk mid → ServesEach k s cs answers at
 
-between : (k : Rules) (old mid : Standing) (cs : List (ℕ × Command)) (answers : List Answer) → RunsFrom k old mid cs answers → (s : State) → IsSound k s → IfClean (ShowsState k s) old
+between : (k : Rules) (old mid : Standing) (cs : List (ℕ × Command)) (answers : List Answer) → RunsFrom k old mid cs answers → (s : State) → IsSound k s → IfClean (ShowsState s) old
     → Between k s mid cs answers
 between k old mid cs answers runs s sound was = by_disk (doubt mid.connection.is_clean) refl
   where
@@ -178,8 +178,8 @@ spares_next k old mid new cs c answers a far runs due clean spares = λ s sound 
     let b = between k old mid cs answers runs s sound was in
     let x = item (is_failed a) c in
     let more : sent (cs ++ c ∷ []) (answers ++ a ∷ []) ≡ sent cs answers ++ x ∷ [] = sent_next k cs answers c a due in
-    survives_then old.connection mid.connection new.connection (λ trees. (at : State) × ComesTo k s (sent cs answers) at × HoldsState k at trees) (HoldsState k (serve k b.at c.0 c.1).next)
-    (λ trees. (at : State) × ComesTo k s (sent (cs ++ c ∷ []) (answers ++ a ∷ [])) at × HoldsState k at trees)
+    survives_then old.connection mid.connection new.connection (λ trees. (at : State) × ComesTo k s (sent cs answers) at × HoldsState at trees) (HoldsState (serve k b.at c.0 c.1).next)
+    (λ trees. (at : State) × ComesTo k s (sent (cs ++ c ∷ []) (answers ++ a ∷ [])) at × HoldsState at trees)
     (λ now trees h. (
       h.0,
       (h.1.0, h.1.1, h.1.2 ++ x ∷ [], more ∙ ap (λ (l : List Sent). l ++ x ∷ []) h.1.3 ∙ longer h.1.0 h.1.1 h.1.2 x, h.1.4),
@@ -203,7 +203,7 @@ behind_answered k s before rest m answered =
 commit_last : (k : Rules) (s at next : State) (c : ℕ × Command) (a : Answer) (ms : List Sent) (mid new : Standing) → at ≡ after k s ms → is_failed a ≡ false
     → IsAnswered a at next (serve k at c.0 c.1)
     → IsCommit (after k s ms) (serve k (after k s ms) c.0 c.1).answer (serve k (after k s ms) c.0 c.1).next
-    → CommitsCall k c.0 c.1 a mid new → IsSound k at → IfClean (ShowsState k at) mid → HasCleanDisk new → LeavesOnly (HoldsState k (serve k (after k s ms) c.0 c.1).next) new
+    → CommitsCall k c.0 c.1 a mid new → IsSound k at → IfClean (ShowsState at) mid → HasCleanDisk new → LeavesOnly (HoldsState (serve k (after k s ms) c.0 c.1).next) new
 commit_last k s at next c a ms mid new here told answered commit commits sound shown now =
     let same : a ≡ (serve k at c.0 c.1).answer =
     (let it : MatchBool false (next ≡ at) ((a ≡ (serve k at c.0 c.1).answer) × (next ≡ (serve k at c.0 c.1).next)) =
@@ -211,7 +211,7 @@ commit_last k s at next c a ms mid new here told answered commit commits sound s
     let made : IsCommit at a (serve k at c.0 c.1).next =
     subst (λ (b : Answer). IsCommit at b (serve k at c.0 c.1).next) (sym same)
     (subst (λ (t : State). IsCommit t (serve k t c.0 c.1).answer (serve k t c.0 c.1).next) (sym here) commit) in
-    subst (λ (t : State). LeavesOnly (HoldsState k (serve k t c.0 c.1).next) new) here (commits at sound shown made now)
+    subst (λ (t : State). LeavesOnly (HoldsState (serve k t c.0 c.1).next) new) here (commits at sound shown made now)
 
 -- what some commands come to, these and one more do
 comes_on : (k : Rules) (s : State) (ys rest : List Sent) (y : Sent) (at : State) → rest ≡ ys ++ y ∷ [] → StaysOrComesTo k s ys at → StaysOrComesTo k s rest at
@@ -221,11 +221,11 @@ comes_on k s ys rest y at is (inr it) =
 
 -- a crash behind a commit and one more call
 stays_next : (k : Rules) (s at : State) (ys rest : List Sent) (y : Sent) (c : ℕ × Command) (mid new : Standing) → rest ≡ ys ++ y ∷ [] → (serve k at c.0 c.1).next ≡ (outcome_behind k s ys y).next
-    → LeavesOnly (λ trees. (t : State) × StaysOrComesTo k s ys t × HoldsState k t trees) mid → Survives mid new (HoldsState k (serve k at c.0 c.1).next) → HasCleanDisk new
-    → LeavesOnly (λ trees. (t : State) × StaysOrComesTo k s rest t × HoldsState k t trees) new
+    → LeavesOnly (λ trees. (t : State) × StaysOrComesTo k s ys t × HoldsState t trees) mid → Survives mid new (HoldsState (serve k at c.0 c.1).next) → HasCleanDisk new
+    → LeavesOnly (λ trees. (t : State) × StaysOrComesTo k s rest t × HoldsState t trees) new
 stays_next k s at ys rest y c mid new is made before spares now = λ trees left. by_call trees (spares.crash now trees left)
   where
-    by_call : (trees : Trees) → mid.connection.may_leave trees ⊎ HoldsState k (serve k at c.0 c.1).next trees → (t : State) × StaysOrComesTo k s rest t × HoldsState k t trees
+    by_call : (trees : Trees) → mid.connection.may_leave trees ⊎ HoldsState (serve k at c.0 c.1).next trees → (t : State) × StaysOrComesTo k s rest t × HoldsState t trees
     by_call trees (inl earlier) = let it = before trees earlier in (it.0, comes_on k s ys rest y it.0 is it.1, it.2)
     by_call trees (inr holds) = ((serve k at c.0 c.1).next, inr (ys, y ∷ [], [], is ∙ sym (append-nil (ys ++ y ∷ [])), made), holds)
 
@@ -238,10 +238,10 @@ outlasts_next k old mid new cs c answers a far runs due clean serves spares comm
     let here : b.at ≡ after k s (sent cs answers) = (ran_served k s cs answers b.at (b.ran (clean now))).state in
     by_rest s sound was before rest m made now b here (sym (sent_next k cs answers c a due) ∙ made.list) (serves now b.at b.sound b.shown) (last_of rest)
   where
-    by_rest : (s : State) → IsSound k s → IfClean (ShowsState k s) old → (before rest : List Sent) (m : Sent) → IsAnsweredCommit k s (sent (cs ++ c ∷ []) (answers ++ a ∷ [])) before rest m → HasCleanDisk new
+    by_rest : (s : State) → IsSound k s → IfClean (ShowsState s) old → (before rest : List Sent) (m : Sent) → IsAnsweredCommit k s (sent (cs ++ c ∷ []) (answers ++ a ∷ [])) before rest m → HasCleanDisk new
         → (b : Between k s mid cs answers) → b.at ≡ after k s (sent cs answers) → sent cs answers ++ item (is_failed a) c ∷ [] ≡ before ++ m ∷ rest
         → IsServed k b.at c.0 c.1 a new → (rest ≡ []) ⊎ ((ys : List Sent) × (y : Sent) × (rest ≡ ys ++ y ∷ []))
-        → LeavesOnly (λ trees. (at : State) × StaysOrComesTo k (outcome_behind k s before m).next rest at × HoldsState k at trees) new
+        → LeavesOnly (λ trees. (at : State) × StaysOrComesTo k (outcome_behind k s before m).next rest at × HoldsState at trees) new
     by_rest s sound was before rest m made now b here list served (inl none) =
         let ends = snoc_ends (sent cs answers) before (item (is_failed a) c) m (list ∙ ap (λ (l : List Sent). before ++ m ∷ l) none) in
         let o = outcome_behind k s before m in
@@ -250,7 +250,7 @@ outlasts_next k old mid new cs c answers a far runs due clean serves spares comm
         (subst (λ (l : List Sent). IsCommit (after k s l) (outcome_behind k s l (item (is_failed a) c)).answer (outcome_behind k s l (item (is_failed a) c)).next) (sym ends.0)
         (subst (λ (n : Sent). IsCommit (after k s before) (outcome_behind k s before n).answer (outcome_behind k s before n).next) (sym ends.1) made.commit))
         commits b.sound b.shown now in
-        λ trees may. (o.next, inl refl, subst (λ (t : State). HoldsState k t trees) same (left trees may))
+        λ trees may. (o.next, inl refl, subst (λ (t : State). HoldsState t trees) same (left trees may))
     by_rest s sound was before rest m made now b here list served (inr (ys, y, is)) =
         let ends = snoc_ends (sent cs answers) (before ++ m ∷ ys) (item (is_failed a) c) y
         (list ∙ ap (λ (l : List Sent). before ++ m ∷ l) is ∙ sym (append_assoc before (m ∷ ys) (y ∷ []))) in
@@ -283,7 +283,7 @@ last_stays k old new cs answers stays = λ s sound was before rest m last now tr
     let it = stays s sound was before rest m last.made now trees left in
     let end : after k s (sent cs answers) ≡ o.next =
     ap (λ (l : List Sent). after k s l) last.made.list ∙ behind_answered k s before rest m last.made.answered ∙ after_unchanged k o.next rest last.unchanged in
-    subst (λ (t : State). HoldsState k t trees) (unmoved k o.next rest it.0 last.unchanged it.1 ∙ sym end) it.2
+    subst (λ (t : State). HoldsState t trees) (unmoved k o.next rest it.0 last.unchanged it.1 ∙ sym end) it.2
 
 -- so many commands have run, with as many answers after those that were there
 pub record SoFar (k : Rules) (old new : Standing) (cs : List (ℕ × Command)) (held answers : List Answer) : Type 0 where
@@ -363,7 +363,7 @@ ran_all laws k old cs answers new sound ran =
       state = state;
       with_repeats = state ∙ laws.repeats k old (sent cs answers) whole.fits sound;
       stays = λ vehicle number reply kept.
-          subst (λ (s : State). kept_reply k s vehicle number ≡ Some reply) (sym state) (laws.replies k old (thinned k old (sent cs answers)) vehicle number reply sound kept);
+          subst (λ (s : State). kept_reply s vehicle number ≡ Some reply) (sym state) (laws.replies k old (thinned k old (sent cs answers)) vehicle number reply sound kept);
       apart = λ name.
           let alone = laws.apart k old name (sent cs answers) in
           (ap (λ (s : State). table.get s.vehicles name) whole.state ∙ alone.0, alone.1);

@@ -134,10 +134,10 @@ outright_due k s at (CloseCampaign name) r fits h = cc
 outright_due k s at (Fetch repository name) r fits h = cc
 
 -- what is refused with nothing asked of the connection
-pub refused_unread : {k : Rules} {s : State} (d : Standing) {r : Refusal} {computed : Result Outcome Refusal} → IfClean (ShowsState k s) d → computed ≡ Err r → is_fault r ≡ false → Serves k s d d (Err r) computed
+pub refused_unread : {k : Rules} {s : State} (d : Standing) {r : Refusal} {computed : Result Outcome Refusal} → IfClean (ShowsState s) d → computed ≡ Err r → is_fault r ≡ false → Serves k s d d (Err r) computed
 refused_unread {k} {s} d {r} {computed} was is fault = record {
   leaves = λ clean. (was clean, subst (λ b. MatchBool b ⊤ (computed ≡ Err r)) (sym fault) is);
-  crash = survives_same (HoldsState k (outcome_of s computed).next) d.connection;
+  crash = survives_same (HoldsState (outcome_of s computed).next) d.connection;
   durable = λ commit. absurd commit;
   blame = λ clean sound store. absurd (let no : true ≡ false = sym (ap is_fault store) ∙ fault in cc);
 }
@@ -146,7 +146,7 @@ refused_unread {k} {s} d {r} {computed} was is fault = record {
 
 abbrev chosen : Rules → State → Option KeptEntry → Result Outcome Refusal → Outcome
 chosen k s None decided = outcome_of s decided
-chosen k s (Some r) decided = record { answer = Replied (reply_to k s r.vehicle r.number r.entry); next = s }
+chosen k s (Some r) decided = record { answer = Replied (reply_to r.vehicle r.number r.entry); next = s }
 
 chosen_is : (k : Rules) (s : State) (at : ℕ) (c : Command) (o : Option KeptEntry) → served_as k s at c o ≡ chosen k s o (decide k s at c)
 unfolding step
@@ -197,7 +197,7 @@ pub record IsServed (k : Rules) (s : State) (at : ℕ) (c : Command) (a : Answer
   pub next : State
   pub answered : IsAnswered a s next (serve k s at c)
   pub sound : IsSound k next
-  pub keeps : ShowsState k next new
+  pub keeps : ShowsState next new
 
 by_loss : (k : Rules) (s : State) (at : ℕ) (c : Command) (r : Refusal) (b : Bool) → MatchBool b ⊤ (outcome_due k s at c ≡ Err r)
     → MatchBool b (s ≡ s) ((Refused r ≡ (serve k s at c).answer) × (s ≡ (serve k s at c).next))
@@ -227,12 +227,12 @@ answered k s new at c (Err r) stays fits sound h = record { next = s; answered =
 pub next_is : (k : Rules) (s : State) (at : ℕ) (c : Command) → (outcome_of s (outcome_due k s at c)).next ≡ (serve k s at c).next
 next_is k s at c = sym (ap (λ (o : Outcome). o.next) (due_is k s at c))
 
-pub crashed : (k : Rules) (s : State) (old new : Standing) (at : ℕ) (c : Command) (r : Result Answer Refusal) → Serves k s old new r (outcome_due k s at c) → Survives old new (HoldsState k (serve k s at c).next)
-crashed k s old new at c r h = subst (λ (n : State). Survives old new (HoldsState k n)) (next_is k s at c) h.crash
+pub crashed : (k : Rules) (s : State) (old new : Standing) (at : ℕ) (c : Command) (r : Result Answer Refusal) → Serves k s old new r (outcome_due k s at c) → Survives old new (HoldsState (serve k s at c).next)
+crashed k s old new at c r h = subst (λ (n : State). Survives old new (HoldsState n)) (next_is k s at c) h.crash
 
 pub committed : (k : Rules) (s : State) (old new : Standing) (at : ℕ) (c : Command) (r : Result Answer Refusal) → Serves k s old new r (outcome_due k s at c)
-    → IsCommit s (told r) (serve k s at c).next → IfClean (LeavesOnly (HoldsState k (serve k s at c).next)) new
-committed k s old new at c r h = subst (λ (n : State). IsCommit s (told r) n → IfClean (LeavesOnly (HoldsState k n)) new) (next_is k s at c) h.durable
+    → IsCommit s (told r) (serve k s at c).next → IfClean (LeavesOnly (HoldsState (serve k s at c).next)) new
+committed k s old new at c r h = subst (λ (n : State). IsCommit s (told r) n → IfClean (LeavesOnly (HoldsState n)) new) (next_is k s at c) h.durable
 
 -- an answer `Store` is a refusal
 refusal_told_so : (k : Rules) (s : State) (new : Standing) (r : Result Answer Refusal) (computed : Result Outcome Refusal) → Leaves k s new r computed → told r ≡ Refused Store → r ≡ Err Store

@@ -15,24 +15,24 @@ use Rattle.up_records.specs.Standing.{HoldsState}
 -- The answer and the next state are those of what is served, and where the command failed the state is as it was. Kept replies are
 -- kept on, the state stays sound, and the tables show it.
 abbrev pub IsServed : Rules → State → ℕ → Command → Answer → Standing → Type 0
-IsServed k s at c a new = (next : State) × IsAnswered a s next (serve k s at c) × RepliesStay k s next × IsSound k next × ShowsState k next new
+IsServed k s at c a new = (next : State) × IsAnswered a s next (serve k s at c) × RepliesStay s next × IsSound k next × ShowsState next new
 
 -- so from each sound state that the tables showed
 abbrev pub ServesCall : Rules → ℕ → Command → Answer → Standing → Standing → Type 0
-ServesCall k at c a old new = HasCleanDisk new → (s : State) → IsSound k s → IfClean (ShowsState k s) old → IsServed k s at c a new
+ServesCall k at c a old new = HasCleanDisk new → (s : State) → IsSound k s → IfClean (ShowsState s) old → IsServed k s at c a new
 
 -- whatever is answered, a crash leaves what it could leave before, or the next state
 abbrev pub SparesCall : Rules → ℕ → Command → Standing → Standing → Type 0
-SparesCall k at c old new = (s : State) → IsSound k s → IfClean (ShowsState k s) old → Survives old new (HoldsState k (serve k s at c).next)
+SparesCall k at c old new = (s : State) → IsSound k s → IfClean (ShowsState s) old → Survives old new (HoldsState (serve k s at c).next)
 
 -- after a commit it leaves the next state alone
 abbrev pub CommitsCall : Rules → ℕ → Command → Answer → Standing → Standing → Type 0
-CommitsCall k at c a old new = (s : State) → IsSound k s → IfClean (ShowsState k s) old → IsCommit s a (serve k s at c).next
-    → IfClean (LeavesOnly (HoldsState k (serve k s at c).next)) new
+CommitsCall k at c a old new = (s : State) → IsSound k s → IfClean (ShowsState s) old → IsCommit s a (serve k s at c).next
+    → IfClean (LeavesOnly (HoldsState (serve k s at c).next)) new
 
 -- `Store` is told only where the disk counted a fault, or the database refuses to write the rows of the next state
 abbrev pub BlamesCall : Rules → ℕ → Command → Answer → Standing → Standing → Type 0
-BlamesCall k at c a old new = HasCleanDisk new → a ≡ Refused Store → (s : State) → IsSound k s → IfClean (ShowsState k s) old
+BlamesCall k at c a old new = HasCleanDisk new → a ≡ Refused Store → (s : State) → IsSound k s → IfClean (ShowsState s) old
     → IsBlamed k s old.connection new.connection (serve k s at c)
 
 -- what a call comes to, whatever it answers

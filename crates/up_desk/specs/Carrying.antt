@@ -42,7 +42,7 @@ pub record HasPut (k : Rules) (s : State) (new : Connected) (kept : Option Catal
   pub given : is_failed answer ≡ false
   pub next : State
   pub computed_is : computed ≡ Ok (record { answer = answer; next = next })
-  pub tables : GoesOn up_schema (ListsRows (rows_of_state k next)) new
+  pub tables : GoesOn up_schema (ListsRows (rows_of_state next)) new
   pub moved : Fits next kept
   pub same : Fits s kept
 
@@ -59,12 +59,12 @@ LeavesIn k s old new kept (Err r) computed = IsRefused s old new kept r computed
 -- a command by this rule, from each sound state that the session sees and of which the catalog is
 pub record CarriesOn {S : Type 0} (g : Ghosts S) (k : Rules) (rule : State → Result Outcome Refusal) (old new : MutBor (Held S)) (kept left : Option Catalog)
     (result : Result Carried Refusal) : Type 0 where
-  pub leaves : HasCleanDisk (state g new.now) → (s : State) → IsSound k s → SeesState k s (state g old.now) → Fits s kept
+  pub leaves : HasCleanDisk (state g new.now) → (s : State) → IsSound k s → SeesState s (state g old.now) → Fits s kept
       → LeavesIn k s (state g old.now) (state g new.now) left result (rule s)
   -- unless a fault is told the transaction goes on
   pub goes : HasCleanDisk (state g new.now) → IsDecided result → IsInside (state g old.now) → IsInside (state g new.now)
   -- where the next state is sound, `Store` is told only where the disk or the database is to blame
-  pub blame : HasCleanDisk (state g new.now) → (s : State) → IsSound k s → SeesState k s (state g old.now) → Fits s kept
+  pub blame : HasCleanDisk (state g new.now) → (s : State) → IsSound k s → SeesState s (state g old.now) → Fits s kept
       → IsSound k (outcome_of s (rule s)).next
       → IfErr result (λ r. r ≡ Store → IsBlamed k s (state g old.now) (state g new.now) (outcome_of s (rule s)))
   -- what is kept in memory can be used, if it could be

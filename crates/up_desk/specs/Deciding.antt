@@ -29,13 +29,13 @@ use Rattle.up_records.specs.Sessions.{DecidesIn}
 -- the rows of the first root version
 abbrev pub DecidesFound : {S : Type 0} → Ghosts S → Rules → ℕ → KeySet → MutBor (Held S) → MutBor (Held S) → Result RootRows Refusal → Type 0
 DecidesFound g k at keys old new result = DecidesIn g k (λ _. ⊤)
-    (λ s. GivesRows (HasRootRows k (stamped (with_root s at keys) at 1)) (stamped (with_root s at keys) at 1))
+    (λ s. GivesRows (HasRootRows (stamped k (with_root k s at keys) at 1)) (stamped k (with_root k s at keys) at 1))
     (λ s. decide_found k s at keys) old new result
 
 -- those of the next one
 abbrev pub DecidesRotate : {S : Type 0} → Ghosts S → Rules → ℕ → KeySet → MutBor (Held S) → MutBor (Held S) → Result RootRows Refusal → Type 0
 DecidesRotate g k at keys old new result = DecidesIn g k (λ _. ⊤)
-    (λ s. GivesRows (HasRootRows k (stamped (with_root s at keys) at (s.image_version + 1))) (stamped (with_root s at keys) at (s.image_version + 1)))
+    (λ s. GivesRows (HasRootRows (stamped k (with_root k s at keys) at (s.image_version + 1))) (stamped k (with_root k s at keys) at (s.image_version + 1)))
     (λ s. decide_rotate k s at keys) old new result
 
 -- ---- the register of images
@@ -43,13 +43,13 @@ DecidesRotate g k at keys old new result = DecidesIn g k (λ _. ⊤)
 -- an image is there already, or the rows with it
 abbrev pub DecidesImage : {S : Type 0} → Ghosts S → Rules → ℕ → ImageData → MutBor (Held S) → MutBor (Held S) → Result (Decision RegisterRows) Refusal → Type 0
 DecidesImage g k at image old new result = DecidesIn g k (λ _. ⊤)
-    (λ s. GivesDecision (HasRegisterRows k (stamped (with_image s image) at (s.image_version + 1))) s (stamped (with_image s image) at (s.image_version + 1)))
-    (λ s. decide_image s at image) old new result
+    (λ s. GivesDecision (HasRegisterRows (stamped k (with_image s image) at (s.image_version + 1))) s (stamped k (with_image s image) at (s.image_version + 1)))
+    (λ s. decide_image k s at image) old new result
 
 -- the rows of new files
 abbrev pub DecidesRefresh : {S : Type 0} → Ghosts S → Rules → ℕ → ℕ → MutBor (Held S) → MutBor (Held S) → Result RegisterRows Refusal → Type 0
 DecidesRefresh g k at version old new result = DecidesIn g k (λ _. ⊤)
-    (λ s. GivesRows (HasRegisterRows k (stamped s at version)) (stamped s at version)) (λ s. decide_refresh s at version) old new result
+    (λ s. GivesRows (HasRegisterRows (stamped k s at version)) (stamped k s at version)) (λ s. decide_refresh k s at version) old new result
 
 -- ---- the inventory
 
@@ -81,4 +81,4 @@ DecidesClose g k at name old new result = DecidesIn g k (λ _. ⊤)
 -- the text of a file
 abbrev pub DecidesFile : {S : Type 0} → Ghosts S → Rules → ℕ → Repository → Name → MutBor (Held S) → MutBor (Held S) → Result (List ℕ) Refusal → Type 0
 DecidesFile g k at repository name old new result = DecidesIn g k (λ _. ⊤)
-    (λ s. GivesFile s) (λ s. decide_fetch k s at repository name) old new result
+    (λ s. GivesFile s) (λ s. decide_fetch s at repository name) old new result

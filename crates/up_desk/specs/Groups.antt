@@ -68,7 +68,7 @@ pub record LeavesAll (k : Rules) (s : State) (cs : List (ℕ × Command)) (told 
   pub served : ServesEach k s cs told next
   pub unfailed : AllByRecursion (λ a. is_failed a ≡ false) told
   pub sound : IsSound k next
-  pub tables : SeesState k next new
+  pub tables : SeesState next new
   pub memory : Fits next left
   pub rows : MatchBool put (IsTrue new.is_open) ((next ≡ s) × AreIdle k s cs old new)
 
@@ -80,7 +80,7 @@ pub record CarriesAll {S : Type 0} (g : Ghosts S) (k : Rules) (cs : List (ℕ ×
   pub room : vec_capacity held ≤ vec_capacity answers
   pub outright : OnSome put (AreOutright k cs told)
   pub inside : OnSome put (stands.IfClean IsInside (state g new.now))
-  pub leaves : HasCleanDisk (state g new.now) → (s : State) → IsSound k s → SeesState k s (state g old.now) → Fits s kept
+  pub leaves : HasCleanDisk (state g new.now) → (s : State) → IsSound k s → SeesState s (state g old.now) → Fits s kept
       → IfSome put (LeavesAll k s cs told (state g old.now) (state g new.now) left)
   pub can : IfSome kept (CanDecide k) → IfSome left (CanDecide k)
   pub step : IsStep g old new
@@ -113,8 +113,8 @@ none_lost cs = map (λ c. record { item = timed c; lost = false }) cs
 pub record IsUndone (k : Rules) (cs : List (ℕ × Command)) (held answers : Vec Answer) (old new : Standing) : Type 0 where
   pub untold : answers.items ≡ held.items
   pub room : vec_len answers + length cs ≤ vec_capacity answers
-  pub shown : (s : State) → IsSound k s → IfClean (ShowsState k s) old → IfClean (ShowsState k s) new
-  pub crash : (s : State) → IsSound k s → IfClean (ShowsState k s) old → Survives old new (HoldsState k (after k s (none_lost cs)))
+  pub shown : (s : State) → IsSound k s → IfClean (ShowsState s) old → IfClean (ShowsState s) new
+  pub crash : (s : State) → IsSound k s → IfClean (ShowsState s) old → Survives old new (HoldsState (after k s (none_lost cs)))
   pub clean : standing.HasCleanDisk new → standing.HasCleanDisk old
 
 -- all of them are called, or all of it is undone

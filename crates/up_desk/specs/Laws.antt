@@ -56,7 +56,7 @@ pub record ActsOnce (k : Rules) (incoming : Incoming) (served : Outcome) : Type 
   pub there : table.get served.next.vehicles incoming.manifest.vehicle ≡ Some vehicle
   pub once : filter (λ e. bytes_eq e.signed incoming.envelope.signed) vehicle.entries ≡ entry ∷ []
   pub numbered : nth vehicle.entries number ≡ Some entry
-  pub answer : served.answer ≡ Replied (reply_to k served.next incoming.manifest.vehicle number entry)
+  pub answer : served.answer ≡ Replied (reply_to incoming.manifest.vehicle number entry)
 
 -- the vehicle of which the command replaces an ECU
 abbrev pub replaced_in : Command → Option Name
@@ -96,14 +96,14 @@ pub record IsDelivered {S : Type 0} (g : Ghosts S) (k : Rules) (s : State) (at :
   pub reads : incoming_in body ≡ Ok incoming
   pub accepted : Outcome
   pub accepts : decide k s at (Deliver body) ≡ Ok accepted
-  pub alone : IfClean (LeavesOnly (HoldsState k s)) (state g old)
-  pub survives : Survives (state g old) (state g new) (HoldsState k (serve k s at (Deliver body)).next)
+  pub alone : IfClean (LeavesOnly (HoldsState s)) (state g old)
+  pub survives : Survives (state g old) (state g new) (HoldsState (serve k s at (Deliver body)).next)
 
 -- whatever a crash may leave behind the call shows a state in which the delivery acts once when it comes again
 abbrev pub CrashesActOnce : {S : Type 0} → Ghosts S → Type 0
 CrashesActOnce {S} g = (k : Rules) (s : State) (at : ℕ) (body : List ℕ) (incoming : Incoming) (old new : Held S)
     → IsDelivered g k s at body incoming old new
-    → HasCleanDisk (state g new) → (left : Trees) → (state g new).may_leave left → FindsState k body incoming (λ t. HoldsState k t left)
+    → HasCleanDisk (state g new) → (left : Trees) → (state g new).may_leave left → FindsState k body incoming (λ t. HoldsState t left)
 
 -- and so does what an open finds of the files that the crash left
 abbrev pub ReopenedActsOnce : {D : Type 0} → DiskGhosts D → Type 0
@@ -112,7 +112,7 @@ ReopenedActsOnce {D} g = (k : Rules) (s : State) (at : ℕ) (body : List ℕ) (i
     → HasCleanDisk (file_state new) → (stopped : FileStore D g) → AreFoundAgain new stopped → IsTrue (view stopped).is_clean
     → (left : Image) → (files.state stopped).may_leave left
     → (opened : Held (FileStore D g)) → IsOpened opened → FindsIn left (file_state opened)
-    → ∥ FindsState k body incoming (λ t. KeepsState k t (file_state opened)) ∥₁
+    → ∥ FindsState k body incoming (λ t. KeepsState t (file_state opened)) ∥₁
 
 -- ---- lists
 
@@ -126,9 +126,9 @@ LastCommitsStand {D} g = (k : Rules) (cs : List (ℕ × Command)) (answers : Lis
 abbrev pub ReopenedOutlast : {D : Type 0} → DiskGhosts D → Type 0
 ReopenedOutlast {D} g = (k : Rules) (cs : List (ℕ × Command)) (answers : List Answer) (old new : Stored (FileStore D g))
     → OutlastsCalls k cs answers (standing.state over_files old) (standing.state over_files new)
-    → (s : State) → IsSound k s → standing.IfClean (standing.ShowsState k s) (standing.state over_files old)
+    → (s : State) → IsSound k s → standing.IfClean (standing.ShowsState s) (standing.state over_files old)
     → (before rest : List Sent) (m : Sent) → IsAnsweredCommit k s (sent cs answers) before rest m
     → HasCleanDisk (file_state new.held) → (stopped : FileStore D g) → AreFoundAgain new.held stopped → IsTrue (view stopped).is_clean
     → (left : Image) → (files.state stopped).may_leave left
     → (opened : Held (FileStore D g)) → IsOpened opened → FindsIn left (file_state opened)
-    → ∥ ((at : State) × StaysOrComesTo k (outcome_behind k s before m).next rest at × KeepsState k at (file_state opened)) ∥₁
+    → ∥ ((at : State) × StaysOrComesTo k (outcome_behind k s before m).next rest at × KeepsState at (file_state opened)) ∥₁

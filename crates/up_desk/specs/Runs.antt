@@ -64,7 +64,7 @@ pub record IsRun (k : Rules) (old : State) (cs : List (ℕ × Command)) (answers
   pub told : map unless_failed answers ≡ expected k old (sent cs answers)
   pub state : new ≡ run k old (thinned k old (sent cs answers))
   pub with_repeats : new ≡ run k old (not_lost (sent cs answers))
-  pub stays : RepliesStay k old new
+  pub stays : RepliesStay old new
   pub apart : (name : Name) → (table.get new.vehicles name ≡ table.get (after k old (without_others name (sent cs answers))).vehicles name)
       × (own_answers k old name (sent cs answers) ≡ own_answers k old name (without_others name (sent cs answers)))
   pub exchanged : (before rest : List Sent) (m n : Sent) → AreNeighbours (sent cs answers) before rest m n
@@ -74,8 +74,8 @@ pub record IsRun (k : Rules) (old : State) (cs : List (ℕ × Command)) (answers
 -- so from each sound state that the tables showed, where the disk is clean then; and the tables show the state
 abbrev pub RunsCalls : Rules → List (ℕ × Command) → List Answer → Standing → Standing → Type 0
 RunsCalls k cs answers old new =
-    HasCleanDisk new → (s : State) → IsSound k s → IfClean (ShowsState k s) old
-    → (next : State) × IsRun k s cs answers next × IsSound k next × ShowsState k next new
+    HasCleanDisk new → (s : State) → IsSound k s → IfClean (ShowsState s) old
+    → (next : State) × IsRun k s cs answers next × IsSound k next × ShowsState next new
 
 -- ---- what a crash leaves after a list
 
@@ -95,8 +95,8 @@ ComesTo k s ms at = (before lost rest : List Sent) × (ms ≡ before ++ lost ++ 
 -- only a fault of the disk shuts the connection, and a crash leaves what it could leave before the list, or the state after some of the first
 -- commands
 abbrev pub SparesCalls : Rules → List (ℕ × Command) → List Answer → Standing → Standing → Type 0
-SparesCalls k cs answers old new = (s : State) → IsSound k s → IfClean (ShowsState k s) old
-    → Survives old new (λ trees. (at : State) × ComesTo k s (sent cs answers) at × HoldsState k at trees)
+SparesCalls k cs answers old new = (s : State) → IsSound k s → IfClean (ShowsState s) old
+    → Survives old new (λ trees. (at : State) × ComesTo k s (sent cs answers) at × HoldsState at trees)
 
 -- a commit that was answered
 pub record IsAnsweredCommit (k : Rules) (s : State) (ms before rest : List Sent) (m : Sent) : Type 0 where
@@ -110,9 +110,9 @@ StaysOrComesTo k s ms at = (at ≡ s) ⊎ ComesTo k s ms at
 
 -- what was answered stays: behind each commit that was answered a crash leaves the state behind it, or the one after some of the commands that follow
 abbrev pub OutlastsCalls : Rules → List (ℕ × Command) → List Answer → Standing → Standing → Type 0
-OutlastsCalls k cs answers old new = (s : State) → IsSound k s → IfClean (ShowsState k s) old → (before rest : List Sent) (m : Sent)
+OutlastsCalls k cs answers old new = (s : State) → IsSound k s → IfClean (ShowsState s) old → (before rest : List Sent) (m : Sent)
     → IsAnsweredCommit k s (sent cs answers) before rest m
-    → IfClean (LeavesOnly (λ trees. (at : State) × StaysOrComesTo k (outcome_behind k s before m).next rest at × HoldsState k at trees)) new
+    → IfClean (LeavesOnly (λ trees. (at : State) × StaysOrComesTo k (outcome_behind k s before m).next rest at × HoldsState at trees)) new
 
 -- a commit that was answered, and behind it no command that changes the state
 pub record IsLastCommit (k : Rules) (s : State) (ms before rest : List Sent) (m : Sent) : Type 0 where
@@ -122,9 +122,9 @@ pub record IsLastCommit (k : Rules) (s : State) (ms before rest : List Sent) (m 
 
 -- where the last commit was answered, a crash leaves the state after the whole list alone
 abbrev pub CommitsCalls : Rules → List (ℕ × Command) → List Answer → Standing → Standing → Type 0
-CommitsCalls k cs answers old new = (s : State) → IsSound k s → IfClean (ShowsState k s) old → (before rest : List Sent) (m : Sent)
+CommitsCalls k cs answers old new = (s : State) → IsSound k s → IfClean (ShowsState s) old → (before rest : List Sent) (m : Sent)
     → IsLastCommit k s (sent cs answers) before rest m
-    → IfClean (LeavesOnly (HoldsState k (after k s (sent cs answers)))) new
+    → IfClean (LeavesOnly (HoldsState (after k s (sent cs answers)))) new
 
 -- ---- a whole list
 

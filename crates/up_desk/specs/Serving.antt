@@ -44,8 +44,8 @@ IsAnswered a old new o = MatchBool (is_failed a) (new ≡ old) ((a ≡ o.answer)
 
 -- each reply that was kept is kept on, the same
 abbrev pub RepliesStay : Rules → State → State → Type 0
-RepliesStay k old new = (vehicle : Name) (number : ℕ) (reply : Reply) → kept_reply k old vehicle number ≡ Some reply
-    → kept_reply k new vehicle number ≡ Some reply
+RepliesStay old new = (vehicle : Name) (number : ℕ) (reply : Reply) → kept_reply old vehicle number ≡ Some reply
+    → kept_reply new vehicle number ≡ Some reply
 
 -- ---- refusals that are answered whether or not there is memory, whatever the database does
 
@@ -78,8 +78,8 @@ outcome_due k s at c = decide k s at c
 -- what is shown is the state of the outcome that was computed; of a refusal, or where the command failed, the state as it was
 abbrev pub Leaves : Rules → State → Standing → Result Answer Refusal → Result Outcome Refusal → Type 0
 Leaves k s new (Ok answer) computed =
-    (is_failed answer ≡ false) × ((next : State) × (computed ≡ Ok (record { answer = answer; next = next })) × ShowsState k next new)
-Leaves k s new (Err r) computed = ShowsState k s new × MatchBool (is_fault r) ⊤ (computed ≡ Err r)
+    (is_failed answer ≡ false) × ((next : State) × (computed ≡ Ok (record { answer = answer; next = next })) × ShowsState next new)
+Leaves k s new (Err r) computed = ShowsState s new × MatchBool (is_fault r) ⊤ (computed ≡ Err r)
 
 -- it was done, or is a reply with which the state changed: that to a newly accepted manifest
 abbrev pub IsCommit : State → Answer → State → Type 0
@@ -92,7 +92,7 @@ IsCommit s (Refused r) next = ⊥
 -- the outcome is a commit, and the database refuses to write the rows of its next state
 pub record RefusesOutcome (k : Rules) (s : State) (limit : Option ℕ) (db : Database) (o : Outcome) : Type 0 where
   pub commit : IsCommit s o.answer o.next
-  pub refused : RefusesToWrite (rows_of_state k s) (rows_of_state k o.next) limit db
+  pub refused : RefusesToWrite (rows_of_state s) (rows_of_state o.next) limit db
 
 -- on a connection that was open, with no limit on the steps of a query, the disk counted a fault, or the database refuses the outcome
 abbrev pub IsBlamed : Rules → State → Connected → Connected → Outcome → Type 0
@@ -103,16 +103,16 @@ pub record Serves (k : Rules) (s : State) (old new : Standing) (result : Result 
   -- it leaves what was computed
   pub leaves : HasCleanDisk new → Leaves k s new result computed
   -- whatever it answers, a crash leaves what it could leave before, or the next state
-  pub crash : Survives old new (HoldsState k (outcome_of s computed).next)
+  pub crash : Survives old new (HoldsState (outcome_of s computed).next)
   -- behind a commit it leaves that alone
-  pub durable : IsCommit s (told result) (outcome_of s computed).next → IfClean (LeavesOnly (HoldsState k (outcome_of s computed).next)) new
+  pub durable : IsCommit s (told result) (outcome_of s computed).next → IfClean (LeavesOnly (HoldsState (outcome_of s computed).next)) new
   -- where the next state is sound, `Store` is told only where the disk or the database is to blame
   pub blame : HasCleanDisk new → IsSound k (outcome_of s computed).next
       → IfErr result (λ r. r ≡ Store → IsBlamed k s old.connection new.connection (outcome_of s computed))
 
 -- a command by this rule
 pub record CarriesOut (k : Rules) (rule : State → Result Outcome Refusal) (old new : Standing) (result : Result Answer Refusal) : Type 0 where
-  pub serves : (s : State) → IsSound k s → IfClean (ShowsState k s) old → Serves k s old new result (rule s)
+  pub serves : (s : State) → IsSound k s → IfClean (ShowsState s) old → Serves k s old new result (rule s)
   -- what is kept in memory can be used, if it could be
   pub can : CanUse k old → CanUse k new
 

@@ -29,7 +29,7 @@ pub fn fetch<D: Alter>(
     name: &FileName,
 ) -> Result<Carried, Refusal>
     ensures { (k : Rules) (kept : Option Catalog) → CarriesIn D.Store k
-        (λ s. decide_fetch_in k s at repository name.now) tx.old.conn tx.new.conn kept kept result }
+        (λ s. decide_fetch_in s at repository name.now) tx.old.conn tx.new.conn kept kept result }
 {
     match read_file(tx, alloc, at, repository, name) {
         Ok(text) => Ok(Carried::Unchanged(Answer::File(text))),

@@ -3,7 +3,7 @@ ghost use Rattle.std.specs.Prelude.{◌≡◌};
 ghost use Rattle.up_machine.specs.Repositories.{decide_image as decide_image_in};
 ghost use Rattle.up_machine.specs.Repositories.{decide_refresh as decide_refresh_in};
 ghost use Rattle.up_machine.specs.Decisions.{HasRegisterRows};
-ghost use Rattle.up_machine.specs.Due.{CanMakeFiles, HasFounding};
+ghost use Rattle.up_machine.specs.Due.{CanMakeFiles, HasFounding, HasNewFiles};
 ghost use Rattle.up_machine.specs.State.{State};
 ghost use Rattle.up_desk.specs.Carrying.{CarriesIn};
 ghost use Rattle.up_desk.specs.Deciding.{DecidesImage, DecidesRefresh};
@@ -39,7 +39,7 @@ pub fn add_image<K: Scheme, D: Alter>(
     at: CommandMoment,
     image: &Image,
 ) -> Result<Carried, Refusal>
-    ensures { CarriesIn D.Store (K.rules scheme.now) (λ s. decide_image_in s at image.now)
+    ensures { CarriesIn D.Store (K.rules scheme.now) (λ s. decide_image_in (K.rules scheme.now) s at image.now)
         tx.old.conn tx.new.conn catalog.old catalog.new result }
 {
     images_are_added();
@@ -94,7 +94,7 @@ pub fn refresh<K: Scheme, D: Alter>(
     at: CommandMoment,
     version: Count,
 ) -> Result<Carried, Refusal>
-    ensures { CarriesIn D.Store (K.rules scheme.now) (λ s. decide_refresh_in s at version)
+    ensures { CarriesIn D.Store (K.rules scheme.now) (λ s. decide_refresh_in (K.rules scheme.now) s at version)
         tx.old.conn tx.new.conn catalog.old catalog.new result }
 {
     images_are_added();
@@ -138,8 +138,8 @@ fn make_register_rows<K: Scheme, D: Alter>(
     founding: Founding,
 ) -> Result<RegisterRows, StoreFault>
     requires { CanMakeFiles (K.rules scheme.now) founding }
-    ensures { FindsUnder D.Store (K.rules scheme.now) (λ s rows. (next : State) → HasFounding next founding
-        → next.images ≡ s.images → HasRegisterRows (K.rules scheme.now) next rows) tx.old.conn tx.new.conn result }
+    ensures { FindsUnder D.Store (K.rules scheme.now) (λ s rows. (next : State) → HasFounding next founding → HasNewFiles (K.rules scheme.now) next
+        → next.images ≡ s.images → HasRegisterRows next rows) tx.old.conn tx.new.conn result }
 {
     match find_images(tx, alloc) {
         Ok(images) => Ok(register_rows(alloc, scheme, founding, &images)?),

@@ -130,8 +130,8 @@ fn make_root_rows<K: Scheme, D: Alter>(
     new: &NextRoot,
 ) -> Result<RootRows, StoreFault>
     requires { CanMakeRoot (K.rules scheme.now) at keys.now new.now }
-    ensures { FindsUnder D.Store (K.rules scheme.now) (λ s rows. (next : State) → HasRoot next at keys.now new.now
-        → next.images ≡ s.images → HasRootRows (K.rules scheme.now) next rows) tx.old.conn tx.new.conn result }
+    ensures { FindsUnder D.Store (K.rules scheme.now) (λ s rows. (next : State) → HasRoot (K.rules scheme.now) next at keys.now new.now
+        → next.images ≡ s.images → HasRootRows next rows) tx.old.conn tx.new.conn result }
 {
     match find_images(tx, alloc) {
         Ok(images) => Ok(root_rows(alloc, scheme, at, keys, new, &images)?),

@@ -1,25 +1,26 @@
 -- The texts of root versions, by their number, and behind others.
-use Rattle.std.proofs.Common.{◌≡◌, ℕ, zero, suc, ◌+◌, ◌-◌, List, [], ◌∷◌, ◌++◌, true, Option, Some, None, refl, sym, ap, ap₂, ◌∙◌, arith}
-use Rattle.std.specs.Prelude.{length, slice_get, option_map, is_some}
+use Rattle.std.proofs.Common.{◌≡◌, ℕ, zero, suc, ◌+◌, ◌-◌, List, [], ◌∷◌, ◌++◌, true, false, Option, Some, None, refl, sym, ap, ap₂, ◌∙◌, arith}
+use Rattle.std.specs.Prelude.{◌==◌, if◌then◌else◌, length, slice_get, option_map, is_some}
 use Rattle.up_sign.specs.Schemes.{Rules}
 use Rattle.up_roles.specs.declared.repository.Repository.{Repository}
 use Rattle.up_roles.specs.declared.repository.Repository.TheVariants.{Director, Image}
 use Rattle.up_metadata.specs.declared.keys.KeySet.{KeySet}
 use Rattle.up_metadata.specs.declared.role_files.RoleTexts.{RoleTexts}
 use Rattle.up_metadata.specs.Files.{Root, root_text}
+use Rattle.std.proofs.lemmas.Bool.Decides.{nat_tests}
 use Rattle.std.proofs.lemmas.Option.{same_Some}
 use Rattle.up_machine.specs.State.{State, nth, chain_of, is_founded, key_set}
 use Rattle.up_machine.specs.Made.{keys_at, root_texts, IsMade}
 use Rattle.up_machine.proofs.Places.{nth_at_place, place_of}
 
 -- the keys of the root version at this place, or those before all
-keys_of_place : Option KeySet → List Root → ℕ → Option KeySet
-keys_of_place before roots zero = before
-keys_of_place before [] (suc i) = None
-keys_of_place before (root ∷ roots) (suc i) = keys_of_place (Some root.keys) roots i
+keys_of_place : Option KeySet → ℕ → List Root → Option KeySet
+keys_of_place before zero roots = before
+keys_of_place before (suc i) [] = None
+keys_of_place before (suc i) (root ∷ roots) = keys_of_place (Some root.keys) i roots
 
 text_at : (k : Rules) (repository : Repository) (n : ℕ) (before : Option KeySet) (roots : List Root) (i : ℕ) (root : Root) → slice_get roots i ≡ Some root
-    → slice_get (root_texts k repository n before roots) i ≡ Some (root_text k repository (n + i) root (keys_of_place before roots i))
+    → slice_get (root_texts k repository n before roots) i ≡ Some (root_text k repository (n + i) root (keys_of_place before i roots))
 text_at k repository n before [] i root h = cc
 text_at k repository n before (x ∷ roots) zero root h =
     let same : x ≡ root = cc in
@@ -29,23 +30,27 @@ text_at k repository n before (x ∷ roots) zero root h =
     plain n = omega arith
 text_at k repository n before (x ∷ roots) (suc i) root h =
     text_at k repository (n + 1) (Some x.keys) roots i root h
-    ∙ ap (λ (m : ℕ). Some (root_text k repository m root (keys_of_place (Some x.keys) roots i))) (later n i)
+    ∙ ap (λ (m : ℕ). Some (root_text k repository m root (keys_of_place (Some x.keys) i roots))) (later n i)
   where
     later : (n i : ℕ) → n + 1 + i ≡ n + suc i
     later n i = omega arith
 
+nth_suc : (roots : List Root) (i : ℕ) → nth roots (suc i) ≡ slice_get roots i
+nth_suc roots i =
+    let some : (suc i == 0) ≡ false = grind (arith, nat_tests) in
+    let before : suc i - 1 ≡ i = omega arith in
+    ap₂ (λ b (m : ℕ). if b then None else slice_get roots m) some before
+
 -- they are those of the number before it
-place_keys : (before : Option KeySet) (roots : List Root) (i : ℕ) → keys_of_place before roots (suc i) ≡ option_map (λ (root : Root). root.keys) (slice_get roots i)
+place_keys : (before : Option KeySet) (roots : List Root) (i : ℕ) → keys_of_place before (suc i) roots ≡ option_map (λ (root : Root). root.keys) (slice_get roots i)
 place_keys before [] zero = refl
 place_keys before [] (suc i) = refl
 place_keys before (root ∷ roots) zero = refl
 place_keys before (root ∷ roots) (suc i) = place_keys (Some root.keys) roots i
 
-before_first : (roots : List Root) (i : ℕ) → keys_of_place None roots i ≡ keys_at roots i
+before_first : (roots : List Root) (i : ℕ) → keys_of_place None i roots ≡ keys_at roots i
 before_first roots zero = refl
-before_first roots (suc i) =
-    let before : suc i - 1 ≡ i = omega arith in
-    place_keys None roots i ∙ ap (λ (j : ℕ). option_map (λ (root : Root). root.keys) (slice_get roots j)) (sym before)
+before_first roots (suc i) = place_keys None roots i ∙ ap (option_map (λ (root : Root). root.keys)) (sym (nth_suc roots i))
 
 numbered_text : (k : Rules) (repository : Repository) (roots : List Root) (i : ℕ) (root : Root) → nth roots i ≡ Some root
     → nth (root_texts k repository 1 None roots) i ≡ Some (root_text k repository i root (keys_at roots (i - 1)))
@@ -97,7 +102,7 @@ one_more k repository n before (x ∷ roots) root =
     later : (n i : ℕ) → n + 1 + i ≡ n + suc i
     later n i = omega arith
 
-last_keys : (before : Option KeySet) (roots : List Root) → last_of before roots ≡ keys_of_place before roots (length roots)
+last_keys : (before : Option KeySet) (roots : List Root) → last_of before roots ≡ keys_of_place before (length roots) roots
 last_keys before [] = refl
 last_keys before (root ∷ roots) = last_keys (Some root.keys) roots
 

@@ -8,7 +8,7 @@ use Rattle.std.specs.FinMap as table
 use Rattle.std.specs.FinMap.{get-empty}
 use Rattle.std.proofs.lemmas.Option.{same_Some}
 use Rattle.up_canon.specs.Moments.{last_command_moment}
-use Rattle.up_canon.specs.Names.{Name}
+use Rattle.up_canon.specs.Names.{Name, Table}
 use Rattle.up_canon.specs.declared.refusal.Refusal.{Refusal}
 use Rattle.up_sign.specs.Schemes.{Rules}
 use Rattle.up_manifest.specs.Laws.{BodiesAreRead, SignedTextsMean}
@@ -197,7 +197,7 @@ restamped k s next roots at version sound made founded later director image vehi
   image = image;
   founded = sym founded;
   files = λ texts h. sym (same_Some (role_texts k (image_metadata (stamped k next at version))) texts h);
-  replies = λ vehicle v found. replies_of_old k s (stamped k next at version) roots [] sound made later vehicle v (ap (λ t. table.get t vehicle) (sym vehicles) ∙ found);
+  replies = λ vehicle v found. replies_of_old k s (stamped k next at version) roots [] sound made later vehicle v (ap (λ (t : Table Vehicle). table.get t vehicle) (sym vehicles) ∙ found);
 })
 
 acted : (k : Rules) (s : State) (at : ℕ) (c : Command) (roots : List Root) (o : Outcome) → IsSound k s → IsMade k s roots → decide k s at c ≡ Ok o → IsLater s o.next → Leaves k at c roots o

@@ -86,5 +86,8 @@ nth_one_more xs y x i h =
     let place = place_of (xs ++ y ∷ []) i x h in
     elim (slice_get_one_more xs y x place.0 place.2) [
       | inl old ↦ inl (nth_at_place xs i place.0 x place.1 old)
-      | inr new ↦ inr (let number = place.1 in let last = new.0 in omega (arith, number, last), new.1)
+      | inr new ↦ inr (number place.0 place.1 new.0, new.1)
     ]
+  where
+    number : (p : ℕ) → i ≡ 1 + p → p ≡ length xs → i ≡ length xs + 1
+    number p at last = omega (arith, at, last)

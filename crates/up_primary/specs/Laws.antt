@@ -11,13 +11,16 @@ use Rattle.up_roles.specs.Lifetimes.{lifetimes}
 use Rattle.up_roles.specs.Payload.{largest_file}
 use Rattle.up_plan.specs.Images.{ImageData}
 use Rattle.up_plan.specs.Planning.{is_for}
+use Rattle.up_metadata.specs.declared.keys.KeySet.{KeySet}
+use Rattle.up_metadata.specs.declared.role_files.RoleTexts.{RoleTexts}
 use Rattle.up_metadata.specs.Files.{Root, root_text, snapshot_text, targets_file}
 use Rattle.up_machine.specs.Commands.{is_command}
-use Rattle.up_machine.specs.State.{Entry, State, empty_state, root_at, version}
-use Rattle.up_machine.specs.Files.{file, image_metadata, numbered_root_name, root_text_at, target_of}
+use Rattle.up_machine.specs.State.{Entry, State, empty_state, nth, chain_of, is_founded, root_number, version}
+use Rattle.up_machine.specs.Files.{file, image_metadata, numbered_root_name, target_of}
 use Rattle.up_machine.specs.Replies.{reply_metadata}
-use Rattle.up_machine.specs.Deliveries.{Received, receive, check_new, accepted, entry_of, fitted}
+use Rattle.up_machine.specs.Deliveries.{Received, receive, check_new, accepted, plan_in, fitted}
 use Rattle.up_machine.specs.Machine.{Timed, run}
+use Rattle.up_machine.specs.Made.{IsMade, roots_of}
 use Rattle.up_machine.specs.Sound.{IsSound}
 use Rattle.up_laws.specs.Plans.{HasOwnPlans}
 use Rattle.up_laws.specs.Readings.{AreReadAgain}
@@ -41,49 +44,50 @@ AreGiven ts = AllByRecursion (λ t. IsTrue (is_command t.command) × IsTrue (com
 
 -- each Root file by its number, and none of the number behind the last
 abbrev pub RootsAreFetched : Type 0
-RootsAreFetched = (k : Rules) (s : State) (repository : Repository) (i : ℕ) (root : Root) → IsSound k s → root_at s i ≡ Some root
-    → file k s repository (numbered_root_name i) ≡ Some (root_text_at k s repository i root)
+RootsAreFetched = (k : Rules) (s : State) (repository : Repository) (i : ℕ) (text : List ℕ) → IsSound k s → nth (chain_of repository s).texts i ≡ Some text
+    → file s repository (numbered_root_name i) ≡ Some text
 
 abbrev pub NoMoreAreFetched : Type 0
-NoMoreAreFetched = (k : Rules) (s : State) (repository : Repository) → IsSound k s → file k s repository (numbered_root_name (length s.roots + 1)) ≡ None
+NoMoreAreFetched = (k : Rules) (s : State) (repository : Repository) → IsSound k s → file s repository (numbered_root_name (length (chain_of repository s).texts + 1)) ≡ None
 
 -- ---- completeness
 
 -- the Image repository's files are read again
 abbrev pub ImageFilesAreReadAgain : Type 0
-ImageFilesAreReadAgain = (k : Rules) (s : State) (root : Root) → IsScheme k → IsSound k s → IsTyped s → root_at s (length s.roots) ≡ Some root
-    → AreReadAgain k (image_metadata s root)
+ImageFilesAreReadAgain = (k : Rules) (s : State) → IsScheme k → IsSound k s → IsTyped s → IsTrue (is_founded s) → AreReadAgain k (image_metadata s)
 
 -- and each Root behind another is small enough
 abbrev pub RootsAreSmall : Type 0
-RootsAreSmall = (k : Rules) (s : State) (repository : Repository) (i : ℕ) (root before : Root) → IsScheme k → IsSound k s
-    → root_at s (i + 1) ≡ Some root → root_at s i ≡ Some before → length (root_text k repository (i + 1) root (Some before)) ≤ largest_file
+RootsAreSmall = (k : Rules) (s : State) (roots : List Root) (repository : Repository) (i : ℕ) (root before : Root) → IsScheme k → IsSound k s → IsMade k s roots
+    → nth roots (i + 1) ≡ Some root → nth roots i ≡ Some before → length (root_text k repository (i + 1) root (Some before.keys)) ≤ largest_file
 
 -- once founded, the Image repository's version never goes back
 abbrev pub ImageVersionsRise : Type 0
-ImageVersionsRise = (k : Rules) (s : State) (ts : List Timed) → 0 < length s.roots → s.image_version ≤ (run k s ts).image_version
+ImageVersionsRise = (k : Rules) (s : State) (ts : List Timed) → IsTrue (is_founded s) → s.image_version ≤ (run k s ts).image_version
 
 -- a Primary that follows a state follows each later one
 abbrev pub FollowingLasts : Type 0
-FollowingLasts = (k : Rules) (s : State) (ts : List Timed) (p : Primary) → Follows k s p → Follows k (run k s ts) p
+FollowingLasts = (k : Rules) (s : State) (roots : List Root) (ts : List Timed) (p : Primary) → Follows k s roots p → Follows k (run k s ts) (roots ++ roots_of k s ts) p
 
 -- what is served is accepted: what is assigned is to be installed, and the Primary follows the state
-pub record IsTaken (v : Verifier) (s : State) (number : ℕ) (e : Entry) (root : Root) (now : ℕ) (p : Primary) : Type 0 where
+pub record IsTaken (v : Verifier) (s : State) (roots : List Root) (number : ℕ) (e : Entry) (root : Root) (now : ℕ) (p : Primary) : Type 0 where
+  pub files : RoleTexts
+  pub served : s.files ≡ Some files
   pub result : Accepted
-  pub is : verify v now p (served_in v.rules s root p (reply_for v.rules s p.vehicle number e root)) ≡ Ok result
-  pub installs : result.installs ≡ (reply_metadata s p.vehicle number e root).targets
-  pub follows : Follows v.rules s result.next
+  pub is : verify v now p (served_in s files p (reply_for v.rules s p.vehicle number e root)) ≡ Ok result
+  pub installs : result.installs ≡ (reply_metadata s root.keys p.vehicle number e.at e.plan).targets
+  pub follows : Follows v.rules s roots result.next
 
 -- A Primary that follows a state and knows the keys accepts a reply under the last root, new or a repeat, and all that is served with it,
 -- however many roots and versions came since: while nothing of it has expired, it has verified no later reply, and what is assigned
 -- suits its ECUs.
 abbrev pub RepliesAreTaken : Type 0
-RepliesAreTaken = (v : Verifier) (s : State) (now number : ℕ) (e : Entry) (root : Root) (p : Primary) → IsScheme v.rules
-    → IsSound v.rules s → IsTyped s → HasOwnPlans s → KeysAgree v.rules s
-    → Follows v.rules s p → KnowsKeys v s
-    → IsEntryAt s p.vehicle number e root → e.root ≡ length s.roots
-    → AreUpTo number p.director.versions → All (Suits p.ecus) (reply_metadata s p.vehicle number e root).targets → IsFresh s root e now
-    → IsTaken v s number e root now p
+RepliesAreTaken = (v : Verifier) (s : State) (roots : List Root) (now number : ℕ) (e : Entry) (root : Root) (p : Primary) → IsScheme v.rules
+    → IsSound v.rules s → IsTyped s → HasOwnPlans s → IsMade v.rules s roots → KeysAgree v.rules roots
+    → Follows v.rules s roots p → KnowsKeys v roots
+    → IsEntryAt s roots p.vehicle number e root → e.root ≡ root_number s
+    → AreUpTo number p.director.versions → All (Suits p.ecus) (reply_metadata s root.keys p.vehicle number e.at e.plan).targets → IsFresh s root e now
+    → IsTaken v s roots number e root now p
 
 -- a manifest of the Primary's vehicle that is accepted
 pub record IsAnswered (k : Rules) (s : State) (at : ℕ) (body : List ℕ) (p : Primary) : Type 0 where
@@ -94,9 +98,9 @@ pub record IsAnswered (k : Rules) (s : State) (at : ℕ) (body : List ℕ) (p : 
 
 -- What is assigned to a new manifest suits the ECUs of a Primary that reports them as they are.
 abbrev pub NewPlansSuit : Type 0
-NewPlansSuit = (k : Rules) (s : State) (at : ℕ) (body : List ℕ) (root : Root) (p : Primary) (a : IsAnswered k s at body p) → IsSound k s
+NewPlansSuit = (k : Rules) (s : State) (at : ℕ) (body : List ℕ) (keys : KeySet) (p : Primary) (a : IsAnswered k s at body p) → IsSound k s
     → All (KnowsEcu s p.ecus) (filter_map (fitted a.received.incoming.manifest.reports) a.received.vehicle.ecus)
-    → All (Suits p.ecus) (reply_metadata (accepted k s at a.received).next p.vehicle (version a.received.vehicle.entries + 1) (entry_of s at a.received) root).targets
+    → All (Suits p.ecus) (reply_metadata (accepted k s at a.received).next keys p.vehicle (version a.received.vehicle.entries + 1) at (plan_in s a.received)).targets
 
 -- ---- soundness
 
@@ -105,24 +109,24 @@ NewPlansSuit = (k : Rules) (s : State) (at : ℕ) (body : List ℕ) (root : Root
 -- under the others.
 abbrev pub DirectorIsHeard : Type 0
 DirectorIsHeard = (v : Verifier) (ts : List Timed) (stolen : List ℕ → Bool) (now : ℕ) (p : Primary) (served : Served) (result : Accepted) → IsScheme v.rules
-    → AreGiven ts → KeysAgree v.rules (run v.rules empty_state ts) → AreUnforged v.rules ts stolen served.director_roots served.reply.files.targets
-    → FollowsRoot v.rules (run v.rules empty_state ts) Director p.director
-    → AreSafeFrom v.rules (run v.rules empty_state ts) Director stolen p.director.root.version
+    → AreGiven ts → KeysAgree v.rules (roots_of v.rules empty_state ts) → AreUnforged v.rules ts stolen served.director_roots served.reply.files.targets
+    → FollowsRoot v.rules (roots_of v.rules empty_state ts) Director p.director
+    → AreSafeFrom v.rules (roots_of v.rules empty_state ts) Director stolen p.director.root.version
     → verify v now p served ≡ Ok result
-    → (number : ℕ) × (e : Entry) × (root : Root) × IsEntryAt (run v.rules empty_state ts) p.vehicle number e root
-    × (result.targets ≡ targets_file (reply_metadata (run v.rules empty_state ts) p.vehicle number e root)) × ((follow v Director p.director served.director_roots).trust.versions.targets ≤ number)
+    → (number : ℕ) × (e : Entry) × (root : Root) × IsEntryAt (run v.rules empty_state ts) (roots_of v.rules empty_state ts) p.vehicle number e root
+    × (result.targets ≡ targets_file (reply_metadata (run v.rules empty_state ts) root.keys p.vehicle number e.at e.plan)) × ((follow v Director p.director served.director_roots).trust.versions.targets ≤ number)
 
 -- Where this is true of the Timestamp and its keys too, what is accepted is of a manifest of the last seven days.
 abbrev pub DirectorIsFresh : Type 0
 DirectorIsFresh = (v : Verifier) (ts : List Timed) (stolen : List ℕ → Bool) (now : ℕ) (p : Primary) (served : Served) (result : Accepted) → IsScheme v.rules
-    → AreGiven ts → KeysAgree v.rules (run v.rules empty_state ts) → AreUnforged v.rules ts stolen served.director_roots served.reply.files.targets
+    → AreGiven ts → KeysAgree v.rules (roots_of v.rules empty_state ts) → AreUnforged v.rules ts stolen served.director_roots served.reply.files.targets
     → IsUnforged v.rules ts stolen served.reply.files.timestamp
-    → FollowsRoot v.rules (run v.rules empty_state ts) Director p.director
-    → AreSafeFrom v.rules (run v.rules empty_state ts) Director stolen p.director.root.version
-    → AreSafeTimestamps v.rules (run v.rules empty_state ts) Director stolen p.director.root.version
+    → FollowsRoot v.rules (roots_of v.rules empty_state ts) Director p.director
+    → AreSafeFrom v.rules (roots_of v.rules empty_state ts) Director stolen p.director.root.version
+    → AreSafeTimestamps v.rules (roots_of v.rules empty_state ts) Director stolen p.director.root.version
     → verify v now p served ≡ Ok result
-    → (number : ℕ) × (e : Entry) × (root : Root) × IsEntryAt (run v.rules empty_state ts) p.vehicle number e root
-    × (result.targets ≡ targets_file (reply_metadata (run v.rules empty_state ts) p.vehicle number e root)) × (now < e.at + (lifetimes Director).timestamp)
+    → (number : ℕ) × (e : Entry) × (root : Root) × IsEntryAt (run v.rules empty_state ts) (roots_of v.rules empty_state ts) p.vehicle number e root
+    × (result.targets ≡ targets_file (reply_metadata (run v.rules empty_state ts) root.keys p.vehicle number e.at e.plan)) × (now < e.at + (lifetimes Director).timestamp)
 
 -- the target is a registered image as it is registered, for an ECU of the vehicle, for its hardware, and of no lower release
 pub record IsRegistered (s : State) (ecus : List OwnEcu) (t : Target) : Type 0 where
@@ -139,9 +143,9 @@ pub record IsRegistered (s : State) (ecus : List OwnEcu) (t : Target) : Type 0 w
 -- even if all of the Director's are stolen.
 abbrev pub OnlyRegisteredIsInstalled : Type 0
 OnlyRegisteredIsInstalled = (v : Verifier) (ts : List Timed) (stolen : List ℕ → Bool) (now : ℕ) (p : Primary) (served : Served) (result : Accepted) → IsScheme v.rules
-    → AreGiven ts → KeysAgree v.rules (run v.rules empty_state ts) → AreUnforged v.rules ts stolen served.image_roots served.image.targets
-    → FollowsRoot v.rules (run v.rules empty_state ts) Image p.image
-    → AreSafeFrom v.rules (run v.rules empty_state ts) Image stolen p.image.root.version
+    → AreGiven ts → KeysAgree v.rules (roots_of v.rules empty_state ts) → AreUnforged v.rules ts stolen served.image_roots served.image.targets
+    → FollowsRoot v.rules (roots_of v.rules empty_state ts) Image p.image
+    → AreSafeFrom v.rules (roots_of v.rules empty_state ts) Image stolen p.image.root.version
     → verify v now p served ≡ Ok result
     → All (IsRegistered (run v.rules empty_state ts) p.ecus) result.installs
 
@@ -151,31 +155,30 @@ pub record IsTimelyImage (v : Verifier) (ts : List Timed) (now : ℕ) (served : 
   pub earlier : List Timed
   pub later : List Timed
   pub split : ts ≡ earlier ++ later
-  pub root : Root
-  pub there : root_at (run v.rules empty_state earlier) (length (run v.rules empty_state earlier).roots) ≡ Some root
+  pub founded : IsTrue (is_founded (run v.rules empty_state earlier))
   pub fresh : now < (run v.rules empty_state earlier).stamp + (lifetimes Image).timestamp
   pub timestamp : result.next.image.versions.timestamp ≡ (run v.rules empty_state earlier).image_version
   pub snapshot : result.next.image.versions.snapshot ≡ (run v.rules empty_state earlier).image_version
-  pub hash : sha256 served.image.snapshot ≡ sha256 (snapshot_text v.rules (image_metadata (run v.rules empty_state earlier) root))
+  pub hash : sha256 served.image.snapshot ≡ sha256 (snapshot_text v.rules (image_metadata (run v.rules empty_state earlier)))
 
 -- Where this is true of the Image repository's Timestamp and its keys too, nothing is to be installed, or what it served was made less than
 -- a day ago: nobody can hold its files back for longer.
 abbrev pub ImagesAreFresh : Type 0
 ImagesAreFresh = (v : Verifier) (ts : List Timed) (stolen : List ℕ → Bool) (now : ℕ) (p : Primary) (served : Served) (result : Accepted) → IsScheme v.rules
-    → AreGiven ts → KeysAgree v.rules (run v.rules empty_state ts) → AreUnforged v.rules ts stolen served.image_roots served.image.targets
+    → AreGiven ts → KeysAgree v.rules (roots_of v.rules empty_state ts) → AreUnforged v.rules ts stolen served.image_roots served.image.targets
     → IsUnforged v.rules ts stolen served.image.timestamp
-    → FollowsRoot v.rules (run v.rules empty_state ts) Image p.image
-    → AreSafeFrom v.rules (run v.rules empty_state ts) Image stolen p.image.root.version
-    → AreSafeTimestamps v.rules (run v.rules empty_state ts) Image stolen p.image.root.version
+    → FollowsRoot v.rules (roots_of v.rules empty_state ts) Image p.image
+    → AreSafeFrom v.rules (roots_of v.rules empty_state ts) Image stolen p.image.root.version
+    → AreSafeTimestamps v.rules (roots_of v.rules empty_state ts) Image stolen p.image.root.version
     → verify v now p served ≡ Ok result
     → (result.installs ≡ []) ⊎ IsTimelyImage v ts now served result
 
 -- a Primary that trusts the machine's Roots trusts such Roots after what came, accepted or not
 abbrev pub TrustStaysTrue : Type 0
 TrustStaysTrue = (v : Verifier) (ts : List Timed) (stolen : List ℕ → Bool) (now : ℕ) (p : Primary) (served : Served) → IsScheme v.rules
-    → AreGiven ts → KeysAgree v.rules (run v.rules empty_state ts)
+    → AreGiven ts → KeysAgree v.rules (roots_of v.rules empty_state ts)
     → AreUnforged v.rules ts stolen served.director_roots served.reply.files.targets → AreUnforged v.rules ts stolen served.image_roots served.image.targets
-    → FollowsRoot v.rules (run v.rules empty_state ts) Director p.director → FollowsRoot v.rules (run v.rules empty_state ts) Image p.image
-    → AreSafeFrom v.rules (run v.rules empty_state ts) Director stolen p.director.root.version → AreSafeFrom v.rules (run v.rules empty_state ts) Image stolen p.image.root.version
-    → FollowsRoot v.rules (run v.rules empty_state ts) Director (after v p served (verify v now p served)).director
-    × FollowsRoot v.rules (run v.rules empty_state ts) Image (after v p served (verify v now p served)).image
+    → FollowsRoot v.rules (roots_of v.rules empty_state ts) Director p.director → FollowsRoot v.rules (roots_of v.rules empty_state ts) Image p.image
+    → AreSafeFrom v.rules (roots_of v.rules empty_state ts) Director stolen p.director.root.version → AreSafeFrom v.rules (roots_of v.rules empty_state ts) Image stolen p.image.root.version
+    → FollowsRoot v.rules (roots_of v.rules empty_state ts) Director (after v p served (verify v now p served)).director
+    × FollowsRoot v.rules (roots_of v.rules empty_state ts) Image (after v p served (verify v now p served)).image

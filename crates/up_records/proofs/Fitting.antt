@@ -68,7 +68,7 @@ closing_fits k s name row was sound written there is = record {
     named : row.name ≡ name
     named = ap (λ (c : CampaignData). c.name) is ∙ (sound.campaigns name was there).named
 
-    fit : IsClosing row (rows_of_state k s)
+    fit : IsClosing row (rows_of_state s)
     fit = record { was = was; there = ap (table.get s.campaigns) named ∙ there; is = is }
 
 pub opening_fits : (k : Rules) (s : State) (at : ℕ) (row : CampaignData) → CampaignsAreWritten → NewCampaignsAreNew → decide_open s at row ≡ Ok (done (with_campaign s row))
@@ -80,7 +80,7 @@ opening_fits k s at row written new it = record {
   write = writes.campaign row fit (sym (written k s row)) refl;
 }
   where
-    fit : IsNewCampaign row (rows_of_state k s)
+    fit : IsNewCampaign row (rows_of_state s)
     fit = new s at row it
 
 -- ---- the last root version
@@ -146,29 +146,29 @@ vehicle_numbers k next name v sound there =
     record { version = omega (arith, counts.0, counts.1); ecus = omega (arith, few, size) }
 
 pub refreshing_fits : (k : Rules) (s : State) (at version : ℕ) (new : RegisterRows) → IsSound k s → FilesAreReplaced
-    → IsDone (HasRegisterRows k (stamped s at version)) (stamped s at version) new (decide_refresh s at version)
-    → WillWrite k s (stamped s at version) (register_writes new) (λ _. FitsFounding new.founding) (IsSameRoot new) (λ rows. with_register_rows rows new)
+    → IsDone (HasRegisterRows (stamped k s at version)) (stamped k s at version) new (decide_refresh k s at version)
+    → WillWrite k s (stamped k s at version) (register_writes new) (λ _. FitsFounding new.founding) (IsSameRoot new) (λ rows. with_register_rows rows new)
 refreshing_fits k s at version new sound replaced it = record {
   fit = fit;
   rows = replaced k s at version new sound it.1;
-  holds = λ next_sound. founding_numbers k (stamped s at version) new.founding next_sound it.1.founding;
+  holds = λ next_sound. founding_numbers k (stamped k s at version) new.founding next_sound it.1.founding;
   write = writes.register new fit (sym (replaced k s at version new sound it.1)) refl;
 }
   where
-    fit : IsSameRoot new (rows_of_state k s)
+    fit : IsSameRoot new (rows_of_state s)
     fit = last_root k s s.roots version at new.founding (root_at s (length s.roots)) refl it.1.founding
 
 pub image_fits : (k : Rules) (s : State) (at : ℕ) (image : ImageData) (new : RegisterRows) → IsSound k s → ImagesAreAdded → NewImagesAreNew
-    → IsDone (HasRegisterRows k (stamped (with_image s image) at (s.image_version + 1))) (stamped (with_image s image) at (s.image_version + 1)) new (decide_image s at image)
-    → WillWrite k s (stamped (with_image s image) at (s.image_version + 1)) (image_writes image new) (λ _. FitsFounding new.founding) (IsNewImage image new) (λ rows. with_image_rows rows image new)
+    → IsDone (HasRegisterRows (stamped k (with_image s image) at (s.image_version + 1))) (stamped k (with_image s image) at (s.image_version + 1)) new (decide_image k s at image)
+    → WillWrite k s (stamped k (with_image s image) at (s.image_version + 1)) (image_writes image new) (λ _. FitsFounding new.founding) (IsNewImage image new) (λ rows. with_image_rows rows image new)
 image_fits k s at image new sound added fresh it =
     let none = fresh s at (s.image_version + 1) image it.0 in
-    let fit : IsNewImage image new (rows_of_state k s) =
+    let fit : IsNewImage image new (rows_of_state s) =
     record { none = none; root = last_root k s s.roots (s.image_version + 1) at new.founding (root_at s (length s.roots)) refl it.1.founding } in
     record {
       fit = fit;
       rows = added k s at (s.image_version + 1) image new sound none it.1;
-      holds = λ next_sound. founding_numbers k (stamped (with_image s image) at (s.image_version + 1)) new.founding next_sound it.1.founding;
+      holds = λ next_sound. founding_numbers k (stamped k (with_image s image) at (s.image_version + 1)) new.founding next_sound it.1.founding;
       write = writes.image image new fit (sym (added k s at (s.image_version + 1) image new sound none it.1)) refl;
     }
 
@@ -194,8 +194,8 @@ have_keys k keys h =
 each_has_keys : (k : Rules) (keys : KeySet) → key_set_fits k keys ≡ true → EachHasKeys keys
 each_has_keys k keys h = record { director = have_keys k keys.director (and_left _ _ h); image = have_keys k keys.image (and_right _ _ h) }
 
-next_root : (k : Rules) (s : State) (at version : ℕ) (keys : KeySet) (new : RootRows) → key_set_fits k keys ≡ true → HasRootRows k (stamped (with_root s at keys) at version) new
-    → IsNextRoot new (rows_of_state k s)
+next_root : (k : Rules) (s : State) (at version : ℕ) (keys : KeySet) (new : RootRows) → key_set_fits k keys ≡ true → HasRootRows (stamped k (with_root k s at keys) at version) new
+    → IsNextRoot new (rows_of_state s)
 next_root k s at version keys new fits has =
     let root : Root = record { keys = keys; at = at } in
     let roots : List Root = s.roots ++ root ∷ [] in
@@ -207,22 +207,22 @@ next_root k s at version keys new fits has =
     }
 
 pub founding_fits : (k : Rules) (s : State) (at : ℕ) (keys : KeySet) (new : RootRows) → IsSound k s → RootsAreAdded
-    → IsDone (HasRootRows k (stamped (with_root s at keys) at 1)) (stamped (with_root s at keys) at 1) new (decide_found k s at keys)
-    → WillWrite k s (stamped (with_root s at keys) at 1) (root_writes new) (λ _. FitsFounding new.founding) (IsNextRoot new) (λ rows. with_root_rows rows new)
+    → IsDone (HasRootRows (stamped k (with_root k s at keys) at 1)) (stamped k (with_root k s at keys) at 1) new (decide_found k s at keys)
+    → WillWrite k s (stamped k (with_root k s at keys) at 1) (root_writes new) (λ _. FitsFounding new.founding) (IsNextRoot new) (λ rows. with_root_rows rows new)
 founding_fits k s at keys new sound added it = record {
   fit = next_root k s at 1 keys new (found_ok k s at keys _ it.0).fits it.1;
   rows = added k s at 1 keys new sound it.1;
-  holds = λ next_sound. founding_numbers k (stamped (with_root s at keys) at 1) new.founding next_sound it.1.founding;
+  holds = λ next_sound. founding_numbers k (stamped k (with_root k s at keys) at 1) new.founding next_sound it.1.founding;
   write = writes.root new (next_root k s at 1 keys new (found_ok k s at keys _ it.0).fits it.1) (sym (added k s at 1 keys new sound it.1)) refl;
 }
 
 pub rotation_fits : (k : Rules) (s : State) (at : ℕ) (keys : KeySet) (new : RootRows) → IsSound k s → RootsAreAdded
-    → IsDone (HasRootRows k (stamped (with_root s at keys) at (s.image_version + 1))) (stamped (with_root s at keys) at (s.image_version + 1)) new (decide_rotate k s at keys)
-    → WillWrite k s (stamped (with_root s at keys) at (s.image_version + 1)) (root_writes new) (λ _. FitsFounding new.founding) (IsNextRoot new) (λ rows. with_root_rows rows new)
+    → IsDone (HasRootRows (stamped k (with_root k s at keys) at (s.image_version + 1))) (stamped k (with_root k s at keys) at (s.image_version + 1)) new (decide_rotate k s at keys)
+    → WillWrite k s (stamped k (with_root k s at keys) at (s.image_version + 1)) (root_writes new) (λ _. FitsFounding new.founding) (IsNextRoot new) (λ rows. with_root_rows rows new)
 rotation_fits k s at keys new sound added it = record {
   fit = next_root k s at (s.image_version + 1) keys new (rotate_ok k s at keys _ it.0).fits it.1;
   rows = added k s at (s.image_version + 1) keys new sound it.1;
-  holds = λ next_sound. founding_numbers k (stamped (with_root s at keys) at (s.image_version + 1)) new.founding next_sound it.1.founding;
+  holds = λ next_sound. founding_numbers k (stamped k (with_root k s at keys) at (s.image_version + 1)) new.founding next_sound it.1.founding;
   write = writes.root new (next_root k s at (s.image_version + 1) keys new (rotate_ok k s at keys _ it.0).fits it.1)
       (sym (added k s at (s.image_version + 1) keys new sound it.1)) refl;
 }
@@ -234,9 +234,9 @@ pub vehicle_fits : (k : Rules) (s : State) (at : ℕ) (new : NewVehicleData) (ro
     → WillWrite k s (with_vehicle s new) (vehicle_writes row) (λ _. FitsVehicle row) (IsNewVehicle row) (λ rows. with_vehicle_rows rows row)
 vehicle_fits k s at new row found written fresh tell it =
     let none = (fresh k s at new it.0).none in
-    let rows = ap (with_vehicle_rows (rows_of_state k s)) it.1 ∙ written k s new none in
-    let fit : IsNewVehicle row (rows_of_state k s) = record {
-      none = ap (λ (r : VehicleRows). table.get (rows_of_state k s).vehicles r.vehicle.vehicle) it.1 ∙ found k s new.vehicle ∙ ap (option_map (rows_of new.vehicle)) none;
+    let rows = ap (with_vehicle_rows (rows_of_state s)) it.1 ∙ written k s new none in
+    let fit : IsNewVehicle row (rows_of_state s) = record {
+      none = ap (λ (r : VehicleRows). table.get (rows_of_state s).vehicles r.vehicle.vehicle) it.1 ∙ found k s new.vehicle ∙ ap (option_map (rows_of new.vehicle)) none;
       tell = subst (λ (r : VehicleRows). AllByRecursion TellsItsHash r.ecus) (sym it.1) (tell new.vehicle (added new));
     } in
     record {
@@ -251,7 +251,7 @@ pub replacement_fits : (k : Rules) (s : State) (at : ℕ) (new : Replacement) (v
     → WillWrite k s (with_replacement s new v) (replace_writes new) (λ _. ⊤) (IsReplacement new) (λ rows. with_replaced_rows rows new)
 replacement_fits k s at new v sound found replaced fit there is_done =
     let fits = fit k s at new v sound there is_done in
-    let is : IsReplacement new (rows_of_state k s) = record {
+    let is : IsReplacement new (rows_of_state s) = record {
       was = rows_of new.vehicle v;
       there = found k s new.vehicle ∙ ap (option_map (rows_of new.vehicle)) there;
       has = rows_have v new.old v.ecus ∙ fits.has;
@@ -264,12 +264,12 @@ replacement_fits k s at new v sound found replaced fit there is_done =
       write = writes.replacement new is (sym (replaced k s new v sound there fits.free)) refl;
     }
 
-recorded : (k : Rules) (s : State) (name : Name) (v : Vehicle) (e : Entry) (new : AcceptedRows) → IsSound k s → VehiclesAreFound → EcusTellTheirHash → table.get s.vehicles name ≡ Some v → HasAcceptedRows k s name v e new
-    → IsRecorded new (rows_of_state k s)
+recorded : (k : Rules) (s : State) (name : Name) (v : Vehicle) (e : Entry) (new : AcceptedRows) → IsSound k s → VehiclesAreFound → EcusTellTheirHash → table.get s.vehicles name ≡ Some v → HasAcceptedRows s name v e new
+    → IsRecorded new (rows_of_state s)
 recorded k s name v e new sound found tell there has =
     let next : Vehicle = record v { entries = v.entries ++ e ∷ [] } in record {
       was = rows_of name v;
-      there = ap (λ (r : VehicleRows). table.get (rows_of_state k s).vehicles r.vehicle.vehicle) has.vehicle ∙ found k s name ∙ ap (option_map (rows_of name)) there;
+      there = ap (λ (r : VehicleRows). table.get (rows_of_state s).vehicles r.vehicle.vehicle) has.vehicle ∙ found k s name ∙ ap (option_map (rows_of name)) there;
       primary = ap (λ (r : VehicleRows). r.vehicle.primary) has.vehicle;
       ecus = ap (λ (r : VehicleRows). map ecu_of r.ecus) has.vehicle ∙ ecus_back next v.ecus ∙ sym (ecus_back v v.ecus);
       once = ap (λ (r : VehicleRows). first_repeated (map (λ (row : EcuRow). row.ecu) r.ecus)) has.vehicle ∙ ap first_repeated (row_names next v.ecus) ∙ (sound.vehicles name v there).once;
@@ -280,7 +280,7 @@ last_of : {A : Type 0} (P : A → Type 0) (xs : List A) (x : A) → AllByRecursi
 last_of P [] x h = h.0
 last_of P (y ∷ xs) x h = last_of P xs x h.1
 
-accepted_numbers : (k : Rules) (s : State) (name : Name) (v : Vehicle) (e : Entry) (new : AcceptedRows) → IsSound k (with_entry s name v e) → HasAcceptedRows k s name v e new → FitsAccepted new
+accepted_numbers : (k : Rules) (s : State) (name : Name) (v : Vehicle) (e : Entry) (new : AcceptedRows) → IsSound k (with_entry s name v e) → HasAcceptedRows s name v e new → FitsAccepted new
 accepted_numbers k s name v e new sound has =
     let after : Vehicle = record v { entries = v.entries ++ e ∷ [] } in
     let next = with_entry s name v e in
@@ -297,7 +297,7 @@ accepted_numbers k s name v e new sound has =
     }
 
 pub accepting_fits : (k : Rules) (s : State) (name : Name) (v : Vehicle) (e : Entry) (new : AcceptedRows) → IsSound k s → VehiclesAreFound → ManifestsAreAdded → EcusTellTheirHash
-    → table.get s.vehicles name ≡ Some v → HasAcceptedRows k s name v e new
+    → table.get s.vehicles name ≡ Some v → HasAcceptedRows s name v e new
     → WillWrite k s (with_entry s name v e) (accept_writes new) (λ rows. IsRecorded new rows × FitsAccepted new) (IsRecorded new) (λ rows. with_accepted_rows rows new)
 accepting_fits k s name v e new sound found added tell there has = record {
   fit = fit;
@@ -306,5 +306,5 @@ accepting_fits k s name v e new sound found added tell there has = record {
   write = writes.manifest new fit (sym (added k s name v e new there has)) refl;
 }
   where
-    fit : IsRecorded new (rows_of_state k s)
+    fit : IsRecorded new (rows_of_state s)
     fit = recorded k s name v e new sound found tell there has

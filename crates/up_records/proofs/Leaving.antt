@@ -27,8 +27,8 @@ left_of {S} (Some r) old new kept after result h = (ap (λ (p : S × Catalog). S
 -- what is left of what is kept, if anything
 pub record LeftIn {S A : Type 0} (g : Ghosts S) (k : Rules) (incoming : Incoming) (kept after : Option Catalog) (old new : MutBor (Held S)) (result : Result A Refusal) : Type 0 where
   pub stays : StaysLoaded kept after
-  pub fits : WhereInside g old (HasCleanDisk (state g new.now) → (s : State) → SeesState k s (state g old.now) → Fits s kept → Fits s after)
-  pub came : WhereInside g old (HasCleanDisk (state g new.now) → (s : State) → SeesState k s (state g old.now) → Fits s kept → Come (IsSentBy k incoming) (primaries_in kept) (primaries_in after))
+  pub fits : WhereInside g old (HasCleanDisk (state g new.now) → (s : State) → SeesState s (state g old.now) → Fits s kept → Fits s after)
+  pub came : WhereInside g old (HasCleanDisk (state g new.now) → (s : State) → SeesState s (state g old.now) → Fits s kept → Come (IsSentBy k incoming) (primaries_in kept) (primaries_in after))
   pub there : IsThere result after
   pub can : IfSome kept (CanDecide k) → IfSome after (CanDecide k)
   pub left : IfSome (refused_in k kept incoming) (λ r. (after ≡ kept) × RefusesUnread old new result r)

@@ -317,31 +317,31 @@ never_rotate k s at keys =
     never_then _ _ (never_if (nat_le 64 (length s.roots)) RootFull (λ is. cc)) (λ _.
     never_then _ _ (never_limit s) (λ _. never_ok _)))))
 
-pub never_new_image : (s : State) (at : ℕ) (image : ImageData) → NeverStore (decide_new_image s at image)
+pub never_new_image : (s : State) (at : ℕ) (image : ImageData) → NeverStore (decide_new_image k s at image)
 unfolding decide_new_image
 never_new_image s at image =
     never_then _ _ (never_if (nat_le 1024 (table.len s.images)) RegisterFull (λ is. cc)) (λ _. never_then _ _ (never_limit s) (λ _. never_ok _))
 
-pub never_image : (s : State) (at : ℕ) (image : ImageData) → NeverStore (decide_image s at image)
+pub never_image : (s : State) (at : ℕ) (image : ImageData) → NeverStore (decide_image k s at image)
 unfolding decide_image
 never_image s at image =
     never_then _ _ (never_late at) (λ _.
     never_then _ _ (never_unfounded s) (λ _.
-    never_where_new s (same_image image) ImageTaken (table.get s.images image.file) (decide_new_image s at image) (λ is. cc) (never_new_image s at image)))
+    never_where_new s (same_image image) ImageTaken (table.get s.images image.file) (decide_new_image k s at image) (λ is. cc) (never_new_image s at image)))
 
-pub never_refresh : (s : State) (at version : ℕ) → NeverStore (decide_refresh s at version)
+pub never_refresh : (s : State) (at version : ℕ) → NeverStore (decide_refresh k s at version)
 unfolding decide_refresh
 never_refresh s at version =
     never_then _ _ (never_late at) (λ _.
     never_then _ _ (never_unfounded s) (λ _.
     never_then _ _ (never_if (nat_le version s.image_version) VersionNotGreater (λ is. cc)) (λ _. never_ok _)))
 
-pub never_fetch : (k : Rules) (s : State) (at : ℕ) (repository : Repository) (name : Name) → NeverStore (decide_fetch k s at repository name)
+pub never_fetch : (k : Rules) (s : State) (at : ℕ) (repository : Repository) (name : Name) → NeverStore (decide_fetch s at repository name)
 unfolding decide_fetch
 never_fetch k s at repository name =
     never_then _ _ (never_late at) (λ _.
     never_then _ _ (never_unfounded s) (λ _.
-    never_then _ _ (never_else UnknownFile (file k s repository name) (λ is. cc)) (λ text. never_ok _)))
+    never_then _ _ (never_else UnknownFile (file s repository name) (λ is. cc)) (λ text. never_ok _)))
 
 never_new_vehicle : (s : State) (new : NewVehicleData) → NeverStore (decide_new_vehicle s new)
 unfolding decide_new_vehicle

@@ -29,8 +29,8 @@ clean_before reads now = clean_under reads.survives now
 pub survives_same : (P : Trees → Type 0) (s : Connected) → Survives s s P
 survives_same P s = record { clean = omega arith; shield = λ h. h; counts = omega arith; limit = refl; closes = λ clean is_open. inl is_open; crash = λ clean db may. inl may }
 
-pub keeps_after : (k : Rules) (s : State) {old new : Connected} → IfClean (KeepsState k s) old → Reads old new → IfClean (KeepsState k s) new
-keeps_after k s was reads = reads.kept (rows_of_state k s) was
+pub keeps_after : (k : Rules) (s : State) {old new : Connected} → IfClean (KeepsState s) old → Reads old new → IfClean (KeepsState s) new
+keeps_after k s was reads = reads.kept (rows_of_state s) was
 
 -- a fault of the disk behind a read, or one that shut the connection in it
 blamed_over : {old mid : Connected} (new : Connected) → Survives old mid (λ _. ⊥) → mid.faults ≤ new.faults → HasCleanDisk mid → (IsTrue mid.is_open → MoreFaults mid.faults new.faults) → IsTrue old.is_open → MoreFaults old.faults new.faults

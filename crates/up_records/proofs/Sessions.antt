@@ -52,10 +52,10 @@ sees_both one two = record {
 }
 
 -- what goes on sees the state that was seen
-pub seen_on : (k : Rules) (s : State) {old new : Connected} → SeesOn old new → SeesState k s old → SeesState k s new
+pub seen_on : (k : Rules) (s : State) {old new : Connected} → SeesOn old new → SeesState s old → SeesState s new
 seen_on k s on sees = record {
   mode = subst IsTrue (sym on.mode) sees.mode;
-  here = λ is_open. let was = on.same is_open in subst (λ (db : Database). IsWith up_schema (ListsRows (rows_of_state k s)) db) (sym was.1) (sees.here was.0);
+  here = λ is_open. let was = on.same is_open in subst (λ (db : Database). IsWith up_schema (ListsRows (rows_of_state s)) db) (sym was.1) (sees.here was.0);
 }
 
 -- a refusal that is due, or want of memory
@@ -79,7 +79,7 @@ gives_due old new gives (Err r) computed never is_due h = by_memory (is_memory r
 
 -- what the reads so far found, under such rules
 pub record Chain {S : Type 0} (g : Ghosts S) (rules : Rules → Type 0) (old : MutBor (Held S)) (holds : Rules → State → Type 0) (mid : MutBor (Held S)) : Type 0 where
-  pub told : HasCleanDisk (state g mid.now) → (k : Rules) → rules k → (s : State) → SeesState k s (state g old.now) → holds k s
+  pub told : HasCleanDisk (state g mid.now) → (k : Rules) → rules k → (s : State) → SeesState s (state g old.now) → holds k s
   pub sees : HasCleanDisk (state g mid.now) → SeesOn (state g old.now) (state g mid.now)
   pub step : IsStep g old mid
   pub inside : IfClean IsInside (state g mid.now)
@@ -96,16 +96,16 @@ module _ {S : Type 0} (g : Ghosts S) {rules : Rules → Type 0} where
 
   -- what a step of the store found in the rows
   pub rows_on : {A : Type 0} {tells : StateRows → A → Type 0} {finds : Connected → Connected → Result A StoreFault → Type 0} {holds : Rules → State → A → Type 0} {old new : MutBor (Held S)} (r : Result A StoreFault)
-      → ((k : Rules) (s : State) (x : A) → tells (rows_of_state k s) x → holds k s x) → WhereInside g old (FoundWithin g tells finds (λ _. ⊤) old new r) → WhereInside g old (FindsOn g rules holds old new r)
+      → ((k : Rules) (s : State) (x : A) → tells (rows_of_state s) x → holds k s x) → WhereInside g old (FoundWithin g tells finds (λ _. ⊤) old new r) → WhereInside g old (FindsOn g rules holds old new r)
   rows_on (Ok x) go read inside = let it = read inside in record {
-    told = λ clean k of s sees. go k s x (it.found clean (rows_of_state k s) sees);
+    told = λ clean k of s sees. go k s x (it.found clean (rows_of_state s) sees);
     blame = λ k of s sound sees clean. tt;
     sees = λ clean. let on = it.reads clean in record { mode = on.mode; same = λ is_open. (on.was_open, on.now_is); still = λ was_open. on.is_open };
     step = it.step;
   }
   rows_on (Err f) go read inside = let it = read inside in record {
     told = λ clean. tt;
-    blame = λ k of s sound sees clean store is_open unlimited. it.blame clean store is_open unlimited (rows_of_state k s) sees tt;
+    blame = λ k of s sound sees clean store is_open unlimited. it.blame clean store is_open unlimited (rows_of_state s) sees tt;
     sees = λ clean. tt;
     step = it.step;
   }
@@ -129,7 +129,7 @@ module _ {S : Type 0} (g : Ghosts S) {rules : Rules → Type 0} where
         }
 
     -- it failed
-    lost : (k : Rules) → rules k → (s : State) → IsSound k s → SeesState k s (state g old.now) → (f : StoreFault) → FindsOn g rules more mid new (Err f) → HasCleanDisk (state g new.now) → f ≡ fault.Store
+    lost : (k : Rules) → rules k → (s : State) → IsSound k s → SeesState s (state g old.now) → (f : StoreFault) → FindsOn g rules more mid new (Err f) → HasCleanDisk (state g new.now) → f ≡ fault.Store
         → DiskFailed (state g old.now) (state g new.now)
     lost k of s sound sees f it clean store =
         failed_behind so_far.step.steps.survives it.step.steps.survives clean (it.blame k of s sound (seen_on k s (so_far.sees (clean_on g it.step clean)) sees) clean store)
@@ -159,7 +159,7 @@ module _ {S : Type 0} (g : Ghosts S) {rules : Rules → Type 0} where
 
   module _ {before : Rules → State → Type 0} {old new : MutBor (Held S)} (so_far : Chain g rules old before new) where
     -- the session sees the state still
-    pub seen_then : HasCleanDisk (state g new.now) → (k : Rules) (s : State) → SeesState k s (state g old.now) → SeesState k s (state g new.now)
+    pub seen_then : HasCleanDisk (state g new.now) → (k : Rules) (s : State) → SeesState s (state g old.now) → SeesState s (state g new.now)
     seen_then clean k s sees = seen_on k s (so_far.sees clean) sees
 
     -- one more read, whichever way it ended
@@ -257,7 +257,7 @@ inside_then g one inside then = (one.sees then tt).mode ∙ inside (clean_on g o
 -- what is decided by what was decided before
 pub decided_then : {S Q R O P : Type 0} (g : Ghosts S) (k : Rules) {old mid new : MutBor (Held S)} {known more : State → Type 0} {first : State → Result Q Refusal → Result O Refusal → Type 0} {rule : State → Result O Refusal}
     {gives : State → Result R Refusal → Result P Refusal → Type 0} {computed : State → Result P Refusal} {x : Q} {r : Result R Refusal} → DecidesOn g k known first rule old mid (Ok x)
-    → (HasCleanDisk (state g mid.now) → (s : State) → IsSound k s → known s → SeesState k s (state g old.now) → first s (Ok x) (rule s) → more s) → IfClean IsInside (state g old.now)
+    → (HasCleanDisk (state g mid.now) → (s : State) → IsSound k s → known s → SeesState s (state g old.now) → first s (Ok x) (rule s) → more s) → IfClean IsInside (state g old.now)
     → WhereInside g mid (DecidesOn g k more gives computed mid new r) → DecidesOn g k known gives computed old new r
 decided_then g k {old} {mid} {new} {gives = gives} {computed} {r = r} one so inside read =
     let two = read (inside_then g one inside) in

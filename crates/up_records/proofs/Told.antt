@@ -51,20 +51,20 @@ no_rows_of : (o : Option VehicleRows) → None ≡ option_map (λ (v : VehicleRo
 no_rows_of None h = refl
 no_rows_of (Some v) h = cc
 
-pub vehicle_whole : (k : Rules) (s : State) (name : Name) (vehicle : VehicleRow) (ecus : List EcuRow) → VehiclesAreFound → Some vehicle ≡ vehicle_found name (rows_of_state k s)
-    → ecus ≡ ecus_found name (rows_of_state k s) → Some (record { vehicle = vehicle; ecus = ecus }) ≡ vehicle_rows s name
-vehicle_whole k s name vehicle ecus found first second = rows_whole (table.get (rows_of_state k s).vehicles name) vehicle ecus first second ∙ found k s name
+pub vehicle_whole : (k : Rules) (s : State) (name : Name) (vehicle : VehicleRow) (ecus : List EcuRow) → VehiclesAreFound → Some vehicle ≡ vehicle_found name (rows_of_state s)
+    → ecus ≡ ecus_found name (rows_of_state s) → Some (record { vehicle = vehicle; ecus = ecus }) ≡ vehicle_rows s name
+vehicle_whole k s name vehicle ecus found first second = rows_whole (table.get (rows_of_state s).vehicles name) vehicle ecus first second ∙ found k s name
 
-pub no_vehicle : (k : Rules) (s : State) (name : Name) → VehiclesAreFound → None ≡ vehicle_found name (rows_of_state k s) → None ≡ vehicle_rows s name
-no_vehicle k s name found h = no_rows_of (table.get (rows_of_state k s).vehicles name) h ∙ found k s name
+pub no_vehicle : (k : Rules) (s : State) (name : Name) → VehiclesAreFound → None ≡ vehicle_found name (rows_of_state s) → None ≡ vehicle_rows s name
+no_vehicle k s name found h = no_rows_of (table.get (rows_of_state s).vehicles name) h ∙ found k s name
 
 there_after : {A B : Type 0} (f : A → B) (o : Option A) → is_some (option_map f o) ≡ is_some o
 there_after f None = refl
 there_after f (Some x) = refl
 
 -- a vehicle is known where it has a row
-pub vehicle_known : (k : Rules) (s : State) (name : Name) → VehiclesAreFound → is_some (vehicle_found name (rows_of_state k s)) ≡ table.contains_key s.vehicles name
-vehicle_known k s name found = there_after (λ (v : VehicleRows). v.vehicle) (table.get (rows_of_state k s).vehicles name) ∙ ap is_some (found k s name) ∙ there_after (rows_of name) (table.get s.vehicles name)
+pub vehicle_known : (k : Rules) (s : State) (name : Name) → VehiclesAreFound → is_some (vehicle_found name (rows_of_state s)) ≡ table.contains_key s.vehicles name
+vehicle_known k s name found = there_after (λ (v : VehicleRows). v.vehicle) (table.get (rows_of_state s).vehicles name) ∙ ap is_some (found k s name) ∙ there_after (rows_of name) (table.get s.vehicles name)
 
 -- ---- views
 
@@ -72,8 +72,8 @@ mapped_twice : {A B C : Type 0} (f : A → B) (g : B → C) (o : Option A) → o
 mapped_twice f g None = refl
 mapped_twice f g (Some x) = refl
 
-pub version_read : (k : Rules) (s : State) (name : Name) → VersionsAreTold → option_map (λ (v : VehicleRow). v.version) (vehicle_found name (rows_of_state k s)) ≡ version_of s name
-version_read k s name told = mapped_twice (λ (v : VehicleRows). v.vehicle) (λ (v : VehicleRow). v.version) (table.get (rows_of_state k s).vehicles name) ∙ told k s name
+pub version_read : (k : Rules) (s : State) (name : Name) → VersionsAreTold → option_map (λ (v : VehicleRow). v.version) (vehicle_found name (rows_of_state s)) ≡ version_of s name
+version_read k s name told = mapped_twice (λ (v : VehicleRows). v.vehicle) (λ (v : VehicleRow). v.version) (table.get (rows_of_state s).vehicles name) ∙ told k s name
 
 pub ecus_read : (k : Rules) (s : State) (name : Name) → VehiclesAreFound → EcusAreTold → option_map (λ (v : VehicleRows). map (λ (row : EcuRow). row.ecu) v.ecus) (vehicle_rows s name) ≡ ecus_of s name
 ecus_read k s name found told = sym (ap (option_map (λ (v : VehicleRows). map (λ (row : EcuRow). row.ecu) v.ecus)) (found k s name)) ∙ told k s name
@@ -124,9 +124,9 @@ all_named [] = tt
 all_named (e ∷ es) = (refl, all_named es)
 
 -- the vehicle in which an ECU stands is found by its name
-owner_there : (k : Rules) (s : State) (ecu : Name) (v : VehicleRows) → owner_among ecu (table.values (rows_of_state k s).vehicles) ≡ Some v → table.get (rows_of_state k s).vehicles v.vehicle.vehicle ≡ Some v
+owner_there : (k : Rules) (s : State) (ecu : Name) (v : VehicleRows) → owner_among ecu (table.values (rows_of_state s).vehicles) ≡ Some v → table.get (rows_of_state s).vehicles v.vehicle.vehicle ≡ Some v
 owner_there k s ecu v h =
-    let all = (rows_of_state k s).vehicles in
+    let all = (rows_of_state s).vehicles in
     table.get-entries all v.vehicle.vehicle
     ∙ owner_at (λ (r : VehicleRows). stands_among ecu r.ecus) (table.entries all) v (from_T _ (table.entries_sorted all))
     (subst (AllByRecursion IsNamed) (sym (entries_changed rows_of s.vehicles)) (all_named (table.entries s.vehicles))) h
@@ -147,40 +147,40 @@ none_among ecu (row ∷ ecus) h =
     ap (λ b. option_and_then (λ (r : EcuRow). r.installed) (cond b (Some row) (find (λ (r : EcuRow). bytes_eq r.ecu ecu) ecus))) both.0 ∙ none_among ecu ecus both.1
 
 -- an ECU that stands in no vehicle doesn't stand in the one in which it was replaced
-none_there : (k : Rules) (s : State) (ecu owner : Name) (o : Option VehicleRows) → owner_among ecu (table.values (rows_of_state k s).vehicles) ≡ None
-    → table.get (rows_of_state k s).vehicles owner ≡ o → installed_among ecu (unwrap_or (option_map (λ (r : VehicleRows). r.ecus) o) []) ≡ None
+none_there : (k : Rules) (s : State) (ecu owner : Name) (o : Option VehicleRows) → owner_among ecu (table.values (rows_of_state s).vehicles) ≡ None
+    → table.get (rows_of_state s).vehicles owner ≡ o → installed_among ecu (unwrap_or (option_map (λ (r : VehicleRows). r.ecus) o) []) ≡ None
 none_there k s ecu owner None none is = refl
 none_there k s ecu owner (Some v) none is =
-    let all = (rows_of_state k s).vehicles in
+    let all = (rows_of_state s).vehicles in
     let each = none_passes (λ (r : VehicleRows). stands_among ecu r.ecus) (table.values all) none in
     none_among ecu v.ecus (value_at (λ (r : VehicleRows). stands_among ecu r.ecus ≡ false) owner (table.entries all) v each (sym (table.get-entries all owner) ∙ is))
 
-installed_from : (k : Rules) (s : State) (ecu owner : Name) (ecus : List EcuRow) (o : Option VehicleRows) → owner_among ecu (table.values (rows_of_state k s).vehicles) ≡ o
-    → Some owner ≡ option_or (option_map (λ (v : VehicleRows). v.vehicle.vehicle) o) (last_owner ecu (rows_of_state k s)) → ecus ≡ ecus_found owner (rows_of_state k s)
+installed_from : (k : Rules) (s : State) (ecu owner : Name) (ecus : List EcuRow) (o : Option VehicleRows) → owner_among ecu (table.values (rows_of_state s).vehicles) ≡ o
+    → Some owner ≡ option_or (option_map (λ (v : VehicleRows). v.vehicle.vehicle) o) (last_owner ecu (rows_of_state s)) → ecus ≡ ecus_found owner (rows_of_state s)
     → installed_among ecu ecus ≡ option_and_then (λ (v : VehicleRows). installed_among ecu v.ecus) o
-installed_from k s ecu owner ecus None is first second = ap (installed_among ecu) second ∙ none_there k s ecu owner (table.get (rows_of_state k s).vehicles owner) is refl
+installed_from k s ecu owner ecus None is first second = ap (installed_among ecu) second ∙ none_there k s ecu owner (table.get (rows_of_state s).vehicles owner) is refl
 installed_from k s ecu owner ecus (Some v) is first second =
     let name : owner ≡ v.vehicle.vehicle = cc in
-    ap (installed_among ecu) (second ∙ ap (λ n. ecus_found n (rows_of_state k s)) name
+    ap (installed_among ecu) (second ∙ ap (λ n. ecus_found n (rows_of_state s)) name
     ∙ ap (λ o. unwrap_or (option_map (λ (r : VehicleRows). r.ecus) o) []) (owner_there k s ecu v is))
 
-pub installed_read : (k : Rules) (s : State) (ecu owner : Name) (ecus : List EcuRow) → InstalledIsTold → Some owner ≡ owner_found ecu (rows_of_state k s) → ecus ≡ ecus_found owner (rows_of_state k s)
+pub installed_read : (k : Rules) (s : State) (ecu owner : Name) (ecus : List EcuRow) → InstalledIsTold → Some owner ≡ owner_found ecu (rows_of_state s) → ecus ≡ ecus_found owner (rows_of_state s)
     → installed_among ecu ecus ≡ installed s ecu
-installed_read k s ecu owner ecus told first second = installed_from k s ecu owner ecus (owner_among ecu (table.values (rows_of_state k s).vehicles)) refl first second ∙ told k s ecu
+installed_read k s ecu owner ecus told first second = installed_from k s ecu owner ecus (owner_among ecu (table.values (rows_of_state s).vehicles)) refl first second ∙ told k s ecu
 
 not_installed : (ecu : Name) (o : Option VehicleRows) (last : Option Name) → None ≡ option_or (option_map (λ (v : VehicleRows). v.vehicle.vehicle) o) last
     → None ≡ option_and_then (λ (v : VehicleRows). installed_among ecu v.ecus) o
 not_installed ecu None last h = refl
 not_installed ecu (Some v) last h = cc
 
-pub none_installed : (k : Rules) (s : State) (ecu : Name) → InstalledIsTold → None ≡ owner_found ecu (rows_of_state k s) → None ≡ installed s ecu
+pub none_installed : (k : Rules) (s : State) (ecu : Name) → InstalledIsTold → None ≡ owner_found ecu (rows_of_state s) → None ≡ installed s ecu
 none_installed k s ecu told h =
-    not_installed ecu (owner_among ecu (table.values (rows_of_state k s).vehicles)) (last_owner ecu (rows_of_state k s)) h ∙ told k s ecu
+    not_installed ecu (owner_among ecu (table.values (rows_of_state s).vehicles)) (last_owner ecu (rows_of_state s)) h ∙ told k s ecu
 
 -- ---- files
 
 -- before founding there is no file
-no_file : (k : Rules) (s : State) (repository : Repository) (name : Name) (roots : List Root) → s.roots ≡ roots → length roots ≡ 0 → file k s repository name ≡ None
+no_file : (k : Rules) (s : State) (repository : Repository) (name : Name) (roots : List Root) → s.roots ≡ roots → length roots ≡ 0 → file s repository name ≡ None
 unfolding files
 no_file k s Director name [] none same =
     ap (λ (roots : List Root). option_map (λ (f : File). f.1) (find (λ (f : File). bytes_eq f.0 name) (files k (record s { roots = roots }) Director))) none
@@ -193,7 +193,7 @@ some_where None b is has = absurd (let e = is ∙ has in cc)
 some_where (Some f) b is has = refl
 
 -- where there is a file, there is a founding
-pub founded_with : (k : Rules) (s : State) (repository : Repository) (name : Name) (text : List ℕ) → FoundedIsFound → Some text ≡ file k s repository name → true ≡ is_some (founding_row s)
+pub founded_with : (k : Rules) (s : State) (repository : Repository) (name : Name) (text : List ℕ) → FoundedIsFound → Some text ≡ file s repository name → true ≡ is_some (founding_row s)
 founded_with k s repository name text founded there = by_roots (length s.roots == 0) refl
   where
     by_roots : (b : Bool) → (length s.roots == 0) ≡ b → true ≡ is_some (founding_row s)

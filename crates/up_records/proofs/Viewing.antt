@@ -37,20 +37,20 @@ module _ {S A : Type 0} (g : Ghosts S) {viewed old : Held S} (tx mid : MutBor (H
     went : Steps (state g (record old { in_transaction = true })) (state g mid.now)
     went = subst (λ h. Steps (state g h) (state g mid.now)) began it.step.steps
 
-    sees : (k : Rules) (s : State) → HasCleanDisk (state g mid.now) → IfClean (KeepsState k s) (state g old) → SeesState k s (state g tx.now)
+    sees : (k : Rules) (s : State) → HasCleanDisk (state g mid.now) → IfClean (KeepsState s) (state g old) → SeesState s (state g tx.now)
     sees k s then was =
         let first : HasCleanDisk (state g old) = omega (arith, went.survives.clean) in
-        subst (λ h. SeesState k s (state g h)) (sym began) (record { mode = refl; here = (was first).here })
+        subst (λ h. SeesState s (state g h)) (sym began) (record { mode = refl; here = (was first).here })
 
     reads : connected.Reads (state g old) (state g last)
     reads = reading.store_reads (as_before g old mid.now (state g last) went before rolled)
         (survives_then (state g old) (state g mid.now) (state g last) (λ _. ⊥) (λ _. ⊥) (λ _. ⊥) (λ _ db none. none) (λ _ db none. none) (survives_begin g old (state g mid.now) (λ _. ⊥) went.survives) ends)
 
-  told : (r : Result A StoreFault) → FindsOn g (λ _. ⊤) (λ k s x. x ≡ of_state k s) tx mid r → HasCleanDisk (state g last) → IfOk r (λ found. (k : Rules) (s : State) → IfClean (KeepsState k s) (state g old) → found ≡ of_state k s)
+  told : (r : Result A StoreFault) → FindsOn g (λ _. ⊤) (λ k s x. x ≡ of_state k s) tx mid r → HasCleanDisk (state g last) → IfOk r (λ found. (k : Rules) (s : State) → IfClean (KeepsState s) (state g old) → found ≡ of_state k s)
   told (Ok x) it clean = λ k s was. it.told (before clean) k tt s (sees it k s (before clean) was)
   told (Err f) it clean = tt
 
-  blame : (r : Result A StoreFault) → FindsOn g (λ _. ⊤) (λ k s x. x ≡ of_state k s) tx mid r → (k : Rules) (s : State) → IsSound k s → IfClean (KeepsState k s) (state g old)
+  blame : (r : Result A StoreFault) → FindsOn g (λ _. ⊤) (λ k s x. x ≡ of_state k s) tx mid r → (k : Rules) (s : State) → IsSound k s → IfClean (KeepsState s) (state g old)
       → connected.BlamesDisk fault.Store (state g old) (state g last) r
   blame (Ok x) it k s sound was clean = tt
   blame (Err f) it k s sound was clean = λ store is_open unlimited.
@@ -72,7 +72,7 @@ reads_over k {old} {new} reads kept = record {
         tables = reading.keeps_after k s (λ clean. (was clean).tables) reads now;
         memory = subst (Fits s) (sym kept) (was before).memory;
       };
-  same = λ s was now is_open. reads.same (rows_of_state k s) (λ clean. (was clean).tables) now is_open;
+  same = λ s was now is_open. reads.same (rows_of_state s) (λ clean. (was clean).tables) now is_open;
   survives = reads.survives;
   can = λ can. subst (λ c. IfSome c (CanDecide k)) (sym kept) can;
 }
@@ -88,6 +88,6 @@ read_over {A = A} g of_state opened old new result is kept it k =
     })
   where
     found : (r : Result A StoreFault) → IfOk r (λ found. (j : Rules) (s : State) → IfClean (KeepsState j s) (state g opened.held) → found ≡ of_state j s)
-        → IfOk r (λ found. (s : State) → standing.IfClean (ShowsState k s) (standing.state g opened) → found ≡ of_state k s)
+        → IfOk r (λ found. (s : State) → standing.IfClean (ShowsState s) (standing.state g opened) → found ≡ of_state k s)
     found (Ok x) told = λ s was. told k s (λ clean. (was clean).tables)
     found (Err f) told = tt

@@ -10,7 +10,7 @@ use Rattle.up_store.specs.Writes.{AreWrites}
 -- rows that fit, which take those of the state to those of the next; these statements write them, and fit the columns where the next state
 -- is sound
 pub record WillWrite (k : Rules) (s next : State) (these : List (List ℕ × Row)) (held fits : StateRows → Type 0) (change : StateRows → StateRows) : Type 0 where
-  pub fit : fits (rows_of_state k s)
-  pub rows : change (rows_of_state k s) ≡ rows_of_state k next
-  pub holds : IsSound k next → held (rows_of_state k s)
-  pub write : AreWrites (rows_of_state k s) (rows_of_state k next) these
+  pub fit : fits (rows_of_state s)
+  pub rows : change (rows_of_state s) ≡ rows_of_state next
+  pub holds : IsSound k next → held (rows_of_state s)
+  pub write : AreWrites (rows_of_state s) (rows_of_state next) these

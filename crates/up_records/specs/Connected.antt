@@ -53,9 +53,9 @@ BlamesDisk store old new result = HasCleanDisk new → IfErr result (λ e. e ≡
 -- a read, whichever way it ended
 pub record Finds {A : Type 0} (of_state : Rules → State → A) (old new : Connected) (result : Result A StoreFault) : Type 0 where
   -- what it finds is told by the state that the tables show
-  pub told : HasCleanDisk new → IfOk result (λ found. (k : Rules) (s : State) → IfClean (KeepsState k s) old → found ≡ of_state k s)
+  pub told : HasCleanDisk new → IfOk result (λ found. (k : Rules) (s : State) → IfClean (KeepsState s) old → found ≡ of_state k s)
   -- `Store` is told only where the disk failed, over tables that show a sound state
-  pub blame : (k : Rules) (s : State) → IsSound k s → IfClean (KeepsState k s) old → BlamesDisk fault.Store old new result
+  pub blame : (k : Rules) (s : State) → IsSound k s → IfClean (KeepsState s) old → BlamesDisk fault.Store old new result
   -- nothing is written
   pub reads : Reads old new
 

@@ -16,9 +16,9 @@ SeesSame old new = connected.SeesSame old.connection new.connection
 -- nothing is written
 pub record Reads (k : Rules) (old new : Standing) : Type 0 where
   -- each state that was shown is shown
-  pub keeps : (s : State) → IfClean (ShowsState k s) old → IfClean (ShowsState k s) new
+  pub keeps : (s : State) → IfClean (ShowsState s) old → IfClean (ShowsState s) new
   -- and the connection sees the same
-  pub same : (s : State) → IfClean (ShowsState k s) old → HasCleanDisk new → SeesSame old new
+  pub same : (s : State) → IfClean (ShowsState s) old → HasCleanDisk new → SeesSame old new
   -- a crash leaves what it could leave before
   pub survives : Survives old new (λ _. ⊥)
   -- what is kept in memory can be used, if it could be
@@ -31,9 +31,9 @@ DiskFailed old new = connected.DiskFailed old.connection new.connection
 -- a read, whichever way it ended: of what it finds this holds in the state
 pub record ReadsSuch {A : Type 0} (k : Rules) (holds : State → A → Type 0) (old new : Standing) (result : Result A StoreFault) : Type 0 where
   -- it holds of each state that is shown
-  pub told : HasCleanDisk new → IfOk result (λ found. (s : State) → IfClean (ShowsState k s) old → holds s found)
+  pub told : HasCleanDisk new → IfOk result (λ found. (s : State) → IfClean (ShowsState s) old → holds s found)
   -- `Store` is told only where the disk failed, over a sound state that is shown
-  pub blame : HasCleanDisk new → (s : State) → IsSound k s → IfClean (ShowsState k s) old → IfErr result (λ f. f ≡ Store → DiskFailed old new)
+  pub blame : HasCleanDisk new → (s : State) → IsSound k s → IfClean (ShowsState s) old → IfErr result (λ f. f ≡ Store → DiskFailed old new)
   -- nothing is written
   pub reads : Reads k old new
 

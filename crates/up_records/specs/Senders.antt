@@ -65,9 +65,9 @@ pub record Leaves {S A : Type 0} (g : Ghosts S) (k : Rules) (incoming : Incoming
   -- Primaries may come, but no more than so many, and all else stays
   pub more : KeepsMore kept after
   -- it is of the state of which it was
-  pub of : WhereInside g old (HasCleanDisk (state g new.now) → (s : State) → SeesState k s (state g old.now) → IsOf s kept → IsOf s after)
+  pub of : WhereInside g old (HasCleanDisk (state g new.now) → (s : State) → SeesState s (state g old.now) → IsOf s kept → IsOf s after)
   -- each Primary that comes sent the manifest
-  pub came : WhereInside g old (HasCleanDisk (state g new.now) → (s : State) → SeesState k s (state g old.now) → IsOf s kept
+  pub came : WhereInside g old (HasCleanDisk (state g new.now) → (s : State) → SeesState s (state g old.now) → IsOf s kept
       → Come (IsSentBy k incoming) kept.primaries after.primaries)
   -- one that the kept Primary of its vehicle didn't send is refused as that, and nothing is read or kept
   pub unread : IfSome (refused_by k kept.primaries incoming) (RefusesUnread {S = MutBor (Held S) × Catalog} (old, kept) (new, after) result)
@@ -96,10 +96,10 @@ pub record KeepsOver {S A : Type 0} (g : Ghosts S) (k : Rules) (incoming : Incom
   -- it stays, and no more than so many Primaries are kept
   pub stays : StaysLoaded kept after
   -- it is of the state of which it was, and can be used, if it could be
-  pub fits : WhereInside g old (HasCleanDisk (state g new.now) → (s : State) → SeesState k s (state g old.now) → Fits s kept → Fits s after)
+  pub fits : WhereInside g old (HasCleanDisk (state g new.now) → (s : State) → SeesState s (state g old.now) → Fits s kept → Fits s after)
   pub can : IfSome kept (CanDecide k) → IfSome after (CanDecide k)
   -- each Primary that comes to be kept sent the manifest
-  pub came : WhereInside g old (HasCleanDisk (state g new.now) → (s : State) → SeesState k s (state g old.now) → Fits s kept
+  pub came : WhereInside g old (HasCleanDisk (state g new.now) → (s : State) → SeesState s (state g old.now) → Fits s kept
       → Come (IsSentBy k incoming) (primaries_in kept) (primaries_in after))
   -- a catalog is there, unless a fault was told or the repositories aren't founded
   pub there : IsLoadedBehind result after

@@ -19,7 +19,7 @@ use Rattle.up_records.specs.Connected.{BlamesDisk, GivesOrFails, SeesSame, is_fa
 
 -- as the transaction sees them, the tables list the rows of the state
 abbrev pub SeesState : Rules → State → Connected → Type 0
-SeesState k s = IsWithin up_schema (ListsRows (rows_of_state k s))
+SeesState s = IsWithin up_schema (ListsRows (rows_of_state s))
 
 -- the transaction goes on, and sees what it saw, on a connection that is open if it was
 pub record SeesOn (old new : Connected) : Type 0 where
@@ -31,8 +31,8 @@ pub record SeesOn (old new : Connected) : Type 0 where
 -- state; nothing is written
 pub record FindsOn {S A : Type 0} (g : Ghosts S) (rules : Rules → Type 0) (holds : Rules → State → A → Type 0) (old new : MutBor (Held S))
     (result : Result A StoreFault) : Type 0 where
-  pub told : HasCleanDisk (state g new.now) → IfOk result (λ found. (k : Rules) → rules k → (s : State) → SeesState k s (state g old.now) → holds k s found)
-  pub blame : (k : Rules) → rules k → (s : State) → IsSound k s → SeesState k s (state g old.now) → BlamesDisk Store (state g old.now) (state g new.now) result
+  pub told : HasCleanDisk (state g new.now) → IfOk result (λ found. (k : Rules) → rules k → (s : State) → SeesState s (state g old.now) → holds k s found)
+  pub blame : (k : Rules) → rules k → (s : State) → IsSound k s → SeesState s (state g old.now) → BlamesDisk Store (state g old.now) (state g new.now) result
   pub sees : HasCleanDisk (state g new.now) → OnOk result (SeesOn (state g old.now) (state g new.now))
   pub step : IsStep g old new
 
@@ -53,7 +53,7 @@ IsDecided (Err r) = is_fault r ≡ false
 -- written
 pub record DecidesOn {S R O : Type 0} (g : Ghosts S) (k : Rules) (is_known : State → Type 0) (gives : State → Result R Refusal → Result O Refusal → Type 0)
     (rule : State → Result O Refusal) (old new : MutBor (Held S)) (result : Result R Refusal) : Type 0 where
-  pub decided : HasCleanDisk (state g new.now) → (s : State) → IsSound k s → is_known s → SeesState k s (state g old.now)
+  pub decided : HasCleanDisk (state g new.now) → (s : State) → IsSound k s → is_known s → SeesState s (state g old.now)
       → GivesOrFails (gives s) (state g old.now) (state g new.now) result (rule s)
   pub sees : HasCleanDisk (state g new.now) → IsDecided result → SeesOn (state g old.now) (state g new.now)
   pub step : IsStep g old new

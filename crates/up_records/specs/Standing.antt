@@ -43,8 +43,8 @@ abbrev pub IfClean : (Standing → Type 0) → Standing → Type 0
 IfClean P d = HasCleanDisk d → P d
 
 -- the tables show the state, and what is kept in memory is of it
-pub record ShowsState (k : Rules) (s : State) (d : Standing) : Type 0 where
-  pub tables : connections.KeepsState k s d.connection
+pub record ShowsState (s : State) (d : Standing) : Type 0 where
+  pub tables : connections.KeepsState s d.connection
   pub memory : Fits s d.catalog
 
 -- what is kept, if anything, can be used under these rules
@@ -52,8 +52,8 @@ abbrev pub CanUse : Rules → Standing → Type 0
 CanUse k d = IfSome d.catalog (CanDecide k)
 
 -- what a crash may leave shows the state
-abbrev pub HoldsState : Rules → State → Trees → Type 0
-HoldsState k s = HoldsRows (rows_of_state k s)
+abbrev pub HoldsState : State → Trees → Type 0
+HoldsState s = HoldsRows (rows_of_state s)
 
 abbrev pub Survives : Standing → Standing → (Trees → Type 0) → Type 0
 Survives old new P = connected.Survives old.connection new.connection P

@@ -41,7 +41,7 @@ pub fn decide<K: Scheme, D: Alter>(
     requires given { (at ≤ last_command_moment) × IsRead incoming.now }
     requires can { IfSome catalog.old (CanDecide (K.rules scheme.now)) }
     ensures decided { DecidesIn D.Store (K.rules scheme.now) (λ s. Fits s catalog.old)
-        (λ s. GivesDelivered (K.rules scheme.now) s incoming.now.manifest.vehicle)
+        (λ s. GivesDelivered s incoming.now.manifest.vehicle)
         (λ s. decide_incoming (K.rules scheme.now) s at incoming.now) tx.old.conn tx.new.conn result }
     ensures kept { KeepsOver D.Store (K.rules scheme.now) incoming.now
         catalog.old catalog.new tx.old.conn tx.new.conn result }
@@ -65,7 +65,7 @@ fn decide_loaded<K: Scheme, D: Alter>(
     requires given { (at ≤ last_command_moment) × IsRead incoming.now }
     requires can { IfSome catalog.old (CanDecide (K.rules scheme.now)) }
     ensures decided { DecidesIn D.Store (K.rules scheme.now) (λ s. IsLoaded s catalog.old)
-        (λ s. GivesDelivered (K.rules scheme.now) s incoming.now.manifest.vehicle)
+        (λ s. GivesDelivered s incoming.now.manifest.vehicle)
         (λ s. decide_incoming (K.rules scheme.now) s at incoming.now) tx.old.conn tx.new.conn result }
     ensures leaves { LeavesIn D.Store (K.rules scheme.now) incoming.now
         catalog.old catalog.new tx.old.conn tx.new.conn result }
@@ -89,7 +89,7 @@ fn decide_founded<K: Scheme, D: Alter>(
     requires given { (at ≤ last_command_moment) × IsRead incoming.now }
     requires can { CanDecide (K.rules scheme.now) catalog.old }
     ensures decided { DecidesIn D.Store (K.rules scheme.now) (λ s. IsOf s catalog.old)
-        (λ s. GivesDelivered (K.rules scheme.now) s incoming.now.manifest.vehicle)
+        (λ s. GivesDelivered s incoming.now.manifest.vehicle)
         (λ s. decide_incoming (K.rules scheme.now) s at incoming.now) tx.old.conn tx.new.conn result }
     ensures leaves { Leaves D.Store (K.rules scheme.now) incoming.now
         catalog.old catalog.new tx.old.conn tx.new.conn result }
@@ -123,7 +123,7 @@ fn decide_sent<K: Scheme, D: Alter>(
     requires hashed { catalog.now.hashed ≡ hashed_roles (K.rules scheme.now) sender.now.founding.keys.director }
     ensures { DecidesIn D.Store (K.rules scheme.now)
         (λ s. IsSent (K.rules scheme.now) s incoming.now catalog.now sender.now)
-        (λ s. GivesDelivered (K.rules scheme.now) s incoming.now.manifest.vehicle)
+        (λ s. GivesDelivered s incoming.now.manifest.vehicle)
         (λ s. decide_incoming (K.rules scheme.now) s at incoming.now) tx.old.conn tx.new.conn result }
 {
     rows_are_found();
@@ -153,7 +153,7 @@ fn decide_later<K: Scheme>(
     requires hashed { catalog.now.hashed ≡ hashed_roles (K.rules scheme.now) sender.now.founding.keys.director }
     ensures { (s : State) → IsSound (K.rules scheme.now) s
         → IsSent (K.rules scheme.now) s incoming.now catalog.now sender.now
-        → GivesDelivered (K.rules scheme.now) s incoming.now.manifest.vehicle result
+        → GivesDelivered s incoming.now.manifest.vehicle result
         (decide_incoming (K.rules scheme.now) s at incoming.now) }
 {
     keep_ecus(keys, alloc, sender);

@@ -126,7 +126,7 @@ refused_line rules g line r t desk read is = (
   record {
     clean = λ now. now;
     answered = λ now q sound was. (q, answer_by q (is_memory r) refl read.0, sound, was now);
-    crash = λ q sound was. survives_same (HoldsNext k (answer_to k q (asked_in k line)).called (answer_to k q (asked_in k line)).next) (state g desk.store);
+    crash = λ q sound was. survives_same (HoldsNext (answer_to k q (asked_in k line)).called (answer_to k q (asked_in k line)).next) (state g desk.store);
     durable = λ q sound was told commit. absurd (not_durable q (is_memory r) refl read.0 told commit);
     blame = λ now q sound was other store. absurd (not_blamed q (is_memory r) refl read.0 other store);
   },
@@ -174,7 +174,7 @@ told_view k vehicle t old new sees = record {
 }
 
 pub told_refusal : (k : Rules) (vehicle : Name) (r : Refusal) (t : List ℕ) (old new : Standing) → Sees (λ s. MatchBool (is_fault r) ⊤ (shown_in s vehicle ≡ Err r)) old new → t ≡ refused_text r
-    → (r ≡ Store → HasCleanDisk new → (s : State) → IsSound k s → IfClean (ShowsState k s) old → DiskFailed old new)
+    → (r ≡ Store → HasCleanDisk new → (s : State) → IsSound k s → IfClean (ShowsState s) old → DiskFailed old new)
     → AnswersLine (λ s. viewed s vehicle) k t old new
 told_refusal k vehicle r t old new sees is blame = record {
   clean = sees.clean;

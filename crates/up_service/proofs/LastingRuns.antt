@@ -101,7 +101,7 @@ pub fixed_answers : (tell : Refusal → List ℕ) (k : Rules) (fixed text : List
 fixed_answers tell k fixed text now is = record {
   clean = λ clean. clean;
   answered = λ clean s sound was. (s, inl (is, refl), sound, was clean);
-  crash = λ s sound was. survives_same (HoldsNext k None s) now;
+  crash = λ s sound was. survives_same (HoldsNext None s) now;
   durable = λ s sound was same commit. absurd commit;
   blame = λ clean s sound was other same. absurd (other is);
 }

@@ -43,7 +43,7 @@ GivesShown (Err r) computed = MatchBool (is_fault r) ⊤ (computed ≡ Err r)
 -- on showing it, and an open connection sees what it saw; a crash leaves what it could leave before
 pub record Sees (holds : State → Type 0) (old new : Standing) : Type 0 where
   pub clean : HasCleanDisk new → HasCleanDisk old
-  pub seen : HasCleanDisk new → (k : Rules) (s : State) → IsSound k s → IfClean (ShowsState k s) old → holds s × ShowsState k s new × SeesSame old new
+  pub seen : HasCleanDisk new → (k : Rules) (s : State) → IsSound k s → IfClean (ShowsState s) old → holds s × ShowsState s new × SeesSame old new
   pub crash : Survives old new (λ trees. ⊥)
 
 -- ---- steps

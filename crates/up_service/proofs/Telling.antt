@@ -40,7 +40,7 @@ use Rattle.up_service.proofs.Showing.{GivesShown, Sees, seen_by, seen_in_fault, 
 
 -- `Store` is told only where the disk counted a fault
 abbrev BlamesShown : Result (List ℕ) Refusal → Standing → Standing → Type 0
-BlamesShown shown old new = shown ≡ Err Store → HasCleanDisk new → (k : Rules) (s : State) → IsSound k s → IfClean (ShowsState k s) old → DiskFailed old new
+BlamesShown shown old new = shown ≡ Err Store → HasCleanDisk new → (k : Rules) (s : State) → IsSound k s → IfClean (ShowsState s) old → DiskFailed old new
 
 -- what a view shows of the states that the tables show, and whatever they show
 record Viewed {K D : Type 0} (g : Ghosts D) (P : State → Result (List ℕ) Refusal) (old : DeskView K D) (shown : Result (List ℕ) Refusal) (new : DeskView K D) : Type 0 where

@@ -27,8 +27,8 @@ answered_as tell k s at command = let o = serve k s at command in record { text 
 
 -- what a crash may leave then beside what it could leave before: the next state, if a command was called
 abbrev pub HoldsNext : Rules → Option Answer → State → Trees → Type 0
-HoldsNext k (Some answer) next = HoldsState k next
-HoldsNext k None next = λ trees. ⊥
+HoldsNext (Some answer) next = HoldsState next
+HoldsNext None next = λ trees. ⊥
 
 -- a command was called, and its answer is a commit
 abbrev pub IsCommitted : State → Option Answer → State → Type 0
@@ -54,10 +54,10 @@ IsAnswerOrFailed tell a old text new = ((text ≡ a.text) × (new ≡ a.next)) �
 -- disk or the database is to blame.
 pub record AnswersAs (tell : Refusal → List ℕ) (answer : State → Answered) (k : Rules) (text : List ℕ) (old new : Standing) : Type 0 where
   pub clean : HasCleanDisk new → HasCleanDisk old
-  pub answered : HasCleanDisk new → (s : State) → IsSound k s → IfClean (ShowsState k s) old
-      → (next : State) × IsAnswerOrFailed tell (answer s) s text next × IsSound k next × ShowsState k next new
-  pub crash : (s : State) → IsSound k s → IfClean (ShowsState k s) old → Survives old new (HoldsNext k (answer s).called (answer s).next)
-  pub durable : (s : State) → IsSound k s → IfClean (ShowsState k s) old → text ≡ (answer s).text → IsCommitted s (answer s).called (answer s).next
-      → IfClean (LeavesOnly (HoldsState k (answer s).next)) new
-  pub blame : HasCleanDisk new → (s : State) → IsSound k s → IfClean (ShowsState k s) old → (text ≡ (answer s).text → ⊥) → text ≡ tell Store
+  pub answered : HasCleanDisk new → (s : State) → IsSound k s → IfClean (ShowsState s) old
+      → (next : State) × IsAnswerOrFailed tell (answer s) s text next × IsSound k next × ShowsState next new
+  pub crash : (s : State) → IsSound k s → IfClean (ShowsState s) old → Survives old new (HoldsNext (answer s).called (answer s).next)
+  pub durable : (s : State) → IsSound k s → IfClean (ShowsState s) old → text ≡ (answer s).text → IsCommitted s (answer s).called (answer s).next
+      → IfClean (LeavesOnly (HoldsState (answer s).next)) new
+  pub blame : HasCleanDisk new → (s : State) → IsSound k s → IfClean (ShowsState s) old → (text ≡ (answer s).text → ⊥) → text ≡ tell Store
       → IsBlamedFor k s old new (answer s).called (answer s).next

@@ -32,12 +32,12 @@ went_through P (Ok x) h ok = h
 went_through P (Err e) h ok = cc
 
 -- fresh tables show that nothing is founded
-pub shows_nothing : (k : Rules) → rows_of_state k empty_state ≡ no_rows → (empty made : Connected) (old : Standing) → Creates empty made → old ≡ record { connection = made; catalog = None }
-    → HasCleanDisk old → ShowsState k empty_state old
-shows_nothing k none empty made old creates fresh = subst (λ (d : Standing). HasCleanDisk d → ShowsState k empty_state d) (sym fresh)
+pub shows_nothing : (k : Rules) → rows_of_state empty_state ≡ no_rows → (empty made : Connected) (old : Standing) → Creates empty made → old ≡ record { connection = made; catalog = None }
+    → HasCleanDisk old → ShowsState empty_state old
+shows_nothing k none empty made old creates fresh = subst (λ (d : Standing). HasCleanDisk d → ShowsState empty_state d) (sym fresh)
     (λ was. record { tables = subst (λ (rows : StateRows). KeepsRows rows made) (sym none) (creates.made was); memory = tt })
 
-pub from_nothing : (k : Rules) → IsSound k empty_state → rows_of_state k empty_state ≡ no_rows → (cs : List (ℕ × Command)) (before answers : List Answer) (empty made : Connected) (old new : Standing)
+pub from_nothing : (k : Rules) → IsSound k empty_state → rows_of_state empty_state ≡ no_rows → (cs : List (ℕ × Command)) (before answers : List Answer) (empty made : Connected) (old new : Standing)
     → Creates empty made → old ≡ record { connection = made; catalog = None } → before ≡ [] → AreCalled k cs before answers old new → HasCleanDisk new → IsRunFromNothing k cs answers
 from_nothing k sound none cs before answers empty made old new creates fresh first called clean =
     let ran = called.ran clean empty_state sound (shows_nothing k none empty made old creates fresh) in
@@ -83,12 +83,12 @@ ran rules g had has first now result is = record {
 }
 
 pub script_from_nothing : {K D : Type 0} (rules : K → Rules) (g : Ghosts D) → ScriptsAreRuns rules g → (k : Rules) (had has : Option (List ℕ)) (first now : At (DeskView K D)) (result : Result ℕ ScriptFault) (empty made : Connected)
-    → rules first.state.scheme ≡ k → RunsScript rules g had has first now result → HasCleanDisk (state g now.state.store) → IsSound k empty_state → rows_of_state k empty_state ≡ no_rows
+    → rules first.state.scheme ≡ k → RunsScript rules g had has first now result → HasCleanDisk (state g now.state.store) → IsSound k empty_state → rows_of_state empty_state ≡ no_rows
     → Creates empty made → state g first.state.store ≡ record { connection = made; catalog = None } → IsScriptFromNothing k had has first.held now.held result
 script_from_nothing rules g law k had has first now result empty made same runs clean sound none creates fresh =
     subst (λ (k : Rules). IsScriptFromNothing k had has first.held now.held result) same (ran rules g had has first now result
     (law had has first now result runs clean empty_state (subst (λ (k : Rules). IsSound k empty_state) (sym same) sound)
-    (shows_nothing (rules first.state.scheme) (subst (λ (k : Rules). rows_of_state k empty_state ≡ no_rows) (sym same) none) empty made (state g first.state.store) creates fresh)))
+    (shows_nothing (rules first.state.scheme) (subst (λ (k : Rules). rows_of_state empty_state ≡ no_rows) (sym same) none) empty made (state g first.state.store) creates fresh)))
 
 -- ---- streams
 
@@ -129,9 +129,9 @@ ran_stream rules g at had has first now result is = record {
 }
 
 pub stream_from_nothing : {K D : Type 0} (rules : K → Rules) (g : Ghosts D) → StreamsAreRuns rules g → (k : Rules) (at : ℕ) (had has : Option (List ℕ)) (first now : At (DeskView K D)) (result : Result Served ServeFault) (empty made : Connected)
-    → rules first.state.scheme ≡ k → RunsStream rules g at had has first now result → HasCleanDisk (state g now.state.store) → IsSound k empty_state → rows_of_state k empty_state ≡ no_rows
+    → rules first.state.scheme ≡ k → RunsStream rules g at had has first now result → HasCleanDisk (state g now.state.store) → IsSound k empty_state → rows_of_state empty_state ≡ no_rows
     → Creates empty made → state g first.state.store ≡ record { connection = made; catalog = None } → IsStreamFromNothing k at had has first.held now.held result
 stream_from_nothing rules g law k at had has first now result empty made same runs clean sound none creates fresh =
     subst (λ (k : Rules). IsStreamFromNothing k at had has first.held now.held result) same (ran_stream rules g at had has first now result
     (law at had has first now result runs clean empty_state (subst (λ (k : Rules). IsSound k empty_state) (sym same) sound)
-    (shows_nothing (rules first.state.scheme) (subst (λ (k : Rules). rows_of_state k empty_state ≡ no_rows) (sym same) none) empty made (state g first.state.store) creates fresh)))
+    (shows_nothing (rules first.state.scheme) (subst (λ (k : Rules). rows_of_state empty_state ≡ no_rows) (sym same) none) empty made (state g first.state.store) creates fresh)))

@@ -45,5 +45,5 @@ pub record IsShipped {I : Type 0} (v : Service I) (q : Asking I) (s : State) (it
   pub at : State
   pub is_at : IsBehind v behind next at
   pub sound : IsSound v.rules at
-  pub shown : ShowsState v.rules at new
+  pub shown : ShowsState at new
   pub lasts : Lasts v s (told items texts) next old new

@@ -19,12 +19,13 @@ use Rattle.up_store.specs.Typed.{EachHasKeys}
 
 -- the root version is the next one, and each of its roles has a key
 pub record IsNextRoot (new : RootRows) (rows : StateRows) : Type 0 where
-  pub number : new.founding.root ≡ length rows.roots + 1
+  pub director : new.founding.root ≡ length rows.director + 1
+  pub image : new.founding.root ≡ length rows.image + 1
   pub keys : EachHasKeys new.founding.keys
 
 -- the root version is the last one still
 abbrev pub IsSameRoot : RegisterRows → StateRows → Type 0
-IsSameRoot new rows = IsOfLastRoot (Some new.founding) rows.roots
+IsSameRoot new rows = IsOfLastRoot (Some new.founding) rows.director rows.image
 
 -- the filename is new, and the root version is the last one still
 pub record IsNewImage (image : ImageData) (new : RegisterRows) (rows : StateRows) : Type 0 where

@@ -6,6 +6,6 @@ use Rattle.up_machine.specs.Sound.{IsSound}
 use Rattle.up_machine.specs.State.{State}
 use Rattle.up_store.specs.Listing.{ShowsState}
 
--- tables show one sound state; the moments of its root versions stand in the texts of the Root files
+-- tables show one sound state
 abbrev pub TablesShowOneState : Type 0
-TablesShowOneState = (k : Rules) (s t : State) (trees : Trees) → IsSound k s → IsSound k t → ShowsState k s trees → ShowsState k t trees → s ≡ t
+TablesShowOneState = (k : Rules) (s t : State) (trees : Trees) → IsSound k s → IsSound k t → ShowsState s trees → ShowsState t trees → s ≡ t

@@ -1,5 +1,5 @@
 -- Rows of the tables, column by column, as they are kept of a state.
-use Rattle.std.specs.Prelude.{ℕ, suc, pos, List, [], ◌∷◌, ◌++◌, Option, Some, None, option_map, option_and_then, unwrap_or, map, flat_map, codes}
+use Rattle.std.specs.Prelude.{ℕ, suc, pos, List, [], ◌∷◌, ◌++◌, Option, Some, None, option_map, option_and_then, unwrap_or, map, codes}
 use Rattle.std.specs.List.{enumerate_from}
 use Rattle.sqlite.specs.Values.{or_null}
 use Rattle.sqlite.specs.declared.types.Value.TheVariants.{Int, Text, Blob}
@@ -19,7 +19,6 @@ use Rattle.up_machine.specs.declared.rows.EcuRow.{EcuRow}
 use Rattle.up_machine.specs.declared.rows.VehicleRow.{VehicleRow}
 use Rattle.up_machine.specs.declared.rows.VehicleRows.{VehicleRows}
 use Rattle.up_machine.specs.declared.rows.Kept.{Kept}
-use Rattle.up_rows.specs.declared.root_row.RootRow.{RootRow}
 use Rattle.up_columns.specs.Columns.{names_column, needs_column}
 use Rattle.up_columns.specs.CampaignColumns.{reach_column, items_column}
 use Rattle.up_columns.specs.PlanColumns.{plan_column}
@@ -55,13 +54,10 @@ repository_lines root repository keys =
     role_lines root repository (codes "root") keys.root ++ role_lines root repository (codes "targets") keys.targets
     ++ role_lines root repository (codes "snapshot") keys.snapshot ++ role_lines root repository (codes "timestamp") keys.timestamp
 
--- of root version `number`, the director's first
-abbrev pub root_lines : ℕ → RootRow → List Row
-root_lines number root = repository_lines number Director root.keys.director ++ repository_lines number Image root.keys.image
-
--- of all root versions in order
-abbrev pub roots_lines : List RootRow → List Row
-roots_lines roots = flat_map (λ r. root_lines r.0 r.1) (enumerate_from 1 roots)
+-- of the last root version, the director's first; none before founding
+abbrev pub founding_lines : Option Founding → List Row
+founding_lines None = []
+founding_lines (Some f) = repository_lines f.root Director f.keys.director ++ repository_lines f.root Image f.keys.image
 
 -- ---- repo_file: a file that is served
 

@@ -72,9 +72,9 @@ pub record IsMadeOfCampaign (new : CampaignData) (of_reach of_items : List ℕ) 
 abbrev pub with_numbers : MetaRow → TableRows → TableRows
 with_numbers m rows = record rows { root = m.root; image_version = m.image_version; stamp = m.stamp }
 
--- behind the other keys, these
+-- no other keys than these
 abbrev pub with_key_lines : List Row → TableRows → TableRows
-with_key_lines keys rows = record rows { role_keys = rows.role_keys ++ keys }
+with_key_lines keys rows = record rows { role_keys = keys }
 
 -- no file stands twice
 abbrev pub HasFilesOnce : TableRows → Type 0

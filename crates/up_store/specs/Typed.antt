@@ -21,7 +21,6 @@ use Rattle.up_machine.specs.declared.rows.Founding.{Founding}
 use Rattle.up_machine.specs.declared.rows.Kept.{Kept}
 use Rattle.up_rows.specs.SecondHashes.{TellsItsHash}
 use Rattle.up_rows.specs.StateRows.{StateRows}
-use Rattle.up_rows.specs.declared.root_row.RootRow.{RootRow}
 use Rattle.up_store.specs.declared.campaign_rows.CampaignShown.{CampaignShown}
 use Rattle.up_store.specs.declared.image_rows.ImageShown.{ImageShown}
 use Rattle.up_store.specs.declared.keys.RoleKey.{RoleKey}
@@ -61,14 +60,10 @@ pub record AreTypedKeys (keys : RepoKeys) : Type 0 where
 pub record IsTypedFounding (founding : Founding) : Type 0 where
   pub director : AreTypedKeys founding.keys.director
   pub image : AreTypedKeys founding.keys.image
+  pub keys : EachHasKeys founding.keys
   pub stamp : founding.stamp ≤ last_moment
   pub root : founding.root < 2 ^ 63
   pub image_version : founding.image_version < 2 ^ 63
-
-pub record IsTypedRoot (root : RootRow) : Type 0 where
-  pub keys : EachHasKeys root.keys
-  pub director : IsUtf8 root.director
-  pub image : IsUtf8 root.image
 
 pub record AreTypedTexts (texts : RoleTexts) : Type 0 where
   pub targets : IsUtf8 texts.targets
@@ -176,7 +171,8 @@ pub record IsTypedKept (vehicle : Name) (row : Kept) : Type 0 where
 
 pub record AreTyped (rows : StateRows) : Type 0 where
   pub founding : IfSome rows.founding IsTypedFounding
-  pub roots : AllByRecursion IsTypedRoot rows.roots
+  pub director : AllByRecursion IsUtf8 rows.director
+  pub image : AllByRecursion IsUtf8 rows.image
   pub images : (file : Name) (image : ImageData) → table.get rows.images file ≡ Some image → IsTypedImage file image
   pub files : IfSome rows.files AreTypedTexts
   pub campaigns : (name : Name) (campaign : CampaignData) → table.get rows.campaigns name ≡ Some campaign → IsTypedCampaign name campaign

@@ -25,7 +25,7 @@ AreCommands ts = AllByRecursion (λ t. IsTrue (is_command t.command)) ts
 -- ---- what changes
 
 -- The body's manifest is of the vehicle of the reply. One entry is added to that vehicle's, whose counter is greater than all before, and
--- the reply's version is the number of entries. Every other vehicle, the images, the campaigns and the roots are as they were.
+-- the reply's version is the number of entries. Every other vehicle, the images, the campaigns and all that is published are as they were.
 pub record IsAccepted (s : State) (body : List ℕ) (reply : Reply) (next : State) : Type 0 where
   pub incoming : Incoming
   pub read : incoming_in body ≡ Ok incoming
@@ -49,7 +49,7 @@ DeliveriesChangeTheirOwn = (k : Rules) (s : State) (at : ℕ) (body : List ℕ) 
 -- What was replied is kept under its version.
 abbrev pub RepliesAreKept : Type 0
 RepliesAreKept = (k : Rules) (s : State) (at : ℕ) (body : List ℕ) (reply : Reply) → (step k s at (Deliver body)).answer ≡ Replied reply
-    → kept_reply k (step k s at (Deliver body)).next reply.vehicle reply.version ≡ Some reply
+    → kept_reply (step k s at (Deliver body)).next reply.vehicle reply.version ≡ Some reply
 
 -- ---- what is reported
 

@@ -26,9 +26,9 @@ pub record IsSameImage (a b : Target) : Type 0 where
   pub release : a.release ≡ b.release
 
 -- it is in the Image repository's Targets, as they are published and read in this state
-pub record IsListed (k : Rules) (s : State) (t : Target) : Type 0 where
+pub record IsListed (s : State) (t : Target) : Type 0 where
   pub bytes : List ℕ
-  pub published : file k s Image (codes "targets.json") ≡ Some bytes
+  pub published : file s Image (codes "targets.json") ≡ Some bytes
   pub listing : TargetsFile
   pub envelope : Envelope
   pub read : targets_in bytes ≡ Ok (listing, envelope)
@@ -37,7 +37,7 @@ pub record IsListed (k : Rules) (s : State) (t : Target) : Type 0 where
   pub same : IsSameImage t image
 
 -- A reply's bytes have Targets of its vehicle and version, and each of its targets is such an image.
-pub record IsOffered (k : Rules) (later : State) (reply : Reply) : Type 0 where
+pub record IsOffered (later : State) (reply : Reply) : Type 0 where
   pub root : ℕ
   pub files : RoleTexts
   pub bytes : reply.text ≡ reply_json reply.vehicle reply.version root files
@@ -46,9 +46,9 @@ pub record IsOffered (k : Rules) (later : State) (reply : Reply) : Type 0 where
   pub read : targets_in files.targets ≡ Ok (targets, envelope)
   pub vehicle : targets.vehicle ≡ Some reply.vehicle
   pub version : targets.version ≡ reply.version
-  pub listed : All (IsListed k later) targets.targets
+  pub listed : All (IsListed later) targets.targets
 
 -- so is each reply that is kept in a state that commands reach from nothing, then and in each later state
 abbrev pub RepliesOfferWhatIsListed : Type 0
 RepliesOfferWhatIsListed = (k : Rules) (ts us : List Timed) (vehicle : Name) (number : ℕ) (reply : Reply) → IsScheme k → AreGiven ts → AreGiven us
-    → kept_reply k (run k empty_state ts) vehicle number ≡ Some reply → IsOffered k (run k (run k empty_state ts) us) reply
+    → kept_reply (run k empty_state ts) vehicle number ≡ Some reply → IsOffered (run k (run k empty_state ts) us) reply

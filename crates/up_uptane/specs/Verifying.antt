@@ -1,5 +1,5 @@
 -- Every published file is read again as what it is, and enough of the keys that the published Roots give its role have signed it.
-use Rattle.std.specs.Prelude.{◌≡◌, ℕ, ◌+◌, ◌<◌, ◌≤◌, ◌⊎◌, List, Some, IsTrue, Result, Ok, length, map}
+use Rattle.std.specs.Prelude.{◌≡◌, ℕ, ◌+◌, ◌<◌, ◌≤◌, ◌⊎◌, List, Some, IsTrue, Result, Ok, map}
 use Rattle.up_canon.specs.Names.{Name}
 use Rattle.up_canon.specs.declared.refusal.Refusal.{Refusal}
 use Rattle.up_sign.specs.Envelopes.{is_accepted}
@@ -19,8 +19,9 @@ use Rattle.up_metadata.specs.declared.role_files.RoleTexts.{RoleTexts}
 use Rattle.up_machine.specs.declared.answer.Reply.{Reply}
 use Rattle.up_machine.specs.Files.{file, numbered_root_name}
 use Rattle.up_machine.specs.Machine.{Timed, run}
+use Rattle.up_machine.specs.Made.{roots_of}
 use Rattle.up_machine.specs.Replies.{kept_reply, reply_json}
-use Rattle.up_machine.specs.State.{State, empty_state}
+use Rattle.up_machine.specs.State.{State, empty_state, root_number}
 use Rattle.up_primary.specs.Following.{KeysAgree}
 use Rattle.up_primary.specs.Laws.{AreGiven}
 
@@ -39,9 +40,9 @@ pub record IsSignedUnder (k : Rules) (role : RoleKeys) (envelope : Envelope) : T
 -- ---- Root files
 
 -- what is published as this repository's Root of this number is read as that
-pub record IsRoot (k : Rules) (s : State) (repository : Repository) (i : ℕ) (root : RootFile) (envelope : Envelope) : Type 0 where
+pub record IsRoot (s : State) (repository : Repository) (i : ℕ) (root : RootFile) (envelope : Envelope) : Type 0 where
   pub bytes : List ℕ
-  pub published : file k s repository (numbered_root_name i) ≡ Some bytes
+  pub published : file s repository (numbered_root_name i) ≡ Some bytes
   pub read : root_in bytes ≡ Ok (root, envelope)
   pub of_repository : root.repository ≡ repository
   pub number : root.version ≡ i
@@ -50,25 +51,25 @@ pub record IsRoot (k : Rules) (s : State) (repository : Repository) (i : ℕ) (r
 pub record IsSignedRoot (k : Rules) (s : State) (repository : Repository) (i : ℕ) : Type 0 where
   pub root : RootFile
   pub envelope : Envelope
-  pub is : IsRoot k s repository i root envelope
+  pub is : IsRoot s repository i root envelope
   pub signed : IsSignedUnder k root.root envelope
 
 -- and the Root of the next number
 pub record IsFollowed (k : Rules) (s : State) (repository : Repository) (i : ℕ) : Type 0 where
   pub root : RootFile
   pub envelope : Envelope
-  pub is : IsRoot k s repository i root envelope
+  pub is : IsRoot s repository i root envelope
   pub next : RootFile
   pub next_envelope : Envelope
-  pub is_next : IsRoot k s repository (i + 1) next next_envelope
+  pub is_next : IsRoot s repository (i + 1) next next_envelope
   pub signed : IsSignedUnder k root.root next_envelope
 
 -- So it is of all Roots, one after the other from the first, in every state that commands reach from nothing. Keys of one identifier have
 -- to be shown alike: two that collide would make a Root that can't be read.
 abbrev pub RootsVerify : Type 0
-RootsVerify = (k : Rules) (ts : List Timed) (repository : Repository) (i : ℕ) → IsScheme k → AreGiven ts → KeysAgree k (run k empty_state ts)
-    → 1 ≤ i → i ≤ length (run k empty_state ts).roots
-    → IsSignedRoot k (run k empty_state ts) repository i × (i < length (run k empty_state ts).roots → IsFollowed k (run k empty_state ts) repository i)
+RootsVerify = (k : Rules) (ts : List Timed) (repository : Repository) (i : ℕ) → IsScheme k → AreGiven ts → KeysAgree k (roots_of k empty_state ts)
+    → 1 ≤ i → i ≤ root_number (run k empty_state ts)
+    → IsSignedRoot k (run k empty_state ts) repository i × (i < root_number (run k empty_state ts) → IsFollowed k (run k empty_state ts) repository i)
 
 -- ---- other files
 
@@ -81,7 +82,7 @@ pub record Verifies {F : Type 0} (reading : List ℕ → Result (F × Envelope) 
   pub of_repository : repository_of content ≡ repository
   pub root : RootFile
   pub root_envelope : Envelope
-  pub under : IsRoot k s repository i root root_envelope
+  pub under : IsRoot s repository i root root_envelope
   pub signed : IsSignedUnder k (role_of root) envelope
 
 abbrev pub TargetsVerify : Rules → State → Repository → ℕ → List ℕ → Type 0
@@ -94,20 +95,20 @@ abbrev pub TimestampVerifies : Rules → State → Repository → ℕ → List �
 TimestampVerifies = Verifies timestamp_in (λ f. f.repository) (λ root. root.timestamp)
 
 -- the bytes are those of the Root of some number
-pub record IsNumbered (k : Rules) (s : State) (repository : Repository) (bytes : List ℕ) : Type 0 where
+pub record IsNumbered (s : State) (repository : Repository) (bytes : List ℕ) : Type 0 where
   pub number : ℕ
   pub from : 1 ≤ number
-  pub to : number ≤ length s.roots
-  pub is : file k s repository (numbered_root_name number) ≡ Some bytes
+  pub to : number ≤ root_number s
+  pub is : file s repository (numbered_root_name number) ≡ Some bytes
 
 -- Whatever is published, under whatever name, is a Root, or one of the Image repository's other files, which verify under the last Root.
 abbrev pub FilesVerify : Type 0
 FilesVerify = (k : Rules) (ts : List Timed) (repository : Repository) (name : Name) (bytes : List ℕ) → IsScheme k → AreGiven ts
-    → KeysAgree k (run k empty_state ts) → file k (run k empty_state ts) repository name ≡ Some bytes
-    → IsNumbered k (run k empty_state ts) repository bytes
-    ⊎ ((repository ≡ Image) × (TargetsVerify k (run k empty_state ts) Image (length (run k empty_state ts).roots) bytes
-    ⊎ (SnapshotVerifies k (run k empty_state ts) Image (length (run k empty_state ts).roots) bytes
-    ⊎ TimestampVerifies k (run k empty_state ts) Image (length (run k empty_state ts).roots) bytes)))
+    → KeysAgree k (roots_of k empty_state ts) → file (run k empty_state ts) repository name ≡ Some bytes
+    → IsNumbered (run k empty_state ts) repository bytes
+    ⊎ ((repository ≡ Image) × (TargetsVerify k (run k empty_state ts) Image (root_number (run k empty_state ts)) bytes
+    ⊎ (SnapshotVerifies k (run k empty_state ts) Image (root_number (run k empty_state ts)) bytes
+    ⊎ TimestampVerifies k (run k empty_state ts) Image (root_number (run k empty_state ts)) bytes)))
 
 -- ---- replies
 
@@ -115,7 +116,7 @@ FilesVerify = (k : Rules) (ts : List Timed) (repository : Repository) (name : Na
 pub record ReplyVerifies (k : Rules) (s : State) (reply : Reply) : Type 0 where
   pub root : ℕ
   pub from : 1 ≤ root
-  pub to : root ≤ length s.roots
+  pub to : root ≤ root_number s
   pub files : RoleTexts
   pub bytes : reply.text ≡ reply_json reply.vehicle reply.version root files
   pub targets : TargetsVerify k s Director root files.targets
@@ -124,5 +125,5 @@ pub record ReplyVerifies (k : Rules) (s : State) (reply : Reply) : Type 0 where
 
 -- so does each reply that is kept
 abbrev pub RepliesVerify : Type 0
-RepliesVerify = (k : Rules) (ts : List Timed) (vehicle : Name) (number : ℕ) (reply : Reply) → IsScheme k → AreGiven ts → KeysAgree k (run k empty_state ts)
-    → kept_reply k (run k empty_state ts) vehicle number ≡ Some reply → ReplyVerifies k (run k empty_state ts) reply
+RepliesVerify = (k : Rules) (ts : List Timed) (vehicle : Name) (number : ℕ) (reply : Reply) → IsScheme k → AreGiven ts → KeysAgree k (roots_of k empty_state ts)
+    → kept_reply (run k empty_state ts) vehicle number ≡ Some reply → ReplyVerifies k (run k empty_state ts) reply

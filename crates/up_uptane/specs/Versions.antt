@@ -1,5 +1,5 @@
 -- Versions of what is published never fall, and each version is one text.
-use Rattle.std.specs.Prelude.{◌≡◌, ℕ, ◌<◌, ◌≤◌, List, Some, Result, Ok, length, codes}
+use Rattle.std.specs.Prelude.{◌≡◌, ℕ, ◌<◌, ◌≤◌, List, Some, IsTrue, Result, Ok, length, codes}
 use Rattle.up_canon.specs.Names.{Name}
 use Rattle.up_canon.specs.declared.refusal.Refusal.{Refusal}
 use Rattle.up_sign.specs.Schemes.{Rules, IsScheme}
@@ -15,7 +15,7 @@ use Rattle.up_machine.specs.declared.command.Command.TheVariants.{Deliver}
 use Rattle.up_machine.specs.Files.{file, numbered_root_name}
 use Rattle.up_machine.specs.Machine.{Timed, step, run}
 use Rattle.up_machine.specs.Replies.{kept_reply}
-use Rattle.up_machine.specs.State.{State, empty_state}
+use Rattle.up_machine.specs.State.{State, empty_state, is_founded, chain_of}
 use Rattle.up_primary.specs.Laws.{AreGiven}
 use Rattle.up_uptane.specs.Deliveries.{AreCommands}
 
@@ -33,34 +33,34 @@ pub record NeverFalls {F : Type 0} (reading : List ℕ → Result (F × Envelope
   pub one_text : version_of first ≡ version_of second → earlier ≡ later
 
 -- the file of a name, as it is published in both states
-pub record FileNeverFalls {F : Type 0} (k : Rules) (s later : State) (name : Name) (reading : List ℕ → Result (F × Envelope) Refusal) (version_of : F → ℕ) : Type 0 where
+pub record FileNeverFalls {F : Type 0} (s later : State) (name : Name) (reading : List ℕ → Result (F × Envelope) Refusal) (version_of : F → ℕ) : Type 0 where
   pub first : List ℕ
-  pub was : file k s Image name ≡ Some first
+  pub was : file s Image name ≡ Some first
   pub second : List ℕ
-  pub is : file k later Image name ≡ Some second
+  pub is : file later Image name ≡ Some second
   pub never : NeverFalls reading version_of first second
 
-pub record ImageNeverFalls (k : Rules) (s later : State) : Type 0 where
-  pub targets : FileNeverFalls k s later (codes "targets.json") targets_in (λ f. f.version)
-  pub snapshot : FileNeverFalls k s later (codes "snapshot.json") snapshot_in (λ f. f.version)
-  pub timestamp : FileNeverFalls k s later (codes "timestamp.json") timestamp_in (λ f. f.version)
+pub record ImageNeverFalls (s later : State) : Type 0 where
+  pub targets : FileNeverFalls s later (codes "targets.json") targets_in (λ f. f.version)
+  pub snapshot : FileNeverFalls s later (codes "snapshot.json") snapshot_in (λ f. f.version)
+  pub timestamp : FileNeverFalls s later (codes "timestamp.json") timestamp_in (λ f. f.version)
 
 -- So from each state in which something is founded, and that commands reach from nothing, to each later one.
 abbrev pub ImageVersionsNeverFall : Type 0
-ImageVersionsNeverFall = (k : Rules) (ts us : List Timed) → IsScheme k → AreGiven ts → AreGiven us → 0 < length (run k empty_state ts).roots
-    → ImageNeverFalls k (run k empty_state ts) (run k (run k empty_state ts) us)
+ImageVersionsNeverFall = (k : Rules) (ts us : List Timed) → IsScheme k → AreGiven ts → AreGiven us → IsTrue (is_founded (run k empty_state ts))
+    → ImageNeverFalls (run k empty_state ts) (run k (run k empty_state ts) us)
 
 -- ---- Root files
 
 -- Each Root of the earlier state is published under its number in both, with the same text.
-pub record RootsStay (k : Rules) (repository : Repository) (s later : State) : Type 0 where
-  pub no_fewer : length s.roots ≤ length later.roots
-  pub each : (i : ℕ) → 1 ≤ i → i ≤ length s.roots
-      → (text : List ℕ) × (file k s repository (numbered_root_name i) ≡ Some text) × (file k later repository (numbered_root_name i) ≡ Some text)
+pub record RootsStay (repository : Repository) (s later : State) : Type 0 where
+  pub no_fewer : length (chain_of repository s).texts ≤ length (chain_of repository later).texts
+  pub each : (i : ℕ) → 1 ≤ i → i ≤ length (chain_of repository s).texts
+      → (text : List ℕ) × (file s repository (numbered_root_name i) ≡ Some text) × (file later repository (numbered_root_name i) ≡ Some text)
 
 abbrev pub RootVersionsNeverFall : Type 0
 RootVersionsNeverFall = (k : Rules) (ts us : List Timed) (repository : Repository) → AreCommands ts → AreCommands us
-    → RootsStay k repository (run k empty_state ts) (run k (run k empty_state ts) us)
+    → RootsStay repository (run k empty_state ts) (run k (run k empty_state ts) us)
 
 -- ---- vehicles
 
@@ -68,9 +68,9 @@ RootVersionsNeverFall = (k : Rules) (ts us : List Timed) (repository : Repositor
 abbrev pub RepliesRise : Type 0
 RepliesRise = (k : Rules) (ts us : List Timed) (number at : ℕ) (body : List ℕ) (old new : Reply) → AreCommands ts → AreCommands us
     → (step k (run k (run k empty_state ts) us) at (Deliver body)).answer ≡ Replied new
-    → kept_reply k (run k empty_state ts) new.vehicle number ≡ Some old → number < new.version
+    → kept_reply (run k empty_state ts) new.vehicle number ≡ Some old → number < new.version
 
 -- And what was kept is kept on, the same.
 abbrev pub RepliesStayKept : Type 0
 RepliesStayKept = (k : Rules) (ts us : List Timed) (vehicle : Name) (number : ℕ) (reply : Reply) → AreCommands ts
-    → kept_reply k (run k empty_state ts) vehicle number ≡ Some reply → kept_reply k (run k (run k empty_state ts) us) vehicle number ≡ Some reply
+    → kept_reply (run k empty_state ts) vehicle number ≡ Some reply → kept_reply (run k (run k empty_state ts) us) vehicle number ≡ Some reply

@@ -16,8 +16,8 @@ returns-in-Ok-Already g c inside =
     let k = g.K.Scheme.rules c.args.scheme.now in
     unchanged_on g.D.Store k c.args.catalog.now Already (c.in-Ok-Already.ensures inside) refl (λ s commit. commit)
     (λ s gives.
-    let next = stamped (with_image s c.args.image.now) c.args.at (s.image_version + 1) in
-    when_already (HasRegisterRows k next) s next c.in-Ok-Already.field-0 _ c.in-Ok-Already.field-0-is gives)
+    let next = stamped k (with_image s c.args.image.now) c.args.at (s.image_version + 1) in
+    when_already (HasRegisterRows next) s next c.in-Ok-Already.field-0 _ c.in-Ok-Already.field-0-is gives)
 
 pub returns-in-Ok-New : goal.returns-in-Ok-New
 returns-in-Ok-New g c inside =
@@ -26,8 +26,8 @@ returns-in-Ok-New g c inside =
     let rows = c.in-Ok-New.rows in
     put_on g.D.Store k c.args.catalog.now (image_writes image rows) (λ _. FitsFounding rows.founding) (IsNewImage image rows) (λ all. with_image_rows all image rows) Done (c.in-Ok-New.ensures inside) refl c.forget.ensures
     (λ s sound gives.
-    let next = stamped (with_image s image) c.args.at (s.image_version + 1) in
-    let it = when_new (HasRegisterRows k next) s next c.in-Ok-New.field-0 rows (decide_image s c.args.at image) c.in-Ok-New.field-0-is gives in
+    let next = stamped k (with_image s image) c.args.at (s.image_version + 1) in
+    let it = when_new (HasRegisterRows next) s next c.in-Ok-New.field-0 rows (decide_image k s c.args.at image) c.in-Ok-New.field-0-is gives in
     record { next = next; computed_is = it.0; commit = tt; write = image_fits k s c.args.at image rows sound c.images_are_added.ensures.images c.images_are_added.ensures.new it })
     c.put_image.result c.put_of.ensures inside (λ within. of_made g.D.Store (c.put_image.ensures within)) (λ all lists fits. fits)
 

@@ -15,7 +15,7 @@ returns-in-Ok g c inside =
     let rows = c.in-Ok.rows in
     put_on g.D.Store k c.args.catalog.now (register_writes rows) (λ _. FitsFounding rows.founding) (IsSameRoot rows) (λ all. with_register_rows all rows) Done (c.in-Ok.ensures inside) refl c.forget.ensures
     (λ s sound gives. record {
-      next = stamped s c.args.at c.args.version;
+      next = stamped k s c.args.at c.args.version;
       computed_is = gives.0;
       commit = tt;
       write = refreshing_fits k s c.args.at c.args.version rows sound c.images_are_added.ensures.files gives;

@@ -14,9 +14,9 @@ returns-in-Ok-make_root_rows g c inside =
     let k = g.K.Scheme.rules c.args.scheme.now in
     let keys = c.args.keys.now in
     let rows = c.in-Ok-make_root_rows.rows in
-    let next = λ (s : State) (at : ℕ). stamped (with_root s at keys) at 1 in
+    let next = λ (s : State) (at : ℕ). stamped k (with_root k s at keys) at 1 in
     decides_on G (then_on G (then_on G (none_on G inside) (rows_on G _ (λ j s x is. is) c.in-Ok.ensures)) c.in-Ok-make_root_rows.ensures) k refl (Ok rows) (λ s. never_found k s c.args.at keys) (λ s r h. h)
-    (λ s sound _ found. subst (λ (at : ℕ). IsDone (HasRootRows k (next s at)) (next s at) rows (decide_found k s at keys)) c.moment-at.ensures.value
+    (λ s sound _ found. subst (λ (at : ℕ). IsDone (HasRootRows (next s at)) (next s at) rows (decide_found k s at keys)) c.moment-at.ensures.value
     (let due = c.in-Ok-decide_found.ensures.decided s found.0.1 in (due.0, found.1 (next s c.moment-at.result) due.1 refl)))
 
 pub returns-in-Ok-decide_found : goal.returns-in-Ok-decide_found

@@ -16,7 +16,7 @@ returns-in-Ok g c inside =
     let rows = c.in-Ok.rows in
     put_on g.D.Store k c.args.catalog.now (root_writes rows) (λ _. FitsFounding rows.founding) (IsNextRoot rows) (λ all. with_root_rows all rows) Done (c.in-Ok.ensures inside) refl c.forget.ensures
     (λ s sound gives. record {
-      next = stamped (with_root s c.args.at keys) c.args.at (s.image_version + 1);
+      next = stamped k (with_root k s c.args.at keys) c.args.at (s.image_version + 1);
       computed_is = gives.0;
       commit = tt;
       write = rotation_fits k s c.args.at keys rows sound c.roots_are_added.ensures gives;
