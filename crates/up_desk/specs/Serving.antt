@@ -43,7 +43,7 @@ abbrev pub IsAnswered : Answer → State → State → Outcome → Type 0
 IsAnswered a old new o = MatchBool (is_failed a) (new ≡ old) ((a ≡ o.answer) × (new ≡ o.next))
 
 -- each reply that was kept is kept on, the same
-abbrev pub RepliesStay : Rules → State → State → Type 0
+abbrev pub RepliesStay : State → State → Type 0
 RepliesStay old new = (vehicle : Name) (number : ℕ) (reply : Reply) → kept_reply old vehicle number ≡ Some reply
     → kept_reply new vehicle number ≡ Some reply
 

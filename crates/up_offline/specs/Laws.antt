@@ -133,9 +133,9 @@ abbrev pub FilesAreTodays : Type 0
 FilesAreTodays = (k : Rules) (m : MetadataSet) (keys : KeySet) (targets : List Target) → m.keys ≡ today.keys_of m.repository keys
     → role_texts k m (made_targets k m targets) ≡ today.role_texts k (of_today m keys targets)
 
--- a root version of the keys `keys`, behind one of the keys of `before`, or the first
+-- a root version of the keys `keys`, behind one of the keys `before`, or the first
 abbrev pub RootsAreTodays : Type 0
-RootsAreTodays = (k : Rules) (repository : Repository) (at : ℕ) (keys : today.Root) (before : Option today.Root) (chain : Chain) → keys.at ≡ at
+RootsAreTodays = (k : Rules) (repository : Repository) (at : ℕ) (keys : today.Root) (before : Option KeySet) (chain : Chain) → keys.at ≡ at
     → chain.keys.root.keys ≡ today.root_secrets repository before
     → root_text k repository at (today.keys_of repository keys.keys) chain ≡ today.root_text k repository (root_number chain + 1) keys before
 

@@ -1,14 +1,12 @@
 -- The state: what was published is kept as it was published. No part of it depends on the scheme.
 use Rattle.std.specs.Prelude.{ℕ, ◌==◌, List, Bool, Option, is_some, length}
-use Rattle.up_canon.specs.Names.{Name, Table}
-use Rattle.up_plan.specs.declared.assigned.Plan.{Plan}
+use Rattle.up_canon.specs.Names.{Table}
 use Rattle.up_plan.specs.Campaigns.{CampaignData}
 use Rattle.up_plan.specs.Images.{ImageData}
 use Rattle.up_metadata.specs.declared.keys.RoleSecrets.{RoleSecrets}
-use Rattle.up_metadata.specs.declared.keys.RepoKeys.{RepoKeys}
 use Rattle.up_metadata.specs.declared.role_files.RoleTexts.{RoleTexts}
-use Rattle.up_machine.specs.declared.vehicle.NewEcu.{NewEcu}
-use Rattle.up_machine.specs.State.{nth}
+pub use Rattle.up_machine.specs.State.{Chain}
+use Rattle.up_machine.specs.State.{Vehicle, last_text}
 
 -- ---- keys
 
@@ -16,26 +14,6 @@ abbrev pub is_offline : RoleSecrets → Bool
 is_offline role = length role.keys == 0
 
 -- ---- the state
-
--- a repository: the texts of its root versions, the i-th that of version i, and the secrets of the last one's roles for which the server signs
-pub record Chain : Type 0 where
-  pub texts : List (List ℕ)
-  pub keys : RepoKeys
-
--- an accepted manifest: as today, with the text of the reply
-pub record Entry : Type 0 where
-  pub counter : ℕ
-  pub signed : List ℕ
-  pub at : ℕ
-  pub root : ℕ
-  pub plan : Plan
-  pub reply : List ℕ
-
-pub record Vehicle : Type 0 where
-  pub primary : Name
-  pub ecus : List NewEcu
-  pub retired : List Name
-  pub entries : List Entry
 
 -- the image repository's version is that of its Snapshot and its Timestamp, which were made at the stamp; its Targets have a version of their own
 pub record State : Type 0 where
@@ -59,4 +37,4 @@ root_number chain = length chain.texts
 
 -- the text of the last one; none before founding
 abbrev pub last_root : Chain → Option (List ℕ)
-last_root chain = nth chain.texts (root_number chain)
+last_root chain = last_text chain.texts

@@ -18,7 +18,7 @@ use Rattle.up_store.specs.Listing.{ListsRows}
 use Rattle.up_records.specs.Connected.{BlamesDisk, GivesOrFails, SeesSame, is_fault}
 
 -- as the transaction sees them, the tables list the rows of the state
-abbrev pub SeesState : Rules → State → Connected → Type 0
+abbrev pub SeesState : State → Connected → Type 0
 SeesState s = IsWithin up_schema (ListsRows (rows_of_state s))
 
 -- the transaction goes on, and sees what it saw, on a connection that is open if it was

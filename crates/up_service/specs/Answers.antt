@@ -26,7 +26,7 @@ abbrev pub answered_as : (Answer → List ℕ) → Rules → State → ℕ → C
 answered_as tell k s at command = let o = serve k s at command in record { text = tell o.answer; called = Some o.answer; next = o.next }
 
 -- what a crash may leave then beside what it could leave before: the next state, if a command was called
-abbrev pub HoldsNext : Rules → Option Answer → State → Trees → Type 0
+abbrev pub HoldsNext : Option Answer → State → Trees → Type 0
 HoldsNext (Some answer) next = HoldsState next
 HoldsNext None next = λ trees. ⊥
 
