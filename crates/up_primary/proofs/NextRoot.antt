@@ -157,24 +157,24 @@ expires_in_time k Director i root h = year_later root.at h
 expires_in_time k Image i root h = year_later root.at h
 
 pub root_read : (k : Rules) → Known k → (repository : Repository) (i : ℕ) (root before : Root) → IsRoot k repository i root → repository_fits k (keys_of repository before.keys) ≡ true
-    → length (root_text k repository i root (Some before)) ≤ largest_file
-    → root_in (root_text k repository i root (Some before))
-    ≡ Ok (root_file k repository i root, sealed_envelope k (root_signers repository root (Some before)) (text (root_payload (root_file k repository i root))))
+    → length (root_text k repository i root (Some before.keys)) ≤ largest_file
+    → root_in (root_text k repository i root (Some before.keys))
+    ≡ Ok (root_file k repository i root, sealed_envelope k (root_signers repository root (Some before.keys)) (text (root_payload (root_file k repository i root))))
 unfolding root_text
 root_read k known repository i root before is before_fits small =
     let own = (keys_of repository root.keys).root in
     let old = (keys_of repository before.keys).root in
     let old_signs = role_signs k old (roles_fit k (keys_of repository before.keys) before_fits).0 in
     let seal = signers_seal k own old.keys (roles_fit k (keys_of repository root.keys) is.fits).0 (record { fit = secrets_fit k old old_signs; few = (keys_are_few k old old_signs).1 }) in
-    known.roots_read k (root_signers repository root (Some before)) (root_file k repository i root)
+    known.roots_read k (root_signers repository root (Some before.keys)) (root_file k repository i root)
     (record { scheme = known.scheme; fit = seal.fit; some = seal.number.0; few = seal.number.1 })
     (root_file_is_fit k known.scheme known.seals repository i root is.number is.fits) (expires_in_time k repository i root is.moment) is.agree small
 
 pub next_is : (v : Verifier) → Known v.rules → (repository : Repository) (i : ℕ) (root before : Root) → IsRoot v.rules repository (i + 1) root
     → repository_fits v.rules (keys_of repository before.keys) ≡ true
     → ReadRoles v (keys_of repository root.keys) → ReadRoles v (keys_of repository before.keys)
-    → length (root_text v.rules repository (i + 1) root (Some before)) ≤ largest_file
-    → next_root v repository (root_file v.rules repository i before) (root_text v.rules repository (i + 1) root (Some before)) ≡ Ok (root_file v.rules repository (i + 1) root)
+    → length (root_text v.rules repository (i + 1) root (Some before.keys)) ≤ largest_file
+    → next_root v repository (root_file v.rules repository i before) (root_text v.rules repository (i + 1) root (Some before.keys)) ≡ Ok (root_file v.rules repository (i + 1) root)
 unfolding next_root
 next_is v known repository i root before is before_fits reads reads_before small =
     let own = (keys_of repository root.keys).root in
@@ -184,6 +184,6 @@ next_is v known repository i root before is before_fits reads reads_before small
     (pass _ _ _ _ (same_one repository)
     (pass _ _ _ _ (eq-eqb (i + 1) (i + 1) refl)
     (pass _ _ _ _ (all_known v repository (i + 1) root reads)
-    (pass _ _ _ _ (sealed_for v known old (root_signers repository root (Some before)) signed (roles_fit v.rules (keys_of repository before.keys) before_fits).0 reads_before.root (among_old own.keys old.keys old.keys (among_itself old.keys)))
-    (pass _ _ _ _ (sealed_for v known own (root_signers repository root (Some before)) signed (roles_fit v.rules (keys_of repository root.keys) is.fits).0 reads.root (among_own own.keys _))
+    (pass _ _ _ _ (sealed_for v known old (root_signers repository root (Some before.keys)) signed (roles_fit v.rules (keys_of repository before.keys) before_fits).0 reads_before.root (among_old own.keys old.keys old.keys (among_itself old.keys)))
+    (pass _ _ _ _ (sealed_for v known own (root_signers repository root (Some before.keys)) signed (roles_fit v.rules (keys_of repository root.keys) is.fits).0 reads.root (among_own own.keys _))
     refl)))))

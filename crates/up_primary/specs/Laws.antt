@@ -67,7 +67,7 @@ ImageVersionsRise = (k : Rules) (s : State) (ts : List Timed) → IsTrue (is_fou
 
 -- a Primary that follows a state follows each later one
 abbrev pub FollowingLasts : Type 0
-FollowingLasts = (k : Rules) (s : State) (roots : List Root) (ts : List Timed) (p : Primary) → Follows k s roots p → Follows k (run k s ts) (roots ++ roots_of k s ts) p
+FollowingLasts = (k : Rules) (s : State) (roots : List Root) (ts : List Timed) (p : Primary) → IsMade k s roots → Follows k s roots p → Follows k (run k s ts) (roots ++ roots_of k s ts) p
 
 -- what is served is accepted: what is assigned is to be installed, and the Primary follows the state
 pub record IsTaken (v : Verifier) (s : State) (roots : List Root) (number : ℕ) (e : Entry) (root : Root) (now : ℕ) (p : Primary) : Type 0 where
