@@ -1,6 +1,6 @@
 -- Whatever reply comes of what the machine serves, accepted or not, the Primary follows the state behind it.
 use Rattle.std.proofs.Common.{◌≡◌, ℕ, ◌≤◌, true, List, [], ◌∷◌, Some, None, Result, Ok, Err, ◌⊎◌, inl, inr, refl, sym, ap, ◌∙◌, subst, arith}
-use Rattle.std.specs.Prelude.{◌==◌, ◌&&◌, length}
+use Rattle.std.specs.Prelude.{◌==◌, ◌&&◌, is_some}
 use Rattle.std.specs.FinMap as table
 use Rattle.std.specs.Cmp.Lexicographic.{bytes_decides}
 use Rattle.std.proofs.lemmas.Bool.{and_parts, eqb-true}
@@ -19,10 +19,12 @@ use Rattle.up_roles.specs.Laws.{RootsAreRead}
 use Rattle.up_roles.specs.Snapshot.{snapshot_in}
 use Rattle.up_roles.specs.Targets.{targets_in}
 use Rattle.up_roles.specs.Timestamp.{timestamp_in}
+use Rattle.up_metadata.specs.declared.role_files.RoleTexts.{RoleTexts}
 use Rattle.up_metadata.specs.Files.{Root, MetadataSet, role_texts}
 use Rattle.up_machine.specs.Files.{image_metadata}
+use Rattle.up_machine.specs.Made.{IsMade}
 use Rattle.up_machine.specs.Sound.{IsSound}
-use Rattle.up_machine.specs.State.{Entry, Vehicle, State, nth, root_at, version}
+use Rattle.up_machine.specs.State.{Entry, Vehicle, State, nth, is_founded, version}
 use Rattle.up_laws.specs.Plans.{HasOwnPlans}
 use Rattle.up_laws.specs.Readings.{AreReadAgain}
 use Rattle.up_laws.specs.Typed.{IsTyped}
@@ -148,55 +150,56 @@ pub record Reading : Type 0 where
   pub small : RootsAreSmall
 
 -- what is known of every state on the way
-pub record Stands (k : Rules) (s : State) : Type 0 where
+pub record Stands (k : Rules) (s : State) (roots : List Root) : Type 0 where
+  pub made : IsMade k s roots
   pub sound : IsSound k s
   pub typed : IsTyped s
   pub own : HasOwnPlans s
 
 -- it is the same vehicle's, and follows
-abbrev pub Stays : Rules → State → Primary → Primary → Type 0
-Stays k s p next = (next.vehicle ≡ p.vehicle) × Follows k s next
+abbrev pub Stays : Rules → State → List Root → Primary → Primary → Type 0
+Stays k s roots p next = (next.vehicle ≡ p.vehicle) × Follows k s roots next
 
-refused : (k : Rules) (s : State) (p : Primary) (df if_ : Followed) → Follows k s p → Reached k s Director p.director df → Reached k s Image p.image if_ → Follows k s (record p { director = df.trust; image = if_.trust })
-refused k s p df if_ f d i = record {
-  director = follows_reached k s Director p.director df df.trust d refl;
-  image = follows_reached k s Image p.image if_ if_.trust i refl;
+refused : (k : Rules) (s : State) (roots : List Root) (p : Primary) (df if_ : Followed) → Follows k s roots p → Reached k roots Director p.director df → Reached k roots Image p.image if_ → Follows k s roots (record p { director = df.trust; image = if_.trust })
+refused k s roots p df if_ f d i = record {
+  director = follows_reached k roots Director p.director df df.trust d refl;
+  image = follows_reached k roots Image p.image if_ if_.trust i refl;
   owner = f.owner;
   known = f.known;
   director_versions = d.keeps (version f.owner.entries) f.director_versions;
   image_versions = i.keeps s.image_version f.image_versions;
 }
 
-with_image : Reading → (v : Verifier) (s : State) (now : ℕ) (last : Root) (p next : Primary) (served : Served) → IsScheme v.rules → Stands v.rules s → root_at s (length s.roots) ≡ Some last
-    → served.image ≡ role_texts v.rules (image_metadata s last) → (f : Follows v.rules s p) → Reached v.rules s Image p.image (follow v Image p.image served.image_roots)
-    → next.vehicle ≡ p.vehicle → FollowsRoot v.rules s Director next.director → AreUpTo (version f.owner.entries) next.director.versions → (next.image ≡ p.image) ⊎ Verified v now p served next.image
-    → Follows v.rules s next
-with_image reading v s now last p next served law stands there texts f i own d dv (inl same) = record {
+with_image : Reading → (v : Verifier) (s : State) (roots : List Root) (now : ℕ) (p next : Primary) (served : Served) → IsScheme v.rules → Stands v.rules s roots → is_founded s ≡ true
+    → served.image ≡ role_texts v.rules (image_metadata s) → (f : Follows v.rules s roots p) → Reached v.rules roots Image p.image (follow v Image p.image served.image_roots)
+    → next.vehicle ≡ p.vehicle → FollowsRoot v.rules roots Director next.director → AreUpTo (version f.owner.entries) next.director.versions → (next.image ≡ p.image) ⊎ Verified v now p served next.image
+    → Follows v.rules s roots next
+with_image reading v s roots now p next served law stands there texts f i own d dv (inl same) = record {
   director = d;
-  image = subst (λ (t : Trust). FollowsRoot v.rules s Image t) (sym same) f.image;
+  image = subst (λ (t : Trust). FollowsRoot v.rules roots Image t) (sym same) f.image;
   owner = f.owner;
   known = ap (table.get s.vehicles) own ∙ f.known;
   director_versions = dv;
   image_versions = subst (λ (t : Trust). AreUpTo s.image_version t.versions) (sym same) f.image_versions;
 }
-with_image reading v s now last p next served law stands there texts f i own d dv (inr is) =
+with_image reading v s roots now p next served law stands there texts f i own d dv (inr is) =
     let reached : (follow v Image p.image served.image_roots).trust ≡ is.image = latest_ok now (follow v Image p.image served.image_roots) is.image (of_file_ok Image _ (latest now (follow v Image p.image served.image_roots)) is.image is.latest) in
-    let files : check_files v (asks now) is.image (role_texts v.rules (image_metadata s last)) ≡ Ok is.checked = ap (check_files v (asks now) is.image) (sym texts) ∙ is.files in
-    let versions : is.checked.versions ≡ all_of s.image_version = versions_are v (asks now) is.image (image_metadata s last) is.checked (reading.images_read v.rules s last law stands.sound stands.typed there) files in
+    let files : check_files v (asks now) is.image (role_texts v.rules (image_metadata s)) ≡ Ok is.checked = ap (check_files v (asks now) is.image) (sym texts) ∙ is.files in
+    let versions : is.checked.versions ≡ all_of s.image_version = versions_are v (asks now) is.image (image_metadata s) is.checked (reading.images_read v.rules s law stands.sound stands.typed there) files in
     record {
       director = d;
-      image = follows_reached v.rules s Image p.image (follow v Image p.image served.image_roots) next.image i (ap (λ (t : Trust). t.root) is.is ∙ sym (ap (λ (t : Trust). t.root) reached));
+      image = follows_reached v.rules roots Image p.image (follow v Image p.image served.image_roots) next.image i (ap (λ (t : Trust). t.root) is.is ∙ sym (ap (λ (t : Trust). t.root) reached));
       owner = f.owner;
       known = ap (table.get s.vehicles) own ∙ f.known;
       director_versions = dv;
       image_versions = subst (λ (t : Trust). AreUpTo s.image_version t.versions) (sym is.is) (subst (AreUpTo s.image_version) (sym versions) (all_up_to s.image_version s.image_version (omega arith)));
     }
 
-accepted : Reading → (v : Verifier) (s : State) (now : ℕ) (last : Root) (p : Primary) (served : Served) (result : Accepted) → IsScheme v.rules → Stands v.rules s → root_at s (length s.roots) ≡ Some last
-    → served.image ≡ role_texts v.rules (image_metadata s last) → (owner : Vehicle) (e : Entry) → table.get s.vehicles served.reply.vehicle ≡ Some owner → nth owner.entries served.reply.version ≡ Some e
-    → Follows v.rules s p → Reached v.rules s Director p.director (follow v Director p.director served.director_roots) → Reached v.rules s Image p.image (follow v Image p.image served.image_roots)
-    → verify v now p served ≡ Ok result → Stays v.rules s p result.next
-accepted reading v s now last p served result law stands there texts owner e is_known is_there f d i h =
+accepted : Reading → (v : Verifier) (s : State) (roots : List Root) (now : ℕ) (p : Primary) (served : Served) (result : Accepted) → IsScheme v.rules → Stands v.rules s roots → is_founded s ≡ true
+    → served.image ≡ role_texts v.rules (image_metadata s) → (owner : Vehicle) (e : Entry) → table.get s.vehicles served.reply.vehicle ≡ Some owner → nth owner.entries served.reply.version ≡ Some e
+    → Follows v.rules s roots p → Reached v.rules roots Director p.director (follow v Director p.director served.director_roots) → Reached v.rules roots Image p.image (follow v Image p.image served.image_roots)
+    → verify v now p served ≡ Ok result → Stays v.rules s roots p result.next
+accepted reading v s roots now p served result law stands there texts owner e is_known is_there f d i h =
     let is = accepted_is v now p served result h in
     let reached : (follow v Director p.director served.director_roots).trust ≡ is.director = latest_ok now (follow v Director p.director served.director_roots) is.director (of_file_ok Director _ (latest now (follow v Director p.director served.director_roots)) is.director is.latest) in
     let parts = reply_parts v now p.vehicle is.director served.reply is.checked is.reply in
@@ -207,20 +210,20 @@ accepted reading v s now last p served result law stands there texts owner e is_
     let versions : AreUpTo (version f.owner.entries) result.next.director.versions =
     subst (λ (t : Trust). AreUpTo (version f.owner.entries) t.versions) (sym is.is.of_director) (up_to_version served.reply.version (version f.owner.entries) is.checked.versions high parts.1) in (
       is.is.own,
-      with_image reading v s now last p result.next served law stands there texts f i is.is.own (follows_reached v.rules s Director p.director (follow v Director p.director served.director_roots) result.next.director d root_is) versions is.is.of_image,
+      with_image reading v s roots now p result.next served law stands there texts f i is.is.own (follows_reached v.rules roots Director p.director (follow v Director p.director served.director_roots) result.next.director d root_is) versions is.is.of_image,
     )
 
-pub follow_after : Reading → (v : Verifier) (s : State) (now number : ℕ) (vehicle : Name) (e : Entry) (root last : Root) (p : Primary) → IsScheme v.rules → Stands v.rules s → KeysAgree v.rules s → KnowsKeys v s
-    → Follows v.rules s p → (owner : Vehicle) → table.get s.vehicles vehicle ≡ Some owner → nth owner.entries number ≡ Some e → root_at s (length s.roots) ≡ Some last
-    → Stays v.rules s p (after v p (served_in v.rules s last p (reply_for v.rules s vehicle number e root)) (verify v now p (served_in v.rules s last p (reply_for v.rules s vehicle number e root))))
-follow_after reading v s now number vehicle e root last p law stands agree knows f owner is_known is_there there =
-    let served : Served = served_in v.rules s last p (reply_for v.rules s vehicle number e root) in
+pub follow_after : Reading → (v : Verifier) (s : State) (roots : List Root) (files : RoleTexts) (now number : ℕ) (vehicle : Name) (e : Entry) (root : Root) (p : Primary) → IsScheme v.rules → Stands v.rules s roots
+    → KeysAgree v.rules roots → KnowsKeys v roots → Follows v.rules s roots p → (owner : Vehicle) → table.get s.vehicles vehicle ≡ Some owner → nth owner.entries number ≡ Some e → s.files ≡ Some files
+    → Stays v.rules s roots p (after v p (served_in s files p (reply_for v.rules s vehicle number e root)) (verify v now p (served_in s files p (reply_for v.rules s vehicle number e root))))
+follow_after reading v s roots files now number vehicle e root p law stands agree knows f owner is_known is_there there =
+    let served : Served = served_in s files p (reply_for v.rules s vehicle number e root) in
     let known : Known v.rules = record { scheme = law; seals = reading.seals; accepts = reading.accepts; roots_read = reading.roots_read } in
-    let d = roots_reached v known s Director (serves_roots reading.small v s Director law stands.sound agree knows) p.director p.director.root.version f.director.root f.director.there f.director.is in
-    let i = roots_reached v known s Image (serves_roots reading.small v s Image law stands.sound agree knows) p.image p.image.root.version f.image.root f.image.there f.image.is in
-    by_result served d i (verify v now p served) refl (λ result h. accepted reading v s now last p served result law stands there refl owner e is_known is_there f d i h)
+    let d = roots_reached v known s roots Director (serves_roots reading.small v s roots Director law stands.sound stands.made agree knows) p.director p.director.root.version f.director.root f.director.there f.director.is in
+    let i = roots_reached v known s roots Image (serves_roots reading.small v s roots Image law stands.sound stands.made agree knows) p.image p.image.root.version f.image.root f.image.there f.image.is in
+    by_result served d i (verify v now p served) refl (λ result h. accepted reading v s roots now p served result law stands (ap is_some there) (stands.made.files files there) owner e is_known is_there f d i h)
   where
-    by_result : (served : Served) → Reached v.rules s Director p.director (follow v Director p.director served.director_roots) → Reached v.rules s Image p.image (follow v Image p.image served.image_roots)
-        → (r : Result Accepted Refused) → verify v now p served ≡ r → ((result : Accepted) → verify v now p served ≡ Ok result → Stays v.rules s p result.next) → Stays v.rules s p (after v p served r)
-    by_result served d i (Err fault) h more = (refl, refused v.rules s p (follow v Director p.director served.director_roots) (follow v Image p.image served.image_roots) f d i)
+    by_result : (served : Served) → Reached v.rules roots Director p.director (follow v Director p.director served.director_roots) → Reached v.rules roots Image p.image (follow v Image p.image served.image_roots)
+        → (r : Result Accepted Refused) → verify v now p served ≡ r → ((result : Accepted) → verify v now p served ≡ Ok result → Stays v.rules s roots p result.next) → Stays v.rules s roots p (after v p served r)
+    by_result served d i (Err fault) h more = (refl, refused v.rules s roots p (follow v Director p.director served.director_roots) (follow v Image p.image served.image_roots) f d i)
     by_result served d i (Ok result) h more = more result h

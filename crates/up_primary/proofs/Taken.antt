@@ -1,6 +1,6 @@
 -- What the machine serves is accepted.
 use Rattle.std.proofs.Common.{◌≡◌, ℕ, ◌+◌, ◌<◌, ◌≤◌, List, [], ◌∷◌, Bool, true, Option, Some, None, Ok, Err, map, refl, sym, ap, ◌∙◌, subst, arith}
-use Rattle.std.specs.Prelude.{◌&&◌, ◌||◌, ◌==◌, length, bytes_eq, filter_map, option_map, nat_le, if◌then◌else◌}
+use Rattle.std.specs.Prelude.{◌&&◌, ◌||◌, ◌==◌, length, bytes_eq, filter_map, option_map, is_some, nat_le, if◌then◌else◌}
 use Rattle.std.specs.List.{AllByRecursion, list_any, cons_option}
 use Rattle.std.specs.FinMap as table
 use Rattle.std.specs.Cmp.Lexicographic.{pointwise}
@@ -22,8 +22,10 @@ use Rattle.up_roles.specs.declared.targets.TargetsFile.{TargetsFile}
 use Rattle.up_roles.specs.Laws.{RootsAreRead}
 use Rattle.up_plan.specs.declared.assigned.Assigned.{Assigned}
 use Rattle.up_plan.specs.Images.{ImageData}
+use Rattle.up_metadata.specs.declared.keys.KeySet.{KeySet}
+use Rattle.up_metadata.specs.declared.role_files.RoleTexts.{RoleTexts}
 use Rattle.up_metadata.specs.Files.{Root, keys_of, root_file, targets_file, role_texts}
-use Rattle.up_machine.specs.State.{Entry, Vehicle, State, root_at, version}
+use Rattle.up_machine.specs.State.{Entry, Vehicle, State, nth, key_set, root_number, version}
 use Rattle.up_machine.specs.Files.{image_metadata, target_of}
 use Rattle.up_machine.specs.Replies.{assigned_target, reply_metadata}
 use Rattle.up_machine.proofs.Values.{found_any}
@@ -45,8 +47,10 @@ use Rattle.up_primary.specs.Machine.{reply_for, roots_behind, served_in}
 use Rattle.up_primary.specs.Following.{FollowsRoot, AreUpTo, Follows, Suits}
 use Rattle.up_primary.specs.Laws.{ImageFilesAreReadAgain, RootsAreSmall, RepliesAreTaken}
 use Rattle.up_primary.proofs.ManyRoots.{Reached, roots_reached, number_within}
-use Rattle.up_primary.proofs.NextRoot.{Known, read_roles}
-use Rattle.up_primary.proofs.Serving.{repository_keys_fit, sound_root, serves_roots}
+use Rattle.up_primary.proofs.NextRoot.{Known, ReadRoles, read_roles}
+use Rattle.up_primary.proofs.Serving.{repository_keys_fit, chain_size, sound_root, serves_roots}
+use Rattle.up_machine.proofs.MadeRoots.{last_there}
+use Rattle.up_primary.proofs.Lasting.{founded_with}
 use Rattle.up_primary.proofs.Sets.{all_of, set_checked}
 use Rattle.up_verify.proofs.Steps.{go_ok, pass}
 
@@ -61,11 +65,11 @@ root_expires : (k : Rules) (repository : Repository) (n : ℕ) (root : Root) →
 root_expires k Director n root = refl
 root_expires k Image n root = refl
 
-reached_is : (k : Rules) (s : State) (repository : Repository) (t : Trust) (f : Followed) (root : Root) (now : ℕ) → Reached k s repository t f → root_at s (length s.roots) ≡ Some root
+reached_is : (k : Rules) (roots : List Root) (repository : Repository) (t : Trust) (f : Followed) (root : Root) (now : ℕ) → Reached k roots repository t f → nth roots (length roots) ≡ Some root
     → now < root.at + 31_536_000 → latest now f ≡ Ok f.trust
-reached_is k s repository t f root now r there fresh =
+reached_is k roots repository t f root now r there fresh =
     let same : r.last ≡ root = one_value _ _ _ r.there there in
-    let expires : f.trust.root.expires ≡ root.at + 31_536_000 = ap (λ file. file.expires) r.is ∙ root_expires k repository (length s.roots) r.last ∙ ap (λ (root : Root). root.at + 31_536_000) same in
+    let expires : f.trust.root.expires ≡ root.at + 31_536_000 = ap (λ file. file.expires) r.is ∙ root_expires k repository (length roots) r.last ∙ ap (λ (root : Root). root.at + 31_536_000) same in
     latest_is now f r.whole (omega (arith, fresh, expires))
 
 -- ---- each target
@@ -148,7 +152,7 @@ installs_taken v now p served director image checked targets (t ∷ ts) is_now i
 
 reply_taken : (v : Verifier) (now number : ℕ) (s : State) (vehicle : Name) (t : Trust) (e : Entry) (root : Root) (checked : Checked)
     → e.root ≡ t.root.version
-    → check_files v (record { repository = Director; vehicle = Some vehicle; moment = now }) t (role_texts v.rules (reply_metadata s vehicle number e root)) ≡ Ok checked
+    → check_files v (record { repository = Director; vehicle = Some vehicle; moment = now }) t (role_texts v.rules (reply_metadata s root.keys vehicle number e.at e.plan)) ≡ Ok checked
     → checked.versions ≡ all_of number
     → check_reply v now vehicle t (reply_for v.rules s vehicle number e root) ≡ Ok checked
 unfolding check_reply
@@ -165,13 +169,13 @@ reply_taken v now number s vehicle t e root checked same is versions =
 -- ---- following
 
 -- who reached the last Root trusts it
-pub follows_reached : (k : Rules) (s : State) (repository : Repository) (t : Trust) (f : Followed) (next : Trust) → Reached k s repository t f → next.root ≡ f.trust.root → FollowsRoot k s repository next
-follows_reached k s repository t f next r same =
-    let whole : next.root ≡ root_file k repository (length s.roots) r.last = same ∙ r.is in
-    let number : next.root.version ≡ length s.roots = ap (λ file. file.version) whole in
+pub follows_reached : (k : Rules) (roots : List Root) (repository : Repository) (t : Trust) (f : Followed) (next : Trust) → Reached k roots repository t f → next.root ≡ f.trust.root → FollowsRoot k roots repository next
+follows_reached k roots repository t f next r same =
+    let whole : next.root ≡ root_file k repository (length roots) r.last = same ∙ r.is in
+    let number : next.root.version ≡ length roots = ap (λ file. file.version) whole in
     record {
       root = r.last;
-      there = ap (root_at s) number ∙ r.there;
+      there = ap (nth roots) number ∙ r.there;
       is = whole ∙ ap (λ n. root_file k repository n r.last) (sym number);
     }
 
@@ -179,11 +183,11 @@ pub all_up_to : (n m : ℕ) → n ≤ m → AreUpTo m (all_of n)
 all_up_to n m h = record { timestamp = h; snapshot = h; targets = h }
 
 -- what the Primary follows then
-follows_result : (k : Rules) (s : State) (p : Primary) (targets : TargetsFile) (director image : Trust) (ts : List Target) (number : ℕ) → (f : Follows k s p)
-    → FollowsRoot k s Director director → FollowsRoot k s Image image → AreUpTo (version f.owner.entries) director.versions → AreUpTo s.image_version image.versions
-    → Follows k s (result_of p targets director image ts).next
-follows_result k s p targets director image [] number f d i dv iv = record { director = d; image = f.image; owner = f.owner; known = f.known; director_versions = dv; image_versions = f.image_versions }
-follows_result k s p targets director image (t ∷ ts) number f d i dv iv = record { director = d; image = i; owner = f.owner; known = f.known; director_versions = dv; image_versions = iv }
+follows_result : (k : Rules) (s : State) (roots : List Root) (p : Primary) (targets : TargetsFile) (director image : Trust) (ts : List Target) (number : ℕ) → (f : Follows k s roots p)
+    → FollowsRoot k roots Director director → FollowsRoot k roots Image image → AreUpTo (version f.owner.entries) director.versions → AreUpTo s.image_version image.versions
+    → Follows k s roots (result_of p targets director image ts).next
+follows_result k s roots p targets director image [] number f d i dv iv = record { director = d; image = f.image; owner = f.owner; known = f.known; director_versions = dv; image_versions = f.image_versions }
+follows_result k s roots p targets director image (t ∷ ts) number f d i dv iv = record { director = d; image = i; owner = f.owner; known = f.known; director_versions = dv; image_versions = iv }
 
 installs_are : (p : Primary) (targets : TargetsFile) (director image : Trust) (ts : List Target) → (result_of p targets director image ts).installs ≡ ts
 installs_are p targets director image [] = refl
@@ -191,51 +195,61 @@ installs_are p targets director image (t ∷ ts) = refl
 
 -- ---- all of it
 
+is_there : {A : Type 0} (o : Option A) → is_some o ≡ true → (x : A) × (o ≡ Some x)
+is_there None h = cc
+is_there (Some x) h = (x, refl)
+
 pub taken : SealedFits → SealedIsAccepted → RootsAreRead → RepliesAreReadAgain → ImageFilesAreReadAgain → RootsAreSmall → RepliesAreTaken
 unfolding verify
-taken seals accepts roots_read replies_read images_read small v s now number e root p law sound typed own agree f knows at last versions suit fresh =
+taken seals accepts roots_read replies_read images_read small v s roots now number e root p law sound typed own made agree f knows at last versions suit fresh =
     let known : Known v.rules = record { scheme = law; seals = seals; accepts = accepts; roots_read = roots_read } in
-    let there : root_at s (length s.roots) ≡ Some root = ap (root_at s) (sym last) ∙ at.under in
-    let is_root = sound_root v.rules s (length s.roots) root sound there in
-    let d = roots_reached v known s Director (serves_roots small v s Director law sound agree knows) p.director p.director.root.version f.director.root f.director.there f.director.is in
-    let i = roots_reached v known s Image (serves_roots small v s Image law sound agree knows) p.image p.image.root.version f.image.root f.image.there f.image.is in
-    let served = served_in v.rules s root p (reply_for v.rules s p.vehicle number e root) in
-    let df = follow v Director p.director (roots_behind v.rules s Director p.director.root.version) in
-    let if_ = follow v Image p.image (roots_behind v.rules s Image p.image.root.version) in
-    let m = reply_metadata s p.vehicle number e root in
-    let n = image_metadata s root in
-    let director_is : director_now v now p served ≡ Ok df.trust = ap (of_file Director RootRole) (reached_is v.rules s Director p.director df root now d there fresh.roots) in
-    let image_is : image_now v now p served ≡ Ok if_.trust = ap (of_file Image RootRole) (reached_is v.rules s Image p.image if_ root now i there fresh.roots) in
+    let size : root_number s ≡ length roots = chain_size v.rules s roots Director made in
+    let there : nth roots (length roots) ≡ Some root = ap (nth roots) (sym (last ∙ size)) ∙ at.under in
+    let founded = founded_with v.rules s roots e.root root made at.under in
+    let texts = is_there s.files founded in
+    let files : RoleTexts = texts.0 in
+    let is_root = sound_root v.rules s roots (length roots) root made there in
+    let d = roots_reached v known s roots Director (serves_roots small v s roots Director law sound made agree knows) p.director p.director.root.version f.director.root f.director.there f.director.is in
+    let i = roots_reached v known s roots Image (serves_roots small v s roots Image law sound made agree knows) p.image p.image.root.version f.image.root f.image.there f.image.is in
+    let served = served_in s files p (reply_for v.rules s p.vehicle number e root) in
+    let df = follow v Director p.director (roots_behind s Director p.director.root.version) in
+    let if_ = follow v Image p.image (roots_behind s Image p.image.root.version) in
+    let m = reply_metadata s root.keys p.vehicle number e.at e.plan in
+    let n = image_metadata s in
+    let director_is : director_now v now p served ≡ Ok df.trust = ap (of_file Director RootRole) (reached_is v.rules roots Director p.director df root now d there fresh.roots) in
+    let image_is : image_now v now p served ≡ Ok if_.trust = ap (of_file Image RootRole) (reached_is v.rules roots Image p.image if_ root now i there fresh.roots) in
     let d_last : d.last ≡ root = one_value _ _ _ d.there there in
     let i_last : i.last ≡ root = one_value _ _ _ i.there there in
+    let last_one = last_there v.rules s roots made founded in
+    let held : root.keys ≡ key_set s = ap (λ (r : Root). r.keys) (one_value _ _ _ there last_one.1) ∙ last_one.2 in
     let day = fresh.image in
     let d_checked : check_files v (record { repository = Director; vehicle = Some p.vehicle; moment = now }) df.trust (role_texts v.rules m) ≡ Ok (record { versions = all_of number; targets = targets_file m }) =
-    set_checked v known m now df.trust (replies_read v.rules s p.vehicle at.owner number e root law sound typed own at.known at.there at.under) (record {
-      number = length s.roots;
+    set_checked v known m now df.trust (replies_read v.rules s roots p.vehicle at.owner number e root law sound typed own made at.known at.there at.under) (record {
+      number = length roots;
       root = root;
       keys = refl;
-      trusted = d.is ∙ ap (root_file v.rules Director (length s.roots)) d_last;
+      trusted = d.is ∙ ap (root_file v.rules Director (length roots)) d_last;
       fits = repository_keys_fit v.rules Director root.keys is_root.keys;
-      reads = read_roles v (keys_of Director root.keys) (knows Director (length s.roots) root there);
+      reads = read_roles v (keys_of Director root.keys) (knows Director (length roots) root there);
       versions = d.keeps number versions;
       targets = fresh.reply;
       snapshot = fresh.reply;
       timestamp = fresh.reply;
     }) in
     let i_checked : check_files v (record { repository = Image; vehicle = None; moment = now }) if_.trust (role_texts v.rules n) ≡ Ok (record { versions = all_of s.image_version; targets = targets_file n }) =
-    set_checked v known n now if_.trust (images_read v.rules s root law sound typed there) (record {
-      number = length s.roots;
+    set_checked v known n now if_.trust (images_read v.rules s law sound typed founded) (record {
+      number = length roots;
       root = root;
-      keys = refl;
-      trusted = i.is ∙ ap (root_file v.rules Image (length s.roots)) i_last;
-      fits = repository_keys_fit v.rules Image root.keys is_root.keys;
-      reads = read_roles v (keys_of Image root.keys) (knows Image (length s.roots) root there);
+      keys = held;
+      trusted = i.is ∙ ap (root_file v.rules Image (length roots)) i_last;
+      fits = repository_keys_fit v.rules Image (key_set s) (sound.repositories.founded founded).keys;
+      reads = subst (λ (keys : KeySet). ReadRoles v (keys_of Image keys)) held (read_roles v (keys_of Image root.keys) (knows Image (length roots) root there));
       versions = i.keeps s.image_version f.image_versions;
       targets = omega (arith, day);
       snapshot = omega (arith, day);
       timestamp = fresh.image;
     }) in
-    let root_number : e.root ≡ df.trust.root.version = last ∙ sym (ap (λ file. file.version) d.is) in
+    let number_is : e.root ≡ df.trust.root.version = last ∙ size ∙ sym (ap (λ file. file.version) d.is) in
     let d_checked_is : Checked = record { versions = all_of number; targets = targets_file m } in
     let i_checked_is : Checked = record { versions = all_of s.image_version; targets = targets_file n } in
     let director = trusting df.trust d_checked_is in
@@ -244,12 +258,14 @@ taken seals accepts roots_read replies_read images_read small v s now number e r
     let within = number_within at.owner.entries number e at.there in
     let high : number ≤ version f.owner.entries = subst (λ (w : Vehicle). number ≤ version w.entries) owner within in
     record {
+      files = files;
+      served = texts.1;
       result = result_of p (targets_file m) director image m.targets;
       is =
           go_ok _ _ df.trust _ director_is
-          (go_ok _ _ d_checked_is _ (reply_taken v now number s p.vehicle df.trust e root d_checked_is root_number d_checked refl)
-          (installs_taken v now p served director if_.trust i_checked_is (targets_file m) m.targets image_is i_checked (recursion_from_All (Suits p.ecus) m.targets suit) (each_among s e.plan.assigned)));
+          (go_ok _ _ d_checked_is _ (reply_taken v now number s p.vehicle df.trust e root d_checked_is number_is d_checked refl)
+          (installs_taken v now p served director if_.trust i_checked_is (targets_file m) m.targets image_is (ap (check_files v (record { repository = Image; vehicle = None; moment = now }) if_.trust) (made.files files texts.1) ∙ i_checked) (recursion_from_All (Suits p.ecus) m.targets suit) (each_among s e.plan.assigned)));
       installs = installs_are p (targets_file m) director image m.targets;
-      follows = follows_result v.rules s p (targets_file m) director image m.targets number f (follows_reached v.rules s Director p.director df director d refl) (follows_reached v.rules s Image p.image if_ image i refl)
+      follows = follows_result v.rules s roots p (targets_file m) director image m.targets number f (follows_reached v.rules roots Director p.director df director d refl) (follows_reached v.rules roots Image p.image if_ image i refl)
           (all_up_to number (version f.owner.entries) high) (all_up_to s.image_version s.image_version (omega arith));
     }
