@@ -16,6 +16,7 @@ use Rattle.up_metadata.specs.declared.role_files.RoleTexts.{RoleTexts}
 use Rattle.up_metadata.specs.Files.{root_file}
 use Rattle.up_machine.specs.State.{Entry, Vehicle, empty_state, nth}
 use Rattle.up_machine.specs.Machine.{run}
+use Rattle.up_machine.specs.Made.{roots_of}
 use Rattle.up_verify.specs.declared.trust.Trust.{Trust}
 use Rattle.up_verify.specs.declared.trust.Primary.{Primary}
 use Rattle.up_verify.specs.declared.served.Reply.{Reply}
@@ -121,6 +122,7 @@ accepted_parts v now p served result h = first_ok _ _ _ _ h (λ director latest 
 pub fresh : Formats → Keeping → DirectorIsFresh
 fresh formats keeping v ts stolen now p served result law given agree unforged unforged_timestamp follows safe safe_timestamps h =
     let s = run v.rules empty_state ts in
+    let roots = roots_of v.rules empty_state ts in
     let made = heard formats keeping v ts stolen now p served result law given agree unforged follows safe h in
     let is = accepted_parts v now p served result h in
     let timely = is.one.is in
@@ -128,7 +130,7 @@ fresh formats keeping v ts stolen now p served result law given agree unforged u
     let newer = served.director_roots in
     let reached = true_roots v ts Director stolen p.director.root.version all newer p.director unforged.each_root (omega arith) follows in
     let same : (follow v Director p.director newer).trust ≡ is.director = latest_ok now (follow v Director p.director newer) is.director (of_file_ok Director _ (latest now (follow v Director p.director newer)) is.director is.latest) in
-    let f : FollowsRoot v.rules s Director is.director = subst (λ (t : Trust). FollowsRoot v.rules s Director t) same reached.0 in
+    let f : FollowsRoot v.rules roots Director is.director = subst (λ (t : Trust). FollowsRoot v.rules roots Director t) same reached.0 in
     let from : p.director.root.version ≤ is.director.root.version = subst (λ (t : Trust). p.director.root.version ≤ t.root.version) same reached.1 in
     let root = root_file v.rules Director is.director.root.version f.root in
     let signed : is_signed_for v root.timestamp timely.envelope ≡ true = ap (λ (r : RootFile). is_signed_for v r.timestamp timely.envelope) (sym f.is) ∙ timely.signed in
@@ -136,12 +138,13 @@ fresh formats keeping v ts stolen now p served result law given agree unforged u
     timely.envelope (enveloped MeansTimestamp timestamp_in formats.meaning.timestamp served.reply.files.timestamp is.one.file timely.envelope timely.read) signed in
     let way = on_the_way keeping v.rules ts was.0 was.1 law given agree was.2 in
     let earlier = run v.rules empty_state was.0 in
-    elim (timestamp_from formats v.rules earlier way.facts served.reply.files.timestamp is.one.file timely.envelope timely.read was.3) [
+    elim (timestamp_from formats v.rules earlier (roots_of v.rules empty_state was.0) way.facts served.reply.files.timestamp is.one.file timely.envelope timely.read was.3) [
       | inl image ↦ absurd (apart (sym (ap (λ (file : TimestampFile). file.repository) image.is) ∙ timely.repository))
       | inr reply ↦
           let of : reply.vehicle ≡ p.vehicle = same_some (sym (ap (λ (file : TimestampFile). file.vehicle) reply.is) ∙ timely.vehicle) in
-          let at : IsEntryAt s p.vehicle reply.number reply.e reply.root =
-          subst (λ (name : Name). IsEntryAt s name reply.number reply.e reply.root) of (entry_stays earlier s reply.vehicle reply.number reply.e reply.root way.later reply.at) in
+          let at : IsEntryAt s roots p.vehicle reply.number reply.e reply.root =
+          subst (λ (name : Name). IsEntryAt s roots name reply.number reply.e reply.root) of
+          (entry_stays earlier s (roots_of v.rules empty_state was.0) roots way.more reply.vehicle reply.number reply.e reply.root way.later way.grown reply.at) in
           let number : reply.number ≡ made.0 = sym (ap (λ (file : TimestampFile). file.version) reply.is) ∙ is.one.version ∙ ap (λ (file : TargetsFile). file.version) made.4 in
           let owner : at.owner ≡ made.3.owner = one_value _ _ _ at.known made.3.known in
           let there : nth made.3.owner.entries made.0 ≡ Some reply.e = sym (ap (λ n. nth made.3.owner.entries n) number) ∙ (sym (ap (λ (w : Vehicle). nth w.entries reply.number) owner) ∙ at.there) in

@@ -17,6 +17,7 @@ use Rattle.up_metadata.specs.declared.role_files.RoleTexts.{RoleTexts}
 use Rattle.up_metadata.specs.Files.{root_file}
 use Rattle.up_machine.specs.State.{empty_state}
 use Rattle.up_machine.specs.Machine.{run}
+use Rattle.up_machine.specs.Made.{roots_of}
 use Rattle.up_verify.specs.declared.asked.Asked.{Asked}
 use Rattle.up_verify.specs.declared.trust.Trust.{Trust}
 use Rattle.up_verify.specs.declared.trust.Primary.{Primary}
@@ -105,13 +106,13 @@ images_fresh formats keeping v ts stolen now p served result law given agree unf
     elim (accepted_parts v now p served result h) [
       | inl none ↦ inl none
       | inr is ↦
-          let s = run v.rules empty_state ts in
+          let roots = roots_of v.rules empty_state ts in
           let timely = is.listed.is in
           let all : Safe v ts Image stolen p.image.root.version = record { formats = formats; keeping = keeping; scheme = law; given = given; agree = agree; safe = safe } in
           let newer = served.image_roots in
           let reached = true_roots v ts Image stolen p.image.root.version all newer p.image unforged.each_root (omega arith) follows in
           let same : (follow v Image p.image newer).trust ≡ is.image = latest_ok now (follow v Image p.image newer) is.image (of_file_ok Image _ (latest now (follow v Image p.image newer)) is.image is.latest) in
-          let f : FollowsRoot v.rules s Image is.image = subst (λ (t : Trust). FollowsRoot v.rules s Image t) same reached.0 in
+          let f : FollowsRoot v.rules roots Image is.image = subst (λ (t : Trust). FollowsRoot v.rules roots Image t) same reached.0 in
           let from : p.image.root.version ≤ is.image.root.version = subst (λ (t : Trust). p.image.root.version ≤ t.root.version) same reached.1 in
           let root = root_file v.rules Image is.image.root.version f.root in
           let signed : is_signed_for v root.timestamp timely.envelope ≡ true = ap (λ (r : RootFile). is_signed_for v r.timestamp timely.envelope) (sym f.is) ∙ timely.signed in
@@ -119,7 +120,7 @@ images_fresh formats keeping v ts stolen now p served result law given agree unf
           timely.envelope (enveloped MeansTimestamp timestamp_in formats.meaning.timestamp served.image.timestamp is.listed.file timely.envelope timely.read) signed in
           let way = on_the_way keeping v.rules ts was.0 was.1 law given agree was.2 in
           let earlier = run v.rules empty_state was.0 in
-          elim (timestamp_from formats v.rules earlier way.facts served.image.timestamp is.listed.file timely.envelope timely.read was.3) [
+          elim (timestamp_from formats v.rules earlier (roots_of v.rules empty_state was.0) way.facts served.image.timestamp is.listed.file timely.envelope timely.read was.3) [
             | inl image ↦
                 let expires : is.listed.file.expires ≡ earlier.stamp + 86_400 = ap (λ (file : TimestampFile). file.expires) image.is in
                 let late = timely.expires in
@@ -127,8 +128,7 @@ images_fresh formats keeping v ts stolen now p served result law given agree unf
                   earlier = was.0;
                   later = was.1;
                   split = was.2;
-                  root = image.root;
-                  there = image.there;
+                  founded = image.founded;
                   fresh = omega (arith, expires, late);
                   timestamp = ap (λ (t : Trust). t.versions.timestamp) is.next ∙ is.listed.timestamp ∙ ap (λ (file : TimestampFile). file.version) image.is;
                   snapshot = ap (λ (t : Trust). t.versions.snapshot) is.next ∙ is.listed.snapshot ∙ ap (λ (file : TimestampFile). file.snapshot_version) image.is;

@@ -1,5 +1,5 @@
 -- Whatever bytes come, what is accepted is what the machine made for the vehicle, and what is installed is registered.
-use Rattle.std.proofs.Common.{◌≡◌, ℕ, ◌≤◌, List, [], ◌∷◌, true, Option, Some, None, Ok, ◌⊎◌, inl, inr, refl, sym, ap, ◌∙◌, subst, arith}
+use Rattle.std.proofs.Common.{◌≡◌, ℕ, ◌≤◌, List, [], ◌∷◌, ◌++◌, true, Option, Some, None, Ok, ◌⊎◌, inl, inr, refl, sym, ap, ◌∙◌, subst, arith}
 use Rattle.std.specs.Prelude.{filter_map, option_map, IsTrue}
 use Rattle.std.specs.List.{AllByRecursion}
 use Rattle.std.specs.FinMap as table
@@ -24,6 +24,7 @@ use Rattle.up_machine.specs.State.{Entry, State, empty_state, nth}
 use Rattle.up_machine.specs.Files.{target_of}
 use Rattle.up_machine.specs.Laws.{IsLater}
 use Rattle.up_machine.specs.Machine.{run}
+use Rattle.up_machine.specs.Made.{roots_of}
 use Rattle.up_machine.specs.Replies.{assigned_target, reply_metadata}
 use Rattle.up_machine.specs.Sound.{IsGrounded, IsSound}
 use Rattle.up_machine.proofs.Keeping.{nth_at, there}
@@ -44,7 +45,7 @@ use Rattle.up_primary.specs.Forging.{IsEntryAt}
 use Rattle.up_primary.specs.Laws.{DirectorIsHeard}
 use Rattle.up_primary.proofs.Honest.{of_targets, machine_signed}
 use Rattle.up_primary.proofs.Meant.{enveloped}
-use Rattle.up_primary.proofs.Runs.{Keeping, root_stays, on_the_way}
+use Rattle.up_primary.proofs.Runs.{Keeping, still_there, on_the_way}
 use Rattle.up_primary.proofs.SignedTexts.{Formats, targets_from}
 use Rattle.up_primary.proofs.TrueRoots.{unread_ok, same_one, of_file_ok, latest_ok, Safe, true_roots}
 
@@ -149,57 +150,61 @@ targets_stay : (s later : State) (assigned : List Assigned) → IsLater s later 
 targets_stay s later [] is known = refl
 targets_stay s later (a ∷ assigned) is known = rw (target_stays s later a is known.0, targets_stay s later assigned is known.1)
 
-pub entry_stays : (s later : State) (vehicle : Name) (number : ℕ) (e : Entry) (root : Root) → IsLater s later → IsEntryAt s vehicle number e root → IsEntryAt later vehicle number e root
-entry_stays s later vehicle number e root is at =
+pub entry_stays : (s later : State) (roots all more : List Root) (vehicle : Name) (number : ℕ) (e : Entry) (root : Root) → IsLater s later → all ≡ roots ++ more → IsEntryAt s roots vehicle number e root
+    → IsEntryAt later all vehicle number e root
+entry_stays s later roots all more vehicle number e root is grown at =
     let found = is.vehicles vehicle at.owner at.known in
     record {
       owner = found.0;
       known = found.1;
       there = ap (λ es. nth es number) found.2.entries ∙ nth_stays at.owner.entries found.2.more_entries number e at.there;
-      under = root_stays s later e.root root is at.under;
+      under = still_there all roots more grown e.root root at.under;
     }
 
-file_stays : (k : Rules) (s later : State) (vehicle : Name) (number : ℕ) (e : Entry) (root : Root) → IsSound k s → IsLater s later → IsEntryAt s vehicle number e root
-    → targets_file (reply_metadata s vehicle number e root) ≡ targets_file (reply_metadata later vehicle number e root)
-file_stays k s later vehicle number e root sound is at =
+file_stays : (k : Rules) (s later : State) (roots : List Root) (vehicle : Name) (number : ℕ) (e : Entry) (root : Root) → IsSound k s → IsLater s later → IsEntryAt s roots vehicle number e root
+    → targets_file (reply_metadata s root.keys vehicle number e.at e.plan) ≡ targets_file (reply_metadata later root.keys vehicle number e.at e.plan)
+file_stays k s later roots vehicle number e root sound is at =
     let grounded = nth_at (IsGrounded s) at.owner.entries number e (sound.vehicles vehicle at.owner at.known).grounded at.there in
     ap (λ (ts : List Target). with_targets ts) (sym (targets_stay s later e.plan.assigned is grounded.images))
   where
     with_targets : List Target → TargetsFile
-    with_targets ts = record (targets_file (reply_metadata s vehicle number e root)) { targets = ts }
+    with_targets ts = record (targets_file (reply_metadata s root.keys vehicle number e.at e.plan)) { targets = ts }
 
 -- ---- the Director
 
 pub heard : Formats → Keeping → DirectorIsHeard
 heard formats keeping v ts stolen now p served result law given agree unforged follows safe h =
     let s = run v.rules empty_state ts in
+    let roots = roots_of v.rules empty_state ts in
     let is = accepted_parts v now p served result h in
     let all : Safe v ts Director stolen p.director.root.version = record { formats = formats; keeping = keeping; scheme = law; given = given; agree = agree; safe = safe } in
     let newer = served.director_roots in
     let reached = true_roots v ts Director stolen p.director.root.version all newer p.director unforged.each_root (omega arith) follows in
     let same : (follow v Director p.director newer).trust ≡ is.director = latest_ok now (follow v Director p.director newer) is.director (of_file_ok Director _ (latest now (follow v Director p.director newer)) is.director is.latest) in
-    let f : FollowsRoot v.rules s Director is.director = subst (λ (t : Trust). FollowsRoot v.rules s Director t) same reached.0 in
+    let f : FollowsRoot v.rules roots Director is.director = subst (λ (t : Trust). FollowsRoot v.rules roots Director t) same reached.0 in
     let from : p.director.root.version ≤ is.director.root.version = subst (λ (t : Trust). p.director.root.version ≤ t.root.version) same reached.1 in
     let root = root_file v.rules Director is.director.root.version f.root in
     let signed : is_signed_for v root.targets is.checked.envelope ≡ true = ap (λ (r : RootFile). is_signed_for v r.targets is.checked.envelope) (sym f.is) ∙ is.checked.signed in
     let was = machine_signed v ts stolen served.reply.files.targets unforged.of_targets Director is.director.root.version f.root f.there root.targets (of_targets root) (safe is.director.root.version f.root from f.there).1 is.checked.envelope
     (enveloped MeansTargets targets_in formats.meaning.targets served.reply.files.targets result.targets is.checked.envelope is.checked.read) signed in
     let way = on_the_way keeping v.rules ts was.0 was.1 law given agree was.2 in
+    let earlier = run v.rules empty_state was.0 in
+    let earlier_roots = roots_of v.rules empty_state was.0 in
     let kept : is.director.versions.targets ≡ (follow v Director p.director newer).trust.versions.targets = ap (λ (t : Trust). t.versions.targets) (sym same) in
-    elim (targets_from formats v.rules (run v.rules empty_state was.0) way.facts served.reply.files.targets result.targets is.checked.envelope is.checked.read was.3) [
+    elim (targets_from formats v.rules earlier earlier_roots way.facts served.reply.files.targets result.targets is.checked.envelope is.checked.read was.3) [
       | inl image ↦ absurd (apart (sym (ap (λ (file : TargetsFile). file.repository) image.is) ∙ is.checked.repository))
       | inr reply ↦
           let of : reply.vehicle ≡ p.vehicle = same_some (sym (ap (λ (file : TargetsFile). file.vehicle) reply.is) ∙ is.checked.vehicle) in
-          let at : IsEntryAt (run v.rules empty_state was.0) p.vehicle reply.number reply.e reply.root = subst (λ (name : Name). IsEntryAt (run v.rules empty_state was.0) name reply.number reply.e reply.root) of reply.at in
-          let made : result.targets ≡ targets_file (reply_metadata (run v.rules empty_state was.0) p.vehicle reply.number reply.e reply.root) =
-          reply.is ∙ ap (λ (name : Name). targets_file (reply_metadata (run v.rules empty_state was.0) name reply.number reply.e reply.root)) of in
+          let at : IsEntryAt earlier earlier_roots p.vehicle reply.number reply.e reply.root = subst (λ (name : Name). IsEntryAt earlier earlier_roots name reply.number reply.e reply.root) of reply.at in
+          let made : result.targets ≡ targets_file (reply_metadata earlier reply.root.keys p.vehicle reply.number reply.e.at reply.e.plan) =
+          reply.is ∙ ap (λ (name : Name). targets_file (reply_metadata earlier reply.root.keys name reply.number reply.e.at reply.e.plan)) of in
           let number = ap (λ (file : TargetsFile). file.version) reply.is in
           let low = is.checked.version in (
             reply.number,
             reply.e,
             reply.root,
-            entry_stays (run v.rules empty_state was.0) s p.vehicle reply.number reply.e reply.root way.later at,
-            made ∙ file_stays v.rules (run v.rules empty_state was.0) s p.vehicle reply.number reply.e reply.root way.facts.sound way.later at,
+            entry_stays earlier s earlier_roots roots way.more p.vehicle reply.number reply.e reply.root way.later way.grown at,
+            made ∙ file_stays v.rules earlier s earlier_roots p.vehicle reply.number reply.e reply.root way.facts.sound way.later at,
             omega (arith, number, low, kept),
           )
     ]

@@ -16,8 +16,9 @@ use Rattle.up_roles.specs.declared.root.RootFile.{RootFile}
 use Rattle.up_roles.specs.Root.{all_keys}
 use Rattle.up_metadata.specs.Files.{Root, root_file}
 use Rattle.up_metadata.proofs.Lists.{each_weaker}
-use Rattle.up_machine.specs.State.{empty_state, root_at}
-use Rattle.up_machine.specs.Machine.{Timed, run}
+use Rattle.up_machine.specs.State.{empty_state, nth}
+use Rattle.up_machine.specs.Machine.{Timed}
+use Rattle.up_machine.specs.Made.{roots_of}
 use Rattle.up_verify.specs.Verifiers.{Verifier, has_signed, is_signed_for}
 use Rattle.up_primary.specs.Forging.{WasSigned, IsEnvelopeOf, IsUnforged, is_safe}
 use Rattle.up_primary.proofs.Counting.{one_alone}
@@ -72,7 +73,7 @@ of_timestamp file = each_weaker (IsOf file.timestamp.keys) (IsOf (all_keys file)
 
 -- ---- signed
 
-pub machine_signed : (v : Verifier) (ts : List Timed) (stolen : List ℕ → Bool) (bytes : List ℕ) → IsUnforged v.rules ts stolen bytes → (repository : Repository) (i : ℕ) (root : Root) → root_at (run v.rules empty_state ts) i ≡ Some root
+pub machine_signed : (v : Verifier) (ts : List Timed) (stolen : List ℕ → Bool) (bytes : List ℕ) → IsUnforged v.rules ts stolen bytes → (repository : Repository) (i : ℕ) (root : Root) → nth (roots_of v.rules empty_state ts) i ≡ Some root
     → (role : RoleKeys) → AllByRecursion (IsOf (all_keys (root_file v.rules repository i root))) role.keys → IsTrue (is_safe stolen role) → (e : Envelope) → IsEnvelopeOf bytes e → is_signed_for v role e ≡ true
     → WasSigned v.rules ts e.signed
 machine_signed v ts stolen bytes unforged repository i root there role of safe e came signed =

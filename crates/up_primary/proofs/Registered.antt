@@ -24,6 +24,7 @@ use Rattle.up_machine.specs.State.{State, empty_state}
 use Rattle.up_machine.specs.Files.{target_of}
 use Rattle.up_machine.specs.Laws.{IsLater}
 use Rattle.up_machine.specs.Machine.{run}
+use Rattle.up_machine.specs.Made.{roots_of}
 use Rattle.up_machine.specs.Sound.{IsSound}
 use Rattle.up_machine.proofs.Installing.{found_is}
 use Rattle.up_machine.proofs.Lists.{found_passes}
@@ -147,11 +148,12 @@ registered formats keeping v ts stolen now p served result law given agree unfor
     elim parts.installed [
       | inl none ↦ All-from_recursion (IsRegistered s p.ecus) result.installs (subst (λ (us : List Target). AllByRecursion (IsRegistered s p.ecus) us) (sym none) tt)
       | inr is ↦
+          let roots = roots_of v.rules empty_state ts in
           let all : Safe v ts Image stolen p.image.root.version = record { formats = formats; keeping = keeping; scheme = law; given = given; agree = agree; safe = safe } in
           let newer = served.image_roots in
           let reached = true_roots v ts Image stolen p.image.root.version all newer p.image unforged.each_root (omega arith) follows in
           let same : (follow v Image p.image newer).trust ≡ is.image = latest_ok now (follow v Image p.image newer) is.image (of_file_ok Image _ (latest now (follow v Image p.image newer)) is.image is.latest) in
-          let f : FollowsRoot v.rules s Image is.image = subst (λ (t : Trust). FollowsRoot v.rules s Image t) same reached.0 in
+          let f : FollowsRoot v.rules roots Image is.image = subst (λ (t : Trust). FollowsRoot v.rules roots Image t) same reached.0 in
           let from : p.image.root.version ≤ is.image.root.version = subst (λ (t : Trust). p.image.root.version ≤ t.root.version) same reached.1 in
           let root = root_file v.rules Image is.image.root.version f.root in
           let signed : is_signed_for v root.targets is.checked.envelope ≡ true = ap (λ (r : RootFile). is_signed_for v r.targets is.checked.envelope) (sym f.is) ∙ is.checked.signed in
@@ -159,7 +161,7 @@ registered formats keeping v ts stolen now p served result law given agree unfor
           (enveloped MeansTargets targets_in formats.meaning.targets served.image.targets is.targets is.checked.envelope is.checked.read) signed in
           let way = on_the_way keeping v.rules ts was.0 was.1 law given agree was.2 in
           let earlier = run v.rules empty_state was.0 in
-          elim (targets_from formats v.rules earlier way.facts served.image.targets is.targets is.checked.envelope is.checked.read was.3) [
+          elim (targets_from formats v.rules earlier (roots_of v.rules empty_state was.0) way.facts served.image.targets is.targets is.checked.envelope is.checked.read was.3) [
             | inl image ↦
                 let listed : is.targets.targets ≡ map (target_of None) (table.values earlier.images) = ap (λ (file : TargetsFile). file.targets) image.is in
                 let passed = each_parts p is.targets.targets result.targets.targets result.installs is.each_is in

@@ -28,6 +28,8 @@ use Rattle.up_metadata.specs.Files.{Root, keys_of, root_file, targets_file, role
 use Rattle.up_machine.specs.State.{Entry, Vehicle, State, nth, key_set, root_number, version}
 use Rattle.up_machine.specs.Files.{image_metadata, target_of}
 use Rattle.up_machine.specs.Replies.{assigned_target, reply_metadata}
+use Rattle.up_machine.proofs.Keeping.{there as is_there}
+use Rattle.up_machine.proofs.MadeRoots.{last_there}
 use Rattle.up_machine.proofs.Values.{found_any}
 use Rattle.up_laws.specs.Readings.{RepliesAreReadAgain}
 use Rattle.up_verify.specs.declared.refused.Fault.TheVariants.{Expired}
@@ -49,7 +51,6 @@ use Rattle.up_primary.specs.Laws.{ImageFilesAreReadAgain, RootsAreSmall, Replies
 use Rattle.up_primary.proofs.ManyRoots.{Reached, roots_reached, number_within}
 use Rattle.up_primary.proofs.NextRoot.{Known, ReadRoles, read_roles}
 use Rattle.up_primary.proofs.Serving.{repository_keys_fit, chain_size, sound_root, serves_roots}
-use Rattle.up_machine.proofs.MadeRoots.{last_there}
 use Rattle.up_primary.proofs.Lasting.{founded_with}
 use Rattle.up_primary.proofs.Sets.{all_of, set_checked}
 use Rattle.up_verify.proofs.Steps.{go_ok, pass}
@@ -194,10 +195,6 @@ installs_are p targets director image [] = refl
 installs_are p targets director image (t ∷ ts) = refl
 
 -- ---- all of it
-
-is_there : {A : Type 0} (o : Option A) → is_some o ≡ true → (x : A) × (o ≡ Some x)
-is_there None h = cc
-is_there (Some x) h = (x, refl)
 
 pub taken : SealedFits → SealedIsAccepted → RootsAreRead → RepliesAreReadAgain → ImageFilesAreReadAgain → RootsAreSmall → RepliesAreTaken
 unfolding verify

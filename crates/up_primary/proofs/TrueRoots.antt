@@ -15,6 +15,7 @@ use Rattle.up_roles.specs.Root.{root_in}
 use Rattle.up_metadata.specs.Files.{root_file}
 use Rattle.up_machine.specs.State.{empty_state}
 use Rattle.up_machine.specs.Machine.{Timed, run}
+use Rattle.up_machine.specs.Made.{roots_of}
 use Rattle.up_verify.specs.declared.refused.Fault.{Fault}
 use Rattle.up_verify.specs.declared.refused.Role.{Role}
 use Rattle.up_verify.specs.declared.trust.Trust.{Trust}
@@ -26,7 +27,7 @@ use Rattle.up_primary.specs.Following.{FollowsRoot, KeysAgree}
 use Rattle.up_primary.specs.Forging.{IsUnforged, AreSafeFrom}
 use Rattle.up_primary.specs.Laws.{AreGiven}
 use Rattle.up_primary.proofs.Honest.{of_root, machine_signed}
-use Rattle.up_primary.proofs.Runs.{Keeping, root_stays, on_the_way}
+use Rattle.up_primary.proofs.Runs.{Keeping, still_there, on_the_way}
 use Rattle.up_primary.proofs.Meant.{enveloped}
 use Rattle.up_primary.proofs.SignedTexts.{Formats, root_from}
 
@@ -85,34 +86,34 @@ pub record Safe (v : Verifier) (ts : List Timed) (repository : Repository) (stol
   pub keeping : Keeping
   pub scheme : IsScheme v.rules
   pub given : AreGiven ts
-  pub agree : KeysAgree v.rules (run v.rules empty_state ts)
-  pub safe : AreSafeFrom v.rules (run v.rules empty_state ts) repository stolen n
+  pub agree : KeysAgree v.rules (roots_of v.rules empty_state ts)
+  pub safe : AreSafeFrom v.rules (roots_of v.rules empty_state ts) repository stolen n
 
 true_next : (v : Verifier) (ts : List Timed) (repository : Repository) (stolen : List ℕ → Bool) (n : ℕ) → Safe v ts repository stolen n → (t : Trust) (bytes : List ℕ) (file : RootFile) → IsUnforged v.rules ts stolen bytes
-    → n ≤ t.root.version → FollowsRoot v.rules (run v.rules empty_state ts) repository t → IsNext v repository t.root bytes file → FollowsRoot v.rules (run v.rules empty_state ts) repository (with_root t file)
+    → n ≤ t.root.version → FollowsRoot v.rules (roots_of v.rules empty_state ts) repository t → IsNext v repository t.root bytes file → FollowsRoot v.rules (roots_of v.rules empty_state ts) repository (with_root t file)
 true_next v ts repository stolen n given t bytes file unforged from f is =
     let before = root_file v.rules repository t.root.version f.root in
     let signed : is_signed_for v before.root is.envelope ≡ true = ap (λ (r : RootFile). is_signed_for v r.root is.envelope) (sym f.is) ∙ is.signed in
     let was = machine_signed v ts stolen bytes unforged repository t.root.version f.root f.there before.root (of_root before) (given.safe t.root.version f.root from f.there).0 is.envelope
     (enveloped MeansRoot root_in given.formats.meaning.root bytes file is.envelope is.read) signed in
     let way = on_the_way given.keeping v.rules ts was.0 was.1 given.scheme given.given given.agree was.2 in
-    let made = root_from given.formats v.rules (run v.rules empty_state was.0) way.facts bytes file is.envelope is.read was.3 in
+    let made = root_from given.formats v.rules (run v.rules empty_state was.0) (roots_of v.rules empty_state was.0) way.facts bytes file is.envelope is.read was.3 in
     record {
       root = made.root;
-      there = root_stays (run v.rules empty_state was.0) (run v.rules empty_state ts) file.version made.root way.later made.there;
+      there = still_there (roots_of v.rules empty_state ts) (roots_of v.rules empty_state was.0) way.more way.grown file.version made.root made.there;
       is = made.is ∙ ap (λ r. root_file v.rules r file.version made.root) is.of_repository;
     }
 
 pub true_roots : (v : Verifier) (ts : List Timed) (repository : Repository) (stolen : List ℕ → Bool) (n : ℕ) → Safe v ts repository stolen n → (newer : List (List ℕ)) (t : Trust) → AllByRecursion (IsUnforged v.rules ts stolen) newer
-    → n ≤ t.root.version → FollowsRoot v.rules (run v.rules empty_state ts) repository t
-    → FollowsRoot v.rules (run v.rules empty_state ts) repository (follow v repository t newer).trust × (n ≤ (follow v repository t newer).trust.root.version)
+    → n ≤ t.root.version → FollowsRoot v.rules (roots_of v.rules empty_state ts) repository t
+    → FollowsRoot v.rules (roots_of v.rules empty_state ts) repository (follow v repository t newer).trust × (n ≤ (follow v repository t newer).trust.root.version)
 true_roots v ts repository stolen n given [] t unforged from f = (f, from)
 true_roots v ts repository stolen n given (bytes ∷ more) t unforged from f = by_next (next_root v repository t.root bytes) refl (λ t from f. true_roots v ts repository stolen n given more t unforged.1 from f)
   where
     by_next : (r : Result RootFile Fault) → next_root v repository t.root bytes ≡ r
-        → ((t : Trust) → n ≤ t.root.version → FollowsRoot v.rules (run v.rules empty_state ts) repository t
-        → FollowsRoot v.rules (run v.rules empty_state ts) repository (follow v repository t more).trust × (n ≤ (follow v repository t more).trust.root.version))
-        → FollowsRoot v.rules (run v.rules empty_state ts) repository (go_on t r (λ root. follow v repository (with_root t root) more)).trust
+        → ((t : Trust) → n ≤ t.root.version → FollowsRoot v.rules (roots_of v.rules empty_state ts) repository t
+        → FollowsRoot v.rules (roots_of v.rules empty_state ts) repository (follow v repository t more).trust × (n ≤ (follow v repository t more).trust.root.version))
+        → FollowsRoot v.rules (roots_of v.rules empty_state ts) repository (go_on t r (λ root. follow v repository (with_root t root) more)).trust
         × (n ≤ (go_on t r (λ root. follow v repository (with_root t root) more)).trust.root.version)
     by_next (Err fault) h further = (f, from)
     by_next (Ok file) h further =
