@@ -1,6 +1,6 @@
 -- What the machine serves is accepted.
 use Rattle.std.proofs.Common.{◌≡◌, ℕ, ◌+◌, ◌<◌, ◌≤◌, List, [], ◌∷◌, Bool, true, Option, Some, None, Ok, Err, map, refl, sym, ap, ◌∙◌, subst, arith}
-use Rattle.std.specs.Prelude.{◌&&◌, ◌||◌, ◌==◌, length, bytes_eq, filter_map, option_map, is_some, nat_le, if◌then◌else◌}
+use Rattle.std.specs.Prelude.{◌&&◌, ◌||◌, ◌==◌, length, bytes_eq, filter_map, option_map, nat_le, if◌then◌else◌}
 use Rattle.std.specs.List.{AllByRecursion, list_any, cons_option}
 use Rattle.std.specs.FinMap as table
 use Rattle.std.specs.Cmp.Lexicographic.{pointwise}

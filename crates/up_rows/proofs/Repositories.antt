@@ -2,7 +2,6 @@
 use Rattle.std.proofs.Common.{◌≡◌, ℕ, List, [], ◌∷◌, ◌++◌, Some, sym, ap, ◌∙◌}
 use Rattle.std.specs.FinMap as table
 use Rattle.std.proofs.lemmas.Option.{same_Some}
-use Rattle.up_metadata.specs.declared.keys.KeySet.{KeySet}
 use Rattle.up_machine.specs.State.{State, last_text}
 use Rattle.up_machine.specs.Repositories.{stamped, with_root, with_image}
 use Rattle.up_machine.specs.Rows.{founding_row, rows_of}

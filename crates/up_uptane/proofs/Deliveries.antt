@@ -1,17 +1,16 @@
 -- What a delivery changes.
 use Rattle.std.proofs.Common.{◌≡◌, ℕ, ◌+◌, List, [], ◌∷◌, ◌++◌, Some, Result, Ok, Err, inl, inr, refl, sym, ap, ◌∙◌, subst, length-append}
 use Rattle.std.specs.Prelude.{◌⊎◌, length, option_map, option_and_then}
-use Rattle.up_canon.specs.Names.{Name}
 use Rattle.up_canon.specs.declared.refusal.Refusal.{Refusal}
 use Rattle.up_sign.specs.Schemes.{Rules}
 use Rattle.up_machine.specs.declared.answer.Answer.TheVariants.{Refused, Reply as Replied}
 use Rattle.up_machine.specs.declared.answer.Reply.{Reply}
 use Rattle.up_machine.specs.declared.command.Command.TheVariants.{Deliver}
 use Rattle.up_machine.specs.Deciding.{Outcome}
-use Rattle.up_machine.specs.Deliveries.{Received, entry_of, with_entry, accepted}
+use Rattle.up_machine.specs.Deliveries.{Received, entry_of, accepted}
 use Rattle.up_machine.specs.Machine.{decide, outcome_of, step}
-use Rattle.up_machine.specs.Replies.{reply_text, reply_to, kept_reply}
-use Rattle.up_machine.specs.State.{Entry, Vehicle, State, nth, version}
+use Rattle.up_machine.specs.Replies.{reply_to, kept_reply}
+use Rattle.up_machine.specs.State.{Vehicle, State, nth, version}
 use Rattle.up_machine.proofs.Accepting.{checked}
 use Rattle.up_machine.proofs.Decided.{IsDelivered, delivery_ok}
 use Rattle.up_machine.proofs.Places.{nth_last}
@@ -26,7 +25,7 @@ Comes s body o =
 -- ---- what was accepted
 
 abbrev pub reply_of : (k : Rules) (s : State) (at : ℕ) (r : Received) → Reply
-reply_of k s at r = reply_to k s r.incoming.manifest.vehicle (version r.vehicle.entries + 1) (entry_of s at r)
+reply_of k s at r = reply_to r.incoming.manifest.vehicle (version r.vehicle.entries + 1) (entry_of k s at r)
 
 changes : (k : Rules) (s : State) (at : ℕ) (body : List ℕ) (o : Outcome) → IsDelivered k s at body o → Comes s body o
 changes k s at body o is =
@@ -43,7 +42,7 @@ changes k s at body o is =
         own = refl;
         before = r.vehicle;
         there = from.vehicle;
-        entry = entry_of s at r;
+        entry = entry_of k s at r;
         counter = refl;
         newer = later;
         raised = refl;
@@ -63,29 +62,23 @@ own k s at body = by_decision (decide k s at (Deliver body)) refl
 
 -- ---- what is kept
 
-pub same_reply : (k : Rules) (s : State) (name other : Name) (v : Vehicle) (number : ℕ) (e f : Entry) → reply_to k (with_entry s other v f) name number e ≡ reply_to k s name number e
-unfolding reply_text
-same_reply k s name other v number e f = refl
-
-kept_after : (k : Rules) (s : State) (at : ℕ) (r : Received) → kept_reply k (accepted k s at r).next r.incoming.manifest.vehicle (version r.vehicle.entries + 1) ≡ Some (reply_of k s at r)
+kept_after : (k : Rules) (s : State) (at : ℕ) (r : Received) → kept_reply (accepted k s at r).next r.incoming.manifest.vehicle (version r.vehicle.entries + 1) ≡ Some (reply_of k s at r)
 kept_after k s at r =
     let name = r.incoming.manifest.vehicle in
-    let e = entry_of s at r in
+    let e = entry_of k s at r in
     let number = version r.vehicle.entries + 1 in
-    let next = with_entry s name r.vehicle e in
     let size : number ≡ length (r.vehicle.entries ++ e ∷ []) = sym (length-append r.vehicle.entries (e ∷ [])) in
     let last : nth (r.vehicle.entries ++ e ∷ []) number ≡ Some e = ap (nth (r.vehicle.entries ++ e ∷ [])) size ∙ nth_last r.vehicle.entries e in
-    ap (option_and_then (λ (v : Vehicle). option_map (reply_to k next name number) (nth v.entries number))) (get_same s.vehicles name (record r.vehicle { entries = r.vehicle.entries ++ e ∷ [] }))
-    ∙ ap (option_map (reply_to k next name number)) last
-    ∙ ap (λ (reply : Reply). Some reply) (same_reply k s name name r.vehicle number e e)
+    ap (option_and_then (λ (v : Vehicle). option_map (reply_to name number) (nth v.entries number))) (get_same s.vehicles name (record r.vehicle { entries = r.vehicle.entries ++ e ∷ [] }))
+    ∙ ap (option_map (reply_to name number)) last
 
-abbrev Keeps : Rules → Outcome → Type 0
-Keeps k o = (reply : Reply) → o.answer ≡ Replied reply → kept_reply k o.next reply.vehicle reply.version ≡ Some reply
+abbrev Keeps : Outcome → Type 0
+Keeps o = (reply : Reply) → o.answer ≡ Replied reply → kept_reply o.next reply.vehicle reply.version ≡ Some reply
 
-kept_by : (k : Rules) (s : State) (at : ℕ) (body : List ℕ) (o : Outcome) → IsDelivered k s at body o → Keeps k o
-kept_by k s at body o is = subst (Keeps k) is.is (λ reply h.
+kept_by : (k : Rules) (s : State) (at : ℕ) (body : List ℕ) (o : Outcome) → IsDelivered k s at body o → Keeps o
+kept_by k s at body o is = subst Keeps is.is (λ reply h.
     let same : reply_of k s at is.received ≡ reply = same_told _ _ h in
-    subst (λ (x : Reply). kept_reply k (accepted k s at is.received).next x.vehicle x.version ≡ Some x) same (kept_after k s at is.received))
+    subst (λ (x : Reply). kept_reply (accepted k s at is.received).next x.vehicle x.version ≡ Some x) same (kept_after k s at is.received))
   where
     same_told : (a b : Reply) → Replied a ≡ Replied b → a ≡ b
     same_told a b h = cc
@@ -94,6 +87,6 @@ pub kept : RepliesAreKept
 unfolding step
 kept k s at body = by_decision (decide k s at (Deliver body)) refl
   where
-    by_decision : (d : Result Outcome Refusal) → decide k s at (Deliver body) ≡ d → Keeps k (outcome_of s d)
+    by_decision : (d : Result Outcome Refusal) → decide k s at (Deliver body) ≡ d → Keeps (outcome_of s d)
     by_decision (Ok o) h = kept_by k s at body o (delivery_ok k s at body o h)
     by_decision (Err e) h = λ reply told. cc

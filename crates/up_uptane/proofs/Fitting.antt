@@ -17,7 +17,7 @@ use Rattle.up_plan.specs.Images.{ImageData}
 use Rattle.up_plan.specs.Laws.{AssignedIsDue, IsUpdate}
 use Rattle.up_plan.specs.Planning.{is_for, is_reported, level, plan_of}
 use Rattle.up_metadata.proofs.Lists.{and_left}
-use Rattle.up_metadata.specs.Files.{targets_file, role_texts}
+use Rattle.up_metadata.specs.Files.{Root, targets_file, role_texts}
 use Rattle.up_machine.specs.declared.answer.Answer.TheVariants.{Reply as Replied}
 use Rattle.up_machine.specs.declared.answer.Reply.{Reply}
 use Rattle.up_machine.specs.declared.command.Command.TheVariants.{Deliver}
@@ -26,9 +26,9 @@ use Rattle.up_machine.specs.Deciding.{Outcome}
 use Rattle.up_machine.specs.Deliveries.{Received, fitted, plan_in, entry_of, with_entry, accepted}
 use Rattle.up_machine.specs.Files.{target_of}
 use Rattle.up_machine.specs.Laws.{FitsItsEcu, AssignedFitTheirEcus}
-use Rattle.up_machine.specs.Machine.{decide, outcome_of, step, run}
+use Rattle.up_machine.specs.Machine.{Timed, decide, outcome_of, step, run}
+use Rattle.up_machine.specs.Made.{IsReplyMade, roots_of}
 use Rattle.up_machine.specs.Replies.{assigned_target, reply_metadata}
-use Rattle.up_machine.specs.SignedLaws.{HasSignedFiles, RepliesAreSigned}
 use Rattle.up_machine.specs.Sound.{IsSound}
 use Rattle.up_machine.specs.Vehicles.{ecu_names}
 use Rattle.up_machine.specs.State.{Vehicle, State, empty_state, nth, report_of, version}
@@ -42,7 +42,7 @@ use Rattle.up_machine.proofs.Tables.{get_same}
 use Rattle.up_machine.proofs.Values.{each_value, found_any}
 use Rattle.up_laws.specs.Readings.{RepliesAreReadAgain}
 use Rattle.up_uptane.specs.Fitting.{FitsAndIsNewer, OffersFitting, NewRepliesFit}
-use Rattle.up_uptane.proofs.Deliveries.{reply_of, same_reply}
+use Rattle.up_uptane.proofs.Deliveries.{reply_of}
 use Rattle.up_uptane.proofs.Reaching.{Reaching, Reached, reach, further}
 use Rattle.up_uptane.proofs.Reported.{is_there, found_own}
 
@@ -153,19 +153,19 @@ plan_fits due_law fit_law k s r sound apart =
     (each_fits k s vehicle r.vehicle reports sound apart assigned (recursion_from_All (IsUpdate (table.values s.images) (table.values s.campaigns) vehicle reported) assigned due)
     (recursion_from_All (FitsItsEcu s reported) assigned fit))
 
-offers : AssignedIsDue → AssignedFitTheirEcus → RepliesAreSigned → RepliesAreReadAgain → (k : Rules) (s : State) (at : ℕ) (body : List ℕ) (r : Received) → IsScheme k → IsReceived k s at body r
-    → Reached k s → Reached k (accepted k s at r).next → OffersFitting s body (reply_of k s at r)
-offers due_law fit_law signed replies k s at body r law from before after =
+offers : AssignedIsDue → AssignedFitTheirEcus → RepliesAreReadAgain → (k : Rules) (s : State) (roots all : List Root) (at : ℕ) (body : List ℕ) (r : Received) → IsScheme k → IsReceived k s at body r
+    → Reached k s roots → Reached k (accepted k s at r).next all → OffersFitting s body (reply_of k s at r)
+offers due_law fit_law replies k s roots all at body r law from before after =
     let name = r.incoming.manifest.vehicle in
-    let e = entry_of s at r in
+    let e = entry_of k s at r in
     let number = version r.vehicle.entries + 1 in
     let next = with_entry s name r.vehicle e in
     let w : Vehicle = record r.vehicle { entries = r.vehicle.entries ++ e ∷ [] } in
     let there : table.get next.vehicles name ≡ Some w = get_same s.vehicles name w in
     let size : number ≡ length (r.vehicle.entries ++ e ∷ []) = sym (length-append r.vehicle.entries (e ∷ [])) in
     let last : nth w.entries number ≡ Some e = ap (nth w.entries) size ∙ nth_last r.vehicle.entries e in
-    let has : HasSignedFiles k next name number e = signed k next name w number e law after.sound there last in
-    let m = reply_metadata next name number e has.root in
+    let made : IsReplyMade k next all name number e = after.made.replies name w number e there last in
+    let m = reply_metadata next made.root.keys name number e.at e.plan in
     let apart : Distinct (ecu_names r.vehicle.ecus) = distinct (ecu_names r.vehicle.ecus) (before.sound.vehicles name r.vehicle from.vehicle).once in
     record {
       incoming = r.incoming;
@@ -174,10 +174,10 @@ offers due_law fit_law signed replies k s at body r law from before after =
       known = from.vehicle;
       root = e.root;
       files = role_texts k m;
-      bytes = ap (λ (reply : Reply). reply.text) (sym (same_reply k s name name r.vehicle number e e)) ∙ has.made;
+      bytes = made.made;
       targets = targets_file m;
       envelope = _;
-      read = (replies k next name w number e has.root law after.sound after.typed after.own there last has.there).targets.read;
+      read = (replies k next all name w number e made.root law after.sound after.typed after.own after.made there last made.there).targets.read;
       fit = plan_fits due_law fit_law k s r before.sound apart;
     }
 
@@ -186,21 +186,23 @@ offers due_law fit_law signed replies k s at body r law from before after =
 abbrev Offering : State → List ℕ → Outcome → Type 0
 Offering s body o = (reply : Reply) → o.answer ≡ Replied reply → OffersFitting s body reply
 
-pub new_fit : Reaching → AssignedIsDue → AssignedFitTheirEcus → RepliesAreSigned → RepliesAreReadAgain → NewRepliesFit
+pub new_fit : Reaching → AssignedIsDue → AssignedFitTheirEcus → RepliesAreReadAgain → NewRepliesFit
 unfolding step
-new_fit keeping due_law fit_law signed replies k ts at body reply law given told =
+new_fit keeping due_law fit_law replies k ts at body reply law given told =
     let s = run k empty_state ts in
     let before = reach keeping k ts given in
-    by_decision s before (decide k s at (Deliver body)) refl (further keeping k s (record { at = at; command = Deliver body } ∷ []) ((refl, refl), tt) before) reply told
+    let roots = roots_of k empty_state ts in
+    let item : Timed = record { at = at; command = Deliver body } in
+    by_decision s roots (roots ++ roots_of k s (item ∷ [])) before (decide k s at (Deliver body)) refl (further keeping k s roots (item ∷ []) ((refl, refl), tt) before) reply told
   where
-    by_decision : (s : State) → Reached k s → (d : Result Outcome Refusal) → decide k s at (Deliver body) ≡ d → Reached k (outcome_of s d).next → Offering s body (outcome_of s d)
-    by_decision s before (Ok o) h after =
+    by_decision : (s : State) (roots all : List Root) → Reached k s roots → (d : Result Outcome Refusal) → decide k s at (Deliver body) ≡ d → Reached k (outcome_of s d).next all → Offering s body (outcome_of s d)
+    by_decision s roots all before (Ok o) h after =
         let is : IsDelivered k s at body o = delivery_ok k s at body o h in
-        let then : Reached k (accepted k s at is.received).next = subst (λ (x : Outcome). Reached k x.next) (sym is.is) after in
+        let then : Reached k (accepted k s at is.received).next all = subst (λ (x : Outcome). Reached k x.next all) (sym is.is) after in
         subst (Offering s body) is.is (λ reply told.
         let same : reply_of k s at is.received ≡ reply = same_told _ _ told in
-        subst (OffersFitting s body) same (offers due_law fit_law signed replies k s at body is.received law (received k s at body is.received is.receives) before then))
+        subst (OffersFitting s body) same (offers due_law fit_law replies k s roots all at body is.received law (received k s at body is.received is.receives) before then))
       where
         same_told : (a b : Reply) → Replied a ≡ Replied b → a ≡ b
         same_told a b h = cc
-    by_decision s before (Err e) h after = λ reply told. cc
+    by_decision s roots all before (Err e) h after = λ reply told. cc

@@ -66,11 +66,11 @@ RootVersionsNeverFall = (k : Rules) (ts us : List Timed) (repository : Repositor
 
 -- What is replied anew to a vehicle has a greater version than each reply that was kept for it.
 abbrev pub RepliesRise : Type 0
-RepliesRise = (k : Rules) (ts us : List Timed) (number at : ℕ) (body : List ℕ) (old new : Reply) → AreCommands ts → AreCommands us
+RepliesRise = (k : Rules) (ts us : List Timed) (number at : ℕ) (body : List ℕ) (old new : Reply)
     → (step k (run k (run k empty_state ts) us) at (Deliver body)).answer ≡ Replied new
     → kept_reply (run k empty_state ts) new.vehicle number ≡ Some old → number < new.version
 
 -- And what was kept is kept on, the same.
 abbrev pub RepliesStayKept : Type 0
-RepliesStayKept = (k : Rules) (ts us : List Timed) (vehicle : Name) (number : ℕ) (reply : Reply) → AreCommands ts
+RepliesStayKept = (k : Rules) (ts us : List Timed) (vehicle : Name) (number : ℕ) (reply : Reply)
     → kept_reply (run k empty_state ts) vehicle number ≡ Some reply → kept_reply (run k (run k empty_state ts) us) vehicle number ≡ Some reply

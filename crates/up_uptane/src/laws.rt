@@ -9,7 +9,7 @@ ghost use Rattle.up_uptane.specs.Versions.{ImageVersionsNeverFall, RootVersionsN
 use up_canon::moment::moment_laws;
 use up_laws::laws::{plans_name_ecus_once, replies_are_read_again, states_stay_typed};
 use up_machine::laws::{
-    assigned_images_fit, files_are_signed, kept_replies_stay, states_stay_sound,
+    assigned_images_fit, files_are_signed, kept_replies_stay, runs_make_files, states_stay_sound,
 };
 use up_plan::laws::assigned_is_due;
 use up_primary::laws::{files_are_read_again, roots_are_fetched};
@@ -38,6 +38,7 @@ pub fn published_versions_never_fall()
     ensures roots { RootVersionsNeverFall }
 {
     states_stay_sound();
+    runs_make_files();
     states_stay_typed();
     plans_name_ecus_once();
     files_are_read_again();
@@ -49,7 +50,6 @@ pub fn reply_versions_rise()
     ensures rise { RepliesRise }
     ensures stay { RepliesStayKept }
 {
-    states_stay_sound();
     kept_replies_stay();
     deliveries_change_their_own();
 }
@@ -60,9 +60,9 @@ pub fn replies_offer_what_is_listed()
     ensures { RepliesOfferWhatIsListed }
 {
     states_stay_sound();
+    runs_make_files();
     states_stay_typed();
     plans_name_ecus_once();
-    files_are_signed();
     replies_are_read_again();
     files_are_read_again();
 }
@@ -73,11 +73,11 @@ pub fn new_replies_fit_and_are_newer()
     ensures { NewRepliesFit }
 {
     states_stay_sound();
+    runs_make_files();
     states_stay_typed();
     plans_name_ecus_once();
     assigned_is_due();
     assigned_images_fit();
-    files_are_signed();
     replies_are_read_again();
 }
 
@@ -89,6 +89,7 @@ pub fn rotations_leave_keys_out()
     ensures replies { NewRepliesAreOfTheLastRoot }
 {
     states_stay_sound();
+    runs_make_files();
     files_are_signed();
     roots_are_fetched();
 }
@@ -105,6 +106,7 @@ pub fn published_files_verify()
     envelope_laws();
     role_laws();
     states_stay_sound();
+    runs_make_files();
     states_stay_typed();
     plans_name_ecus_once();
     files_are_signed();

@@ -7,6 +7,8 @@ returns c =
     let keeping : Reaching = record {
       sound = c.states_stay_sound.ensures.run;
       none_sound = c.states_stay_sound.ensures.empty;
+      made = c.runs_make_files.ensures.run;
+      none_made = c.runs_make_files.ensures.empty;
       typed = c.states_stay_typed.ensures.run;
       none_typed = c.states_stay_typed.ensures.empty;
       own = c.plans_name_ecus_once.ensures.run;
@@ -22,5 +24,5 @@ returns c =
     record {
       roots = roots_verify formats keeping;
       files = files_verify formats keeping c.files_are_signed.ensures.known c.files_are_read_again.ensures.images;
-      replies = replies_verify formats keeping c.files_are_signed.ensures.replies c.replies_are_read_again.ensures;
+      replies = replies_verify formats keeping c.replies_are_read_again.ensures;
     }
