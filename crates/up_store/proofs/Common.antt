@@ -23,7 +23,7 @@ pub use Rattle.up_canon.specs.Steps.{if_passes}
 pub use Rattle.up_columns.specs.CampaignColumns.{campaign_items_in, items_column, items_data, reach_column, reach_data, reach_in}
 pub use Rattle.up_columns.specs.Typed.{is_typed_item, is_typed_need, is_typed_plan, is_typed_reach}
 pub use Rattle.up_machine.proofs.Tables.{get_after-insert, get_new, get_same, one_name}
-pub use Rattle.up_machine.specs.Files.{File, numbered_root_name, root_text_at, texts_in}
+pub use Rattle.up_machine.specs.Files.{File, numbered_root_name, numbered_roots, texts_in}
 pub use Rattle.up_machine.specs.declared.decision.AcceptedRows.{AcceptedRows}
 pub use Rattle.up_machine.specs.declared.decision.RegisterRows.{RegisterRows}
 pub use Rattle.up_machine.specs.declared.rows.EcuRow.{EcuRow}
@@ -44,23 +44,22 @@ pub use Rattle.up_plan.specs.declared.image.Need.{Need}
 pub use Rattle.up_roles.specs.declared.repository.Repository.{Repository}
 pub use Rattle.up_roles.specs.declared.repository.Repository.TheVariants.{Director, Image}
 pub use Rattle.up_rows.proofs.Files.{or_mapped, or_none}
-pub use Rattle.up_rows.specs.Changes.{in_place_of_row, new_root, replaced_rows, with_accepted_rows, with_campaign_row, with_image_rows, with_register_rows, with_replaced_rows, with_root_rows, with_vehicle_rows}
-pub use Rattle.up_rows.specs.Lookups.{kept_with, last_owner, latest_kept, other_text, owner_among, owner_found, row_named, stands_among, text_among, text_held, text_in}
+pub use Rattle.up_rows.specs.Changes.{in_place_of_row, replaced_rows, with_accepted_rows, with_campaign_row, with_image_rows, with_register_rows, with_replaced_rows, with_root_rows, with_vehicle_rows}
+pub use Rattle.up_rows.specs.Lookups.{kept_with, last_owner, latest_kept, other_text, owner_among, owner_found, root_named, root_texts, stands_among, text_among, text_held, text_named}
 pub use Rattle.up_rows.specs.SecondHashes.{TellsItsHash}
-pub use Rattle.up_rows.specs.StateRows.{ecu_of, entry_of, no_rows, root_of, root_row, rows_of_state, StateRows, vehicle_of_rows}
-pub use Rattle.up_rows.specs.declared.root_row.RootRow.{RootRow}
+pub use Rattle.up_rows.specs.StateRows.{chain_of_rows, ecu_of, entry_of, no_rows, rows_of_state, StateRows, vehicle_of_rows}
 pub use Rattle.up_sign.specs.Schemes.{Rules}
 pub use Rattle.up_store.specs.ColumnRows.{AreHashesOf, AreImages, AreRunning, AreSha512s, column_fault, IsCampaign, IsImage, with_image}
 pub use Rattle.up_store.proofs.Parts.{last_found, with_kept, with_founding, with_keys, with_image_line}
 pub use Rattle.up_store.specs.Connections.{BlamesWithin, Commits, KeepsAs, KeepsRows, MadeIn, PutsRows, RaisedRows}
 pub use Rattle.up_store.specs.Fitting.{IsClosing, IsNewCampaign, IsNewImage, IsNewVehicle, IsNextRoot, IsRecorded, IsReplacement, IsSameRoot}
 pub use Rattle.up_store.specs.Found.{ecus_found, values_where, vehicle_found}
-pub use Rattle.up_store.specs.Lines.{campaign_lines, campaign_shown_line, ecu_line, ecu_lines, ecu_shown, ecus_lines, file_line, file_lines, file_row, founding_number, hash_line, image_line, image_lines, image_shown_line, kept_line, key_row, line_of_campaign, repository_lines, repository_word, retired_lines, role_file_lines, role_lines, root_file_lines, root_lines, roots_lines, row_of_vehicle, second_hash, set_lines, sha512_lines, vehicle_lines}
-pub use Rattle.up_store.specs.Listing.{AreNumbered, files_lines, IsOfLastRoot, ListsRows, table_rows}
+pub use Rattle.up_store.specs.Lines.{campaign_lines, campaign_shown_line, ecu_line, ecu_lines, ecu_shown, ecus_lines, file_line, file_lines, file_row, founding_lines, founding_number, hash_line, image_line, image_lines, image_shown_line, kept_line, key_row, line_of_campaign, repository_lines, repository_word, retired_lines, role_file_lines, role_lines, root_file_lines, row_of_vehicle, second_hash, set_lines, sha512_lines, vehicle_lines}
+pub use Rattle.up_store.specs.Listing.{files_lines, IsOfLastRoot, ListsRows, table_rows}
 pub use Rattle.up_store.specs.Puts.{HasFilesOnce, IsReported, MayAccept, MayReport, with_files, with_key_lines, with_numbers, with_reported, with_sha512_line}
 pub use Rattle.up_store.specs.ReadAs.{InTurn, IsRead, IsReadImage, IsTextOrNull, PutsCampaign, PutsImage, PutsSha512, ReadsFounding, ReadsSha512, RunOf, SaysCampaign, SaysEcu, SaysFile, SaysHash, SaysImage, SaysInstalled, SaysKept, SaysKey, SaysNumbers, SaysVehicle}
 pub use Rattle.up_store.specs.Shown.{AreKeysOf, campaign_made, file_read, image_made, is_key_of, IsFoundingOf, IsRoleOf, meta_told, reported_sha512, secrets_of, threshold_of, vehicle_read}
-pub use Rattle.up_store.specs.Typed.{AreTyped, AreTypedTexts, EachHasKeys, HasKeys, HaveKeys, IsToldEcu, IsTypedCampaign, IsTypedCampaignRow, IsTypedEcu, IsTypedFile, IsTypedFounding, IsTypedHash, IsTypedImage, IsTypedImageRow, IsTypedInstalled, IsTypedKept, IsTypedKey, IsTypedRoot, IsTypedVehicle, IsTypedVehicleRow}
+pub use Rattle.up_store.specs.Typed.{AreTyped, AreTypedTexts, EachHasKeys, HasKeys, HaveKeys, IsToldEcu, IsTypedCampaign, IsTypedCampaignRow, IsTypedEcu, IsTypedFile, IsTypedFounding, IsTypedHash, IsTypedImage, IsTypedImageRow, IsTypedInstalled, IsTypedKept, IsTypedKey, IsTypedVehicle, IsTypedVehicleRow}
 pub use Rattle.up_store.specs.Writes.{accept_writes, each_with, file_writes, FitsFounding, FitsVehicle, founding_writes, image_row_writes, key_writes, register_writes, reported_writes, root_writes, vehicle_writes}
 pub use Rattle.up_store.specs.declared.campaign_rows.CampaignShown.{CampaignShown}
 pub use Rattle.up_store.specs.declared.files.ServedFile.{ServedFile}

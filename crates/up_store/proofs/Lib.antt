@@ -29,7 +29,6 @@ pub mod WholeTables
 pub mod ValuesWhere
 pub mod ColumnTables
 pub mod OneKeys
-pub mod RootMoments
 pub mod RootTexts
 pub mod OneState
 pub mod MemoryAlone

@@ -1,9 +1,9 @@
 -- The rows of keys tell the keys.
-use Rattle.std.proofs.Common.{◌≡◌, ◌≤◌, ◌<◌, ◌+◌, ℕ, pos, List, [], ◌∷◌, ◌++◌, Bool, true, false, map, filter, length, refl, sym, ap, ap₂, ◌∙◌, arith, append-nil, codes, append_assoc}
+use Rattle.std.proofs.Common.{◌≡◌, ◌≤◌, ◌+◌, ℕ, List, [], ◌∷◌, ◌++◌, Bool, true, false, map, filter, length, refl, sym, ap, ap₂, ◌∙◌, arith, append-nil, codes, append_assoc}
 use Rattle.std.proofs.lemmas.List.Elements.{filter-append}
 use Rattle.up_metadata.specs.declared.keys.RoleSecrets.{RoleSecrets}
-use Rattle.up_store.proofs.Common.{flat_map, AllByRecursion, enumerate_from, slice_cmp, is_eq, nat_cmp, Int, Text, Row, column, value_cmp, Repository, Director, Image, KeySet, RepoKeys, RootRow, has_number, has_text, repository_word, role_lines, repository_lines, root_lines, roots_lines, HasKeys, HaveKeys, EachHasKeys, value_cmp-Int, value_cmp-Text}
-use Rattle.up_store.proofs.FoundingReads.{AreOfRoot, lines_of_root, all_kept, key_line}
+use Rattle.up_store.proofs.Common.{enumerate_from, slice_cmp, is_eq, nat_cmp, Text, Row, column, value_cmp, Repository, Director, Image, KeySet, RepoKeys, has_text, repository_word, role_lines, repository_lines, HasKeys, HaveKeys, EachHasKeys, value_cmp-Text}
+use Rattle.up_store.proofs.FoundingReads.{key_line}
 
 -- ---- parts that a test tells apart
 
@@ -151,48 +151,12 @@ director_apart m keys = record { front = director_passes m keys.director; behind
 abbrev the_set : RepoKeys → RepoKeys → KeySet
 the_set x y = record { director = x; image = y }
 
-one_root : (m : ℕ) (a b : RootRow) → EachHasKeys a.keys → EachHasKeys b.keys → root_lines m a ≡ root_lines m b → a.keys ≡ b.keys
-one_root m a b some more h =
-    let director : a.keys.director ≡ b.keys.director =
-    one_repository m Director a.keys.director b.keys.director some.director more.director (fronts (is_of Director) _ _ _ _ (director_apart m a.keys) (director_apart m b.keys) h) in
-    let image : a.keys.image ≡ b.keys.image =
-    one_repository m Image a.keys.image b.keys.image some.image more.image (behinds (is_of Director) _ _ _ _ (director_apart m a.keys) (director_apart m b.keys) h) in
+-- the same rows are of the same keys
+pub one_keys : (m : ℕ) (a b : KeySet) → EachHasKeys a → EachHasKeys b
+    → repository_lines m Director a.director ++ repository_lines m Image a.image ≡ repository_lines m Director b.director ++ repository_lines m Image b.image → a ≡ b
+one_keys m a b some more h =
+    let director : a.director ≡ b.director =
+    one_repository m Director a.director b.director some.director more.director (fronts (is_of Director) _ _ _ _ (director_apart m a) (director_apart m b) h) in
+    let image : a.image ≡ b.image =
+    one_repository m Image a.image b.image some.image more.image (behinds (is_of Director) _ _ _ _ (director_apart m a) (director_apart m b) h) in
     ap₂ (λ (x y : RepoKeys). the_set x y) director image
-
--- ---- all root versions
-
-abbrev numbered : ℕ × RootRow → List Row
-numbered r = root_lines r.0 r.1
-
-higher_number : (m n : ℕ) → n < m → is_eq (value_cmp (Int (pos m)) (Int (pos n))) ≡ false
-higher_number m n h = ap is_eq (value_cmp-Int (pos m) (pos n)) ∙ grind (arith, h)
-
-none_of_higher : (m n : ℕ) (rows : List Row) → n < m → AreOfRoot m rows → filter (has_number 0 (pos n)) rows ≡ []
-none_of_higher m n [] high h = refl
-none_of_higher m n (row ∷ rows) high h =
-    let test : has_number 0 (pos n) row ≡ false = ap (λ v. is_eq (value_cmp v (Int (pos n)))) h.0.0 ∙ higher_number m n high in
-    rw (test, none_of_higher m n rows high h.1) refl
-
-none_after : (n i : ℕ) (roots : List RootRow) → n < i → filter (has_number 0 (pos n)) (flat_map numbered (enumerate_from i roots)) ≡ []
-none_after n i [] h = refl
-none_after n i (root ∷ roots) h = none_both (has_number 0 (pos n)) (root_lines i root) (flat_map numbered (enumerate_from (i + 1) roots)) (none_of_higher i n (root_lines i root) h (lines_of_root i root))
-    (none_after n (i + 1) roots (omega (arith, h)))
-
-first_apart : (i : ℕ) (root : RootRow) (roots : List RootRow) → Apart (has_number 0 (pos i)) (root_lines i root) (flat_map numbered (enumerate_from (i + 1) roots))
-first_apart i root roots = record { front = all_kept i (root_lines i root) (lines_of_root i root); behind = none_after i (i + 1) roots (omega (arith)) }
-
-one_list : (i : ℕ) (xs ys : List RootRow) → length xs ≡ length ys → AllByRecursion (λ (r : RootRow). EachHasKeys r.keys) xs → AllByRecursion (λ (r : RootRow). EachHasKeys r.keys) ys
-    → flat_map numbered (enumerate_from i xs) ≡ flat_map numbered (enumerate_from i ys) → map (λ (r : RootRow). r.keys) xs ≡ map (λ (r : RootRow). r.keys) ys
-one_list i [] [] same some more h = refl
-one_list i [] (y ∷ ys) same some more h = absurd (omega (arith, same))
-one_list i (x ∷ xs) [] same some more h = absurd (omega (arith, same))
-one_list i (x ∷ xs) (y ∷ ys) same some more h =
-    let t = has_number 0 (pos i) in
-    let first = fronts t _ _ _ _ (first_apart i x xs) (first_apart i y ys) h in
-    let rest = behinds t _ _ _ _ (first_apart i x xs) (first_apart i y ys) h in
-    ap₂ (λ (k : KeySet) (ks : List KeySet). k ∷ ks) (one_root i x y some.0 more.0 first) (one_list (i + 1) xs ys (omega (arith, same)) some.1 more.1 rest)
-
--- as many root versions with the same rows of keys have the same keys
-pub one_keys : (xs ys : List RootRow) → length xs ≡ length ys → AllByRecursion (λ (r : RootRow). EachHasKeys r.keys) xs → AllByRecursion (λ (r : RootRow). EachHasKeys r.keys) ys
-    → roots_lines xs ≡ roots_lines ys → map (λ (r : RootRow). r.keys) xs ≡ map (λ (r : RootRow). r.keys) ys
-one_keys xs ys same some more h = one_list 1 xs ys same some more h

@@ -1,5 +1,5 @@
 -- Tables that show two sound states show one.
-use Rattle.std.proofs.Common.{◌≡◌, ◌+◌, ◌≤◌, ◌^◌, ℕ, suc, List, [], ◌∷◌, ◌++◌, Bool, true, false, Option, Some, None, map, length, refl, sym, ap, ap₂, ◌∙◌, arith, codes}
+use Rattle.std.proofs.Common.{◌≡◌, ℕ, suc, List, [], ◌∷◌, ◌++◌, Bool, true, false, Option, Some, None, map, length, refl, sym, ap, ap₂, ◌∙◌, arith, codes}
 use Rattle.std.specs.FinMap as table
 use Rattle.up_columns.specs.Columns.{names_column, names_in, file_names_in, needs_column, needs_in}
 use Rattle.up_columns.specs.PlanColumns.{plan_column, plan_in}
@@ -8,12 +8,13 @@ use Rattle.up_columns.proofs.NeedsRead.{needs-there}
 use Rattle.up_columns.proofs.CampaignsRead.{reach-there, campaign_items-there}
 use Rattle.up_columns.proofs.PlansRead.{plan-there}
 use Rattle.up_machine.specs.Sound.{IsSound}
+use Rattle.up_machine.specs.Rows.{founding_row}
 use Rattle.up_machine.specs.State.{Entry, Vehicle, State}
 use Rattle.up_rows.specs.Laws.{RowsTellTheState}
 use Rattle.up_rows.proofs.Tables.{get_changed}
-use Rattle.up_store.proofs.Common.{option_map, AllByRecursion, list_all, Row, Trees, Int, CanonIsRead, MomentsAreRead, Name, Rules, CampaignData, ImageData, Item, Reach, Need, reach_column, reach_in, items_column, campaign_items_in, Root, EcuRow, Founding, Kept, VehicleRows, NewEcu, RootRow, StateRows, rows_of_state, root_of, ecu_of, entry_of, vehicle_of_rows, ecu_row, meta_row, yes_or_no, founding_number, image_lines, campaign_lines, vehicle_lines, ecu_lines, ecus_lines, kept_line, retired_lines, second_hash, sha512_lines, ListsRows, IsOfLastRoot, EachHasKeys, IsTypedImage, IsTypedCampaign, IsTypedKept, IsTypedRoot, each_weaker, image_made, campaign_made}
+use Rattle.up_store.proofs.Common.{option_map, AllByRecursion, list_all, IfSome, is_some, Row, Trees, Int, CanonIsRead, Name, Rules, Director, Image, CampaignData, ImageData, Item, Reach, Need, reach_column, reach_in, items_column, campaign_items_in, EcuRow, Founding, Kept, VehicleRows, NewEcu, StateRows, rows_of_state, chain_of_rows, ecu_of, entry_of, vehicle_of_rows, ecu_row, meta_row, yes_or_no, founding_lines, founding_number, repository_lines, image_lines, campaign_lines, vehicle_lines, ecu_lines, ecus_lines, kept_line, retired_lines, second_hash, sha512_lines, ListsRows, IsOfLastRoot, IsTypedFounding, IsTypedImage, IsTypedCampaign, IsTypedKept, image_made, campaign_made}
 use Rattle.up_store.proofs.OneKeys.{one_keys}
-use Rattle.up_store.proofs.RootTexts.{rows_size, same_found, one_texts, one_roots}
+use Rattle.up_store.proofs.RootTexts.{AreListedAlike, one_texts, one_files as same_texts}
 use Rattle.up_store.proofs.WholeTables.{same_table}
 
 -- ---- columns
@@ -114,8 +115,8 @@ one_ecus n i (x ∷ xs) (y ∷ ys) h =
     let head : the_ecu x.ecu x.hardware x.public ≡ the_ecu y.ecu y.hardware y.public = rw (ecu, hardware, public) refl in
     ap₂ (λ (e : NewEcu) (es : List NewEcu). e ∷ es) head (one_ecus n (suc i) xs ys tail)
 
-abbrev the_entry : ℕ → List ℕ → ℕ → ℕ → Rattle.up_plan.specs.declared.assigned.Plan.Plan → Entry
-the_entry counter signed at root plan = record { counter = counter; signed = signed; at = at; root = root; plan = plan }
+abbrev the_entry : ℕ → List ℕ → ℕ → ℕ → Rattle.up_plan.specs.declared.assigned.Plan.Plan → List ℕ → Entry
+the_entry counter signed at root plan reply = record { counter = counter; signed = signed; at = at; root = root; plan = plan; reply = reply }
 
 one_kept : CanonIsRead → (n : Name) (xs ys : List Kept) → AllByRecursion (IsTypedKept n) xs → AllByRecursion (IsTypedKept n) ys → map kept_line xs ≡ map kept_line ys → map entry_of xs ≡ map entry_of ys
 one_kept law n [] [] tx ty h = refl
@@ -127,9 +128,10 @@ one_kept law n (x ∷ xs) (y ∷ ys) tx ty h =
     let at : x.at ≡ y.at = cc in
     let root : x.root ≡ y.root = cc in
     let plan_text : plan_column x.plan ≡ plan_column y.plan = cc in
+    let reply : x.reply ≡ y.reply = cc in
     let tail : map kept_line xs ≡ map kept_line ys = cc in
     let plan : x.plan ≡ y.plan = let e = sym (plan-there law x.plan tx.0.plan) ∙ ap plan_in plan_text ∙ plan-there law y.plan ty.0.plan in cc in
-    let head : the_entry x.counter x.signed x.at x.root x.plan ≡ the_entry y.counter y.signed y.at y.root y.plan = rw (counter, signed, at, root, plan) refl in
+    let head : the_entry x.counter x.signed x.at x.root x.plan x.reply ≡ the_entry y.counter y.signed y.at y.root y.plan y.reply = rw (counter, signed, at, root, plan, reply) refl in
     ap₂ (λ (e : Entry) (es : List Entry). e ∷ es) head (one_kept law n xs ys tx.1 ty.1 tail)
 
 one_retired : (n : Name) (xs ys : List Name) → retired_lines n xs ≡ retired_lines n ys → xs ≡ ys
@@ -160,47 +162,72 @@ one_vehicle n kept last gone left (Some v) (Some w) entries retired h k =
 abbrev number_of : (Founding → ℕ) → StateRows → ℕ
 number_of part rows = founding_number part rows.founding
 
-counted : (founding : Option Founding) (roots : List RootRow) → IsOfLastRoot founding roots → founding_number (λ f. f.root) founding ≡ length roots
-counted None roots h = sym (ap length h)
-counted (Some f) roots h = h.0
+counted : (founding : Option Founding) (director image : List (List ℕ)) → IsOfLastRoot founding director image → (founding_number (λ f. f.root) founding ≡ length director) × (founding_number (λ f. f.root) founding ≡ length image)
+counted None director image h = (sym (ap length h.0), sym (ap length h.1))
+counted (Some f) director image h = h
 
 numbers_alike : (a b c x y z : ℕ) → meta_row a b c ∷ [] ≡ meta_row x y z ∷ [] → (a ≡ x) × (b ≡ y) × (c ≡ z)
 numbers_alike a b c x y z h = (cc, cc, cc)
 
+-- ---- a founding
+
+some_mapped : {A B : Type 0} (f : A → B) (o : Option A) → is_some (option_map f o) ≡ is_some o
+some_mapped f None = refl
+some_mapped f (Some x) = refl
+
+founded : (s : State) → is_some (founding_row s) ≡ is_some s.files
+founded s = some_mapped _ s.files
+
+-- of the same numbers and rows of keys there is one founding, or none
+one_founding : (a b : Option Founding) → is_some a ≡ is_some b → founding_number (λ f. f.root) a ≡ founding_number (λ f. f.root) b → founding_number (λ f. f.image_version) a ≡ founding_number (λ f. f.image_version) b
+    → founding_number (λ f. f.stamp) a ≡ founding_number (λ f. f.stamp) b → founding_lines a ≡ founding_lines b → IfSome a IsTypedFounding → IfSome b IsTypedFounding → a ≡ b
+one_founding None None there root version stamp lines ta tb = refl
+one_founding None (Some g) there root version stamp lines ta tb = absurd (cc)
+one_founding (Some f) None there root version stamp lines ta tb = absurd (cc)
+one_founding (Some f) (Some g) there root version stamp lines ta tb =
+    let keys : f.keys ≡ g.keys = one_keys f.root f.keys g.keys ta.keys tb.keys
+    (lines ∙ ap (λ (m : ℕ). repository_lines m Director g.keys.director ++ repository_lines m Image g.keys.image) (sym root)) in
+    let same : f ≡ g = λ i. record { root = root i; keys = keys i; image_version = version i; stamp = stamp i } in
+    ap Some same
+
 -- ---- a state
 
-keys_again : (roots : List RootRow) → map (λ (r : Root). r.keys) (map root_of roots) ≡ map (λ (r : RootRow). r.keys) roots
-keys_again [] = refl
-keys_again (root ∷ roots) = ap (λ ks. root.keys ∷ ks) (keys_again roots)
-
-module _ (law : CanonIsRead) (moments : MomentsAreRead) (tell : RowsTellTheState) (k : Rules) (s t : State) (sound : IsSound k s) (also : IsSound k t) (trees : Trees) (one : ListsRows (rows_of_state k s) trees) (two : ListsRows (rows_of_state k t) trees) where
+module _ (law : CanonIsRead) (tell : RowsTellTheState) (k : Rules) (s t : State) (sound : IsSound k s) (also : IsSound k t) (trees : Trees) (one : ListsRows (rows_of_state s) trees) (two : ListsRows (rows_of_state t) trees) where
   abbrev first : StateRows
-  first = rows_of_state k s
+  first = rows_of_state s
 
   abbrev second : StateRows
-  second = rows_of_state k t
+  second = rows_of_state t
 
   numbers : (number_of (λ f. f.root) first ≡ number_of (λ f. f.root) second) × (number_of (λ f. f.image_version) first ≡ number_of (λ f. f.image_version) second) × (number_of (λ f. f.stamp) first ≡ number_of (λ f. f.stamp) second)
   numbers = numbers_alike _ _ _ _ _ _ (sym one.tables.meta ∙ two.tables.meta)
 
-  sizes : length first.roots ≡ length second.roots
-  sizes = sym (counted first.founding first.roots one.last) ∙ numbers.0 ∙ counted second.founding second.roots two.last
+  director_alike : AreListedAlike Director first second
+  director_alike = λ name. sym (one.tables.files.parts (codes "director") name) ∙ two.tables.files.parts (codes "director") name
 
-  keys : map (λ (r : RootRow). r.keys) first.roots ≡ map (λ (r : RootRow). r.keys) second.roots
-  keys = one_keys first.roots second.roots sizes (each_weaker IsTypedRoot (λ (r : RootRow). EachHasKeys r.keys) (λ r is. is.keys) first.roots one.typed.roots) (each_weaker IsTypedRoot (λ (r : RootRow). EachHasKeys r.keys) (λ r is. is.keys) second.roots two.typed.roots) (sym one.tables.role_keys.every ∙ two.tables.role_keys.every)
+  image_alike : AreListedAlike Image first second
+  image_alike = λ name. sym (one.tables.files.parts (codes "image") name) ∙ two.tables.files.parts (codes "image") name
 
-  keys_told : (u : State) → IsSound k u → map (λ (r : RootRow). r.keys) (rows_of_state k u).roots ≡ map (λ (r : Root). r.keys) u.roots
-  keys_told u is = sym (keys_again (rows_of_state k u).roots) ∙ ap (λ (x : State). map (λ (r : Root). r.keys) x.roots) (tell k u is)
+  director_texts : s.director.texts ≡ t.director.texts
+  director_texts = one_texts Director first second (sym (counted first.founding first.director first.image one.last).0 ∙ numbers.0 ∙ (counted second.founding second.director second.image two.last).0) sound.repositories.root_limit director_alike
 
-  few : 1 + length first.roots ≤ 2 ^ 64
-  few = let size = rows_size k s 1 s.roots in let limit = sound.repositories.root_limit in omega (arith, size, limit)
+  image_texts : s.image.texts ≡ t.image.texts
+  image_texts =
+      let same = sound.repositories.same_number in
+      let limit = sound.repositories.root_limit in
+      one_texts Image first second (sym (counted first.founding first.director first.image one.last).1 ∙ numbers.0 ∙ (counted second.founding second.director second.image two.last).1) (omega (arith, same, limit)) image_alike
 
-  texts : map (λ (r : RootRow). r.director) first.roots ≡ map (λ (r : RootRow). r.director) second.roots
-  texts = one_texts 1 first.roots second.roots sizes few one.numbered two.numbered
-      (λ number low high. same_found first second (λ name. sym (one.tables.files.parts (codes "director") name) ∙ two.tables.files.parts (codes "director") name) number)
+  files : s.files ≡ t.files
+  files = same_texts first second image_alike
 
-  roots : s.roots ≡ t.roots
-  roots = one_roots moments k s t 1 s.roots t.roots sound.repositories.each_root also.repositories.each_root (sym (keys_told s sound) ∙ keys ∙ keys_told t also) texts
+  founding : first.founding ≡ second.founding
+  founding = one_founding first.founding second.founding (founded s ∙ ap is_some files ∙ sym (founded t)) numbers.0 numbers.1 numbers.2 (sym one.tables.role_keys.every ∙ two.tables.role_keys.every) one.typed.founding two.typed.founding
+
+  director : s.director ≡ t.director
+  director = sym (ap (λ (x : State). x.director) (tell k s sound)) ∙ ap₂ (λ (f : Option Founding) (texts : List (List ℕ)). chain_of_rows (λ f. f.keys.director) f texts) founding director_texts ∙ ap (λ (x : State). x.director) (tell k t also)
+
+  image : s.image ≡ t.image
+  image = sym (ap (λ (x : State). x.image) (tell k s sound)) ∙ ap₂ (λ (f : Option Founding) (texts : List (List ℕ)). chain_of_rows (λ f. f.keys.image) f texts) founding image_texts ∙ ap (λ (x : State). x.image) (tell k t also)
 
   images : s.images ≡ t.images
   images = same_table s.images t.images (λ n. one_or_none (both_lines n) (IsTypedImage n) (no_image_lines n) (one_image law n) (table.get s.images n) (table.get t.images n) (one.typed.images n) (two.typed.images n)
@@ -215,8 +242,8 @@ module _ (law : CanonIsRead) (moments : MomentsAreRead) (tell : RowsTellTheState
       (one_retired n (first.retired n) (second.retired n) (sym (one.tables.retired.parts n) ∙ two.tables.retired.parts n))
       (sym (one.tables.vehicles.parts n) ∙ two.tables.vehicles.parts n) (sym (one.tables.ecus.parts n) ∙ two.tables.ecus.parts n)
 
-  told : (u : State) → IsSound k u → (n : Name) → table.get u.vehicles n ≡ option_map (vehicle_of_rows (rows_of_state k u).kept (rows_of_state k u).retired n) (table.get (rows_of_state k u).vehicles n)
-  told u is n = sym (ap (λ (x : State). table.get x.vehicles n) (tell k u is)) ∙ get_changed (vehicle_of_rows (rows_of_state k u).kept (rows_of_state k u).retired) (rows_of_state k u).vehicles n
+  told : (u : State) → IsSound k u → (n : Name) → table.get u.vehicles n ≡ option_map (vehicle_of_rows (rows_of_state u).kept (rows_of_state u).retired n) (table.get (rows_of_state u).vehicles n)
+  told u is n = sym (ap (λ (x : State). table.get x.vehicles n) (tell k u is)) ∙ get_changed (vehicle_of_rows (rows_of_state u).kept (rows_of_state u).retired) (rows_of_state u).vehicles n
 
   vehicles : s.vehicles ≡ t.vehicles
   vehicles = same_table s.vehicles t.vehicles (λ n. told s sound n ∙ vehicle_at n ∙ sym (told t also n))
@@ -228,4 +255,4 @@ module _ (law : CanonIsRead) (moments : MomentsAreRead) (tell : RowsTellTheState
   stamp = sym (ap (λ (x : State). x.stamp) (tell k s sound)) ∙ numbers.2 ∙ ap (λ (x : State). x.stamp) (tell k t also)
 
   pub one_state : s ≡ t
-  one_state = λ i. record { roots = roots i; images = images i; image_version = image_version i; stamp = stamp i; campaigns = campaigns i; vehicles = vehicles i }
+  one_state = λ i. record { director = director i; image = image i; files = files i; images = images i; image_version = image_version i; stamp = stamp i; campaigns = campaigns i; vehicles = vehicles i }

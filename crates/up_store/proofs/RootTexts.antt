@@ -1,15 +1,36 @@
--- Root versions that tables show have their texts there under the names of their numbers, and these tell the moments.
-use Rattle.std.proofs.Common.{◌≡◌, ◌≤◌, ◌<◌, ◌+◌, ◌^◌, ℕ, suc, List, [], ◌∷◌, Bool, true, false, cond, Option, Some, None, map, length, refl, sym, ap, ap₂, ◌∙◌, arith, length-append, bytes_eq, codes}
-use Rattle.up_machine.specs.Sound.{IsSoundRoot}
-use Rattle.up_machine.specs.State.{State, root_at}
-use Rattle.up_store.proofs.Common.{decimal, find, if◌then◌else◌, option_map, slice_get, ◌-◌, AllByRecursion, enumerate_from, option_or, bytes_decides, MomentsAreRead, Name, Rules, Director, KeySet, Root, numbered_root_name, root_text_at, RootRow, text_in, row_named, text_held, StateRows, root_row, or_none, file_lines}
-use Rattle.up_store.proofs.RootMoments.{text_tells}
-use Rattle.up_store.proofs.RootPuts.{Numbered, numbers_apart}
+-- What tables list of files tells the texts of the root versions, and those of the image repository's other files.
+use Rattle.std.proofs.Common.{◌≡◌, ◌≤◌, ◌<◌, ◌+◌, ◌^◌, ℕ, zero, suc, List, [], ◌∷◌, Bool, true, false, cond, Option, Some, None, map, length, refl, sym, ap, ap₂, ◌∙◌, arith, length-append, bytes_eq, codes}
+use Rattle.up_metadata.specs.declared.role_files.RoleTexts.{RoleTexts}
+use Rattle.up_store.proofs.Common.{decimal, find, if◌then◌else◌, option_map, slice_get, enumerate_from, option_or, bytes_decides, File, Name, Repository, Image, numbered_root_name, numbered_roots, root_texts, text_named, text_among, other_text, text_held, StateRows, file_lines}
+use Rattle.up_machine.specs.State.{last_text}
+use Rattle.up_store.proofs.RootPuts.{numbers_apart, not_targets, not_snapshot, not_timestamp}
 
 -- ---- what is found under a number
 
-abbrev found : ℕ → List RootRow → Option (List ℕ)
-found number roots = option_map (text_in Director) (find (λ (r : RootRow). bytes_eq r.name (numbered_root_name number)) roots)
+-- of texts that are numbered from another on
+abbrev found : ℕ → ℕ → List (List ℕ) → Option (List ℕ)
+found i number texts = text_named (numbered_root_name number) (map (λ (r : ℕ × List ℕ). (numbered_root_name r.0, r.1)) (enumerate_from i texts))
+
+found_at : (i place : ℕ) (texts : List (List ℕ)) (text : List ℕ) → i + place < 2 ^ 64 → slice_get texts place ≡ Some text → found i (i + place) texts ≡ Some text
+found_at i place [] text small h = cc
+found_at i zero (x ∷ texts) text small h =
+    let same : x ≡ text = cc in
+    let named : bytes_eq (numbered_root_name i) (numbered_root_name (i + 0)) ≡ true = (bytes_decides (numbered_root_name i) (numbered_root_name (i + 0))).1 (ap numbered_root_name (plain i)) in
+    ap (λ (b : Bool). option_map (λ (f : File). f.1) (cond b (Some (numbered_root_name i, x))
+        (find (λ (f : File). bytes_eq f.0 (numbered_root_name (i + 0))) (map (λ (r : ℕ × List ℕ). (numbered_root_name r.0, r.1)) (enumerate_from (i + 1) texts))))) named
+    ∙ ap (λ (t : List ℕ). Some t) same
+  where
+    plain : (n : ℕ) → n ≡ n + 0
+    plain n = omega arith
+found_at i (suc place) (x ∷ texts) text small h =
+    let apart = numbers_apart i (i + suc place) (omega arith) small in
+    ap (λ (b : Bool). option_map (λ (f : File). f.1) (cond b (Some (numbered_root_name i, x))
+        (find (λ (f : File). bytes_eq f.0 (numbered_root_name (i + suc place))) (map (λ (r : ℕ × List ℕ). (numbered_root_name r.0, r.1)) (enumerate_from (i + 1) texts))))) apart
+    ∙ ap (λ (n : ℕ). found (i + 1) n texts) (later i place)
+    ∙ found_at (i + 1) place texts text (omega (arith, small)) h
+  where
+    later : (i n : ℕ) → i + suc n ≡ i + 1 + n
+    later i n = omega arith
 
 not_latest : (number : ℕ) → bytes_eq (codes "root.json") (numbered_root_name number) ≡ false
 not_latest number = go (bytes_eq (codes "root.json") (numbered_root_name number)) refl
@@ -20,75 +41,80 @@ not_latest number = go (bytes_eq (codes "root.json") (numbered_root_name number)
         let size : 9 ≡ length (numbered_root_name number) = ap length ((bytes_decides (codes "root.json") (numbered_root_name number)).0 is) in
         absurd (omega (arith, size, length-append (decimal number) (codes ".root.json")))
 
-held_is : (rows : StateRows) (number : ℕ) → text_held rows Director (numbered_root_name number) ≡ found number rows.roots
-held_is rows number =
-    or_none (option_map (text_in Director) (row_named (numbered_root_name number) rows.roots))
-    ∙ ap (λ b. option_map (text_in Director) (option_or (if b then slice_get rows.roots (length rows.roots - 1) else None) (find (λ (r : RootRow). bytes_eq r.name (numbered_root_name number)) rows.roots))) (not_latest number)
+held_is : (rows : StateRows) (repository : Repository) (number : ℕ) (text : List ℕ) → found 1 number (root_texts repository rows) ≡ Some text → text_held rows repository (numbered_root_name number) ≡ Some text
+held_is rows repository number text h =
+    let texts = root_texts repository rows in
+    ap (λ (b : Bool). option_or (option_or (if b then last_text texts else None) (found 1 number texts)) (other_text repository rows.files (numbered_root_name number))) (not_latest number)
+    ∙ ap (λ (o : Option (List ℕ)). option_or o (other_text repository rows.files (numbered_root_name number))) h
 
-one_text : (name : Name) (a b : Option (List ℕ)) → file_lines Director name a ≡ file_lines Director name b → a ≡ b
-one_text name None None h = refl
-one_text name None (Some y) h = absurd (cc)
-one_text name (Some x) None h = absurd (cc)
-one_text name (Some x) (Some y) h = let same : x ≡ y = cc in ap Some same
-
-pub same_found : (first second : StateRows) → ((name : Name) → file_lines Director name (text_held first Director name) ≡ file_lines Director name (text_held second Director name))
-    → (number : ℕ) → found number first.roots ≡ found number second.roots
-same_found first second same number =
-    let name = numbered_root_name number in
-    sym (held_is first number) ∙ one_text name (text_held first Director name) (text_held second Director name) (same name) ∙ held_is second number
+one_text : (repository : Repository) (name : Name) (a b : Option (List ℕ)) → file_lines repository name a ≡ file_lines repository name b → a ≡ b
+one_text repository name None None h = refl
+one_text repository name None (Some y) h = absurd (cc)
+one_text repository name (Some x) None h = absurd (cc)
+one_text repository name (Some x) (Some y) h = let same : x ≡ y = cc in ap Some same
 
 -- ---- the texts of all root versions
 
-own_name : (number : ℕ) (r : RootRow) (roots : List RootRow) → r.name ≡ numbered_root_name number → found number (r ∷ roots) ≡ Some r.director
-own_name number r roots named =
-    let is : bytes_eq r.name (numbered_root_name number) ≡ true = (bytes_decides r.name (numbered_root_name number)).1 named in
-    ap (λ b. option_map (text_in Director) (cond b (Some r) (find (λ (u : RootRow). bytes_eq u.name (numbered_root_name number)) roots))) is
+place_within : (texts : List (List ℕ)) (place : ℕ) (text : List ℕ) → slice_get texts place ≡ Some text → place < length texts
+place_within [] place text h = cc
+place_within (x ∷ texts) zero text h = omega arith
+place_within (x ∷ texts) (suc place) text h = let rest = place_within texts place text h in omega (arith, rest)
 
-later_name : (number later : ℕ) (r : RootRow) (roots : List RootRow) → r.name ≡ numbered_root_name number → number < later → later < 2 ^ 64 → found later (r ∷ roots) ≡ found later roots
-later_name number later r roots named low high =
-    let isnt : bytes_eq r.name (numbered_root_name later) ≡ false = ap (λ n. bytes_eq n (numbered_root_name later)) named ∙ numbers_apart number later low high in
-    ap (λ b. option_map (text_in Director) (cond b (Some r) (find (λ (u : RootRow). bytes_eq u.name (numbered_root_name later)) roots))) isnt
+one_list : (xs ys : List (List ℕ)) → length xs ≡ length ys → ((place : ℕ) (x y : List ℕ) → slice_get xs place ≡ Some x → slice_get ys place ≡ Some y → x ≡ y) → xs ≡ ys
+one_list [] [] size each = refl
+one_list [] (y ∷ ys) size each = absurd (omega (arith, size))
+one_list (x ∷ xs) [] size each = absurd (omega (arith, size))
+one_list (x ∷ xs) (y ∷ ys) size each = ap₂ (λ (t : List ℕ) (ts : List (List ℕ)). t ∷ ts) (each 0 x y refl refl) (one_list xs ys (omega (arith, size)) (λ place a b here there. each (suc place) a b here there))
 
-pub one_texts : (number : ℕ) (rs us : List RootRow) → length rs ≡ length us → number + length rs ≤ 2 ^ 64 → Numbered number rs → Numbered number us
-    → ((n : ℕ) → number ≤ n → n < 2 ^ 64 → found n rs ≡ found n us) → map (λ (r : RootRow). r.director) rs ≡ map (λ (r : RootRow). r.director) us
-one_texts number [] [] size small first second same = refl
-one_texts number [] (u ∷ us) size small first second same = absurd (omega (arith, size))
-one_texts number (r ∷ rs) [] size small first second same = absurd (omega (arith, size))
-one_texts number (r ∷ rs) (u ∷ us) size small first second same =
-    let name_first : r.name ≡ numbered_root_name number = cc in
-    let name_second : u.name ≡ numbered_root_name number = cc in
-    let rest_first : Numbered (number + 1) rs = cc in
-    let rest_second : Numbered (number + 1) us = cc in
-    let heads : Some r.director ≡ Some u.director = sym (own_name number r rs name_first) ∙ same number (omega arith) (omega (arith, small)) ∙ own_name number u us name_second in
-    let text : r.director ≡ u.director = cc in
-    let rest : (n : ℕ) → number + 1 ≤ n → n < 2 ^ 64 → found n rs ≡ found n us =
-    λ n low high. sym (later_name number n r rs name_first (omega (arith, low)) high) ∙ same n (omega (arith, low)) high ∙ later_name number n u us name_second (omega (arith, low)) high in
-    ap₂ (λ (t : List ℕ) (ts : List (List ℕ)). t ∷ ts) text (one_texts (number + 1) rs us (omega (arith, size)) (omega (arith, small)) rest_first rest_second rest)
+-- two that list the same lines
+abbrev pub AreListedAlike : Repository → StateRows → StateRows → Type 0
+AreListedAlike repository first second = (name : Name) → file_lines repository name (text_held first repository name) ≡ file_lines repository name (text_held second repository name)
 
--- ---- the root versions
+pub one_texts : (repository : Repository) (first second : StateRows) → length (root_texts repository first) ≡ length (root_texts repository second) → length (root_texts repository first) ≤ 64
+    → AreListedAlike repository first second → root_texts repository first ≡ root_texts repository second
+one_texts repository first second size few same = one_list (root_texts repository first) (root_texts repository second) size (λ place x y here there.
+    let low = place_within (root_texts repository first) place x here in
+    let small : 1 + place < 2 ^ 64 = omega (arith, low, few) in
+    let name = numbered_root_name (1 + place) in
+    let one = held_is first repository (1 + place) x (found_at 1 place (root_texts repository first) x small here) in
+    let two = held_is second repository (1 + place) y (found_at 1 place (root_texts repository second) y small there) in
+    let texts : Some x ≡ Some y = sym one ∙ one_text repository name (text_held first repository name) (text_held second repository name) (same name) ∙ two in
+    cc)
 
-abbrev the_root : KeySet → ℕ → Root
-the_root keys at = record { keys = keys; at = at }
+-- ---- the image repository's other files
 
-abbrev rows_from : Rules → State → ℕ → List Root → List RootRow
-rows_from k s number roots = map (λ (r : ℕ × Root). root_row k s r.0 r.1) (enumerate_from number roots)
+no_number : (t : Name) (i : ℕ) (texts : List (List ℕ)) → ((k : ℕ) → bytes_eq (numbered_root_name k) t ≡ false) → text_named t (map (λ (r : ℕ × List ℕ). (numbered_root_name r.0, r.1)) (enumerate_from i texts)) ≡ None
+no_number t i [] apart = refl
+no_number t i (x ∷ texts) apart =
+    ap (λ (b : Bool). option_map (λ (f : File). f.1) (cond b (Some (numbered_root_name i, x))
+        (find (λ (f : File). bytes_eq f.0 t) (map (λ (r : ℕ × List ℕ). (numbered_root_name r.0, r.1)) (enumerate_from (i + 1) texts))))) (apart i)
+    ∙ no_number t (i + 1) texts apart
 
-pub rows_size : (k : Rules) (s : State) (number : ℕ) (roots : List Root) → length (rows_from k s number roots) ≡ length roots
-rows_size k s number [] = refl
-rows_size k s number (r ∷ roots) = ap suc (rows_size k s (number + 1) roots)
+other_is : (rows : StateRows) (t : Name) → bytes_eq (codes "root.json") t ≡ false → ((k : ℕ) → bytes_eq (numbered_root_name k) t ≡ false) → text_held rows Image t ≡ text_among rows.files t
+other_is rows t latest apart =
+    ap (λ (b : Bool). option_or (option_or (if b then last_text rows.image else None) (text_named t (numbered_roots rows.image))) (text_among rows.files t)) latest
+    ∙ ap (λ (o : Option (List ℕ)). option_or o (text_among rows.files t)) (no_number t 1 rows.image apart)
 
--- of the same keys and texts they are the same
-pub one_roots : MomentsAreRead → (k : Rules) (s t : State) (number : ℕ) (xs ys : List Root) → AllByRecursion (IsSoundRoot k) xs → AllByRecursion (IsSoundRoot k) ys
-    → map (λ (r : Root). r.keys) xs ≡ map (λ (r : Root). r.keys) ys
-    → map (λ (r : RootRow). r.director) (rows_from k s number xs) ≡ map (λ (r : RootRow). r.director) (rows_from k t number ys) → xs ≡ ys
-one_roots law k s t number [] [] sound also keys texts = refl
-one_roots law k s t number [] (y ∷ ys) sound also keys texts = absurd (cc)
-one_roots law k s t number (x ∷ xs) [] sound also keys texts = absurd (cc)
-one_roots law k s t number (x ∷ xs) (y ∷ ys) sound also keys texts =
-    let same_keys : x.keys ≡ y.keys = cc in
-    let same_text : root_text_at k s Director number x ≡ root_text_at k t Director number y = cc in
-    let more_keys : map (λ (r : Root). r.keys) xs ≡ map (λ (r : Root). r.keys) ys = cc in
-    let more_texts : map (λ (r : RootRow). r.director) (rows_from k s (number + 1) xs) ≡ map (λ (r : RootRow). r.director) (rows_from k t (number + 1) ys) = cc in
-    let at : x.at ≡ y.at = text_tells law k number x y (root_at s (number - 1)) (root_at t (number - 1)) same_keys sound.0.moment also.0.moment same_text in
-    let same : the_root x.keys x.at ≡ the_root y.keys y.at = ap₂ (λ (ks : KeySet) (m : ℕ). the_root ks m) same_keys at in
-    ap₂ (λ (r : Root) (rs : List Root). r ∷ rs) same (one_roots law k s t (number + 1) xs ys sound.1 also.1 more_keys more_texts)
+same_other : (first second : StateRows) (t : Name) → bytes_eq (codes "root.json") t ≡ false → ((k : ℕ) → bytes_eq (numbered_root_name k) t ≡ false) → AreListedAlike Image first second
+    → text_among first.files t ≡ text_among second.files t
+same_other first second t latest apart same =
+    sym (other_is first t latest apart) ∙ one_text Image t (text_held first Image t) (text_held second Image t) (same t) ∙ other_is second t latest apart
+
+pub one_files : (first second : StateRows) → AreListedAlike Image first second → first.files ≡ second.files
+one_files first second same = by_files first.files second.files (same_other first second (codes "targets.json") refl not_targets same) (same_other first second (codes "snapshot.json") refl not_snapshot same)
+    (same_other first second (codes "timestamp.json") refl not_timestamp same)
+  where
+    the_texts : List ℕ → List ℕ → List ℕ → RoleTexts
+    the_texts targets snapshot timestamp = record { targets = targets; snapshot = snapshot; timestamp = timestamp }
+
+    by_files : (a b : Option RoleTexts) → text_among a (codes "targets.json") ≡ text_among b (codes "targets.json") → text_among a (codes "snapshot.json") ≡ text_among b (codes "snapshot.json")
+        → text_among a (codes "timestamp.json") ≡ text_among b (codes "timestamp.json") → a ≡ b
+    by_files None None targets snapshot timestamp = refl
+    by_files None (Some y) targets snapshot timestamp = absurd (cc)
+    by_files (Some x) None targets snapshot timestamp = absurd (cc)
+    by_files (Some x) (Some y) targets snapshot timestamp =
+        let a : x.targets ≡ y.targets = cc in
+        let b : x.snapshot ≡ y.snapshot = cc in
+        let c : x.timestamp ≡ y.timestamp = cc in
+        let same : x ≡ y = λ i. record { targets = a i; snapshot = b i; timestamp = c i } in
+        ap Some same
