@@ -1,14 +1,14 @@
 -- What is read of the founding: its numbers, and the keys of the last root version.
-use Rattle.std.proofs.Common.{◌≡◌, ◌≤◌, ◌<◌, ◌+◌, ◌-◌, ℕ, suc, pos, List, [], ◌∷◌, ◌++◌, Bool, true, false, ◌&&◌, Option, Some, None, map, filter, length, slice_get, refl, sym, ap, ap₂, subst, ◌∙◌, arith, append-nil, bytes_eq, codes, IsTrue, append_assoc}
+use Rattle.std.proofs.Common.{◌≡◌, ◌≤◌, ◌+◌, ℕ, pos, List, [], ◌∷◌, ◌++◌, Bool, true, false, ◌&&◌, Option, Some, None, map, filter, length, refl, sym, ap, ap₂, subst, ◌∙◌, arith, append-nil, bytes_eq, codes, IsTrue}
 use Rattle.std.proofs.lemmas.Bool.Decides.{nat_tests}
-use Rattle.std.proofs.lemmas.List.{map-append, length_push}
+use Rattle.std.proofs.lemmas.List.{map-append}
 use Rattle.std.proofs.lemmas.List.Elements.{filter-append}
 use Rattle.std.proofs.lemmas.List.Folds.{find-append}
 use Rattle.up_metadata.specs.declared.keys.RoleSecrets.{RoleSecrets}
 use Rattle.up_store.specs.declared.keys.RoleKey.{RoleKey}
-use Rattle.up_store.proofs.Common.{option_map, find, flat_map, is_some, not, ◌==◌, AllByRecursion, enumerate_from, option_or, is_eq, Int, Text, Blob, Row, column, value_cmp, Connected, value_cmp-Int, Repository, Director, Image, KeySet, RepoKeys, each_weaker, Founding, RootRow, StateRows, or_mapped, MetaRow, IsWithin, HasTables, Reads, ListsAll, up_schema, role_key_table, ListsRows, IsOfLastRoot, role_key_places, columns_at, has_number, key_row, repository_word, role_lines, repository_lines, root_lines, roots_lines, is_key_of, secrets_of, threshold_of, IsRoleOf, AreKeysOf, IsFoundingOf, meta_told, HasKeys, HaveKeys, EachHasKeys, IsTypedRoot}
+use Rattle.up_store.proofs.Common.{option_map, find, IfSome, is_some, not, ◌==◌, AllByRecursion, enumerate_from, option_or, is_eq, Int, Text, Blob, Row, column, value_cmp, Connected, value_cmp-Int, Repository, Director, Image, KeySet, RepoKeys, Founding, StateRows, or_mapped, MetaRow, IsWithin, HasTables, Reads, ListsAll, up_schema, role_key_table, ListsRows, IsOfLastRoot, role_key_places, columns_at, has_number, key_row, repository_word, role_lines, repository_lines, founding_lines, is_key_of, secrets_of, threshold_of, IsRoleOf, AreKeysOf, IsFoundingOf, meta_told, HasKeys, HaveKeys, EachHasKeys, IsTypedFounding}
 
--- ---- rows of one root version
+-- ---- rows of a root version
 
 -- its root version, in a row whose columns are all read
 abbrev pub IsOfRoot : ℕ → Row → Type 0
@@ -34,64 +34,25 @@ repository_of_root m repository keys =
     both_of m _ _ (both_of m _ _ (both_of m _ _ (role_of_root m word (codes "root") keys.root.threshold 0 keys.root.keys) (role_of_root m word (codes "targets") keys.targets.threshold 0 keys.targets.keys))
     (role_of_root m word (codes "snapshot") keys.snapshot.threshold 0 keys.snapshot.keys)) (role_of_root m word (codes "timestamp") keys.timestamp.threshold 0 keys.timestamp.keys)
 
-pub lines_of_root : (m : ℕ) (root : RootRow) → AreOfRoot m (root_lines m root)
-lines_of_root m root = both_of m _ _ (repository_of_root m Director root.keys.director) (repository_of_root m Image root.keys.image)
-
--- ---- those of a root version among all
+lines_of_founding : (f : Founding) → AreOfRoot f.root (founding_lines (Some f))
+lines_of_founding f = both_of f.root _ _ (repository_of_root f.root Director f.keys.director) (repository_of_root f.root Image f.keys.image)
 
 own_number : (n : ℕ) → is_eq (value_cmp (Int (pos n)) (Int (pos n))) ≡ true
 own_number n = ap is_eq (value_cmp-Int (pos n) (pos n)) ∙ grind (arith)
 
-lower_number : (m n : ℕ) → m < n → is_eq (value_cmp (Int (pos m)) (Int (pos n))) ≡ false
-lower_number m n h = ap is_eq (value_cmp-Int (pos m) (pos n)) ∙ grind (arith, h)
-
-pub all_kept : (n : ℕ) (rows : List Row) → AreOfRoot n rows → filter (has_number 0 (pos n)) rows ≡ rows
+all_kept : (n : ℕ) (rows : List Row) → AreOfRoot n rows → filter (has_number 0 (pos n)) rows ≡ rows
 all_kept n [] h = refl
 all_kept n (row ∷ rows) h =
     let test : has_number 0 (pos n) row ≡ true = ap (λ v. is_eq (value_cmp v (Int (pos n)))) h.0.0 ∙ own_number n in
     rw (test, all_kept n rows h.1) refl
 
-none_kept : (m n : ℕ) (rows : List Row) → m < n → AreOfRoot m rows → filter (has_number 0 (pos n)) rows ≡ []
-none_kept m n [] low h = refl
-none_kept m n (row ∷ rows) low h =
-    let test : has_number 0 (pos n) row ≡ false = ap (λ v. is_eq (value_cmp v (Int (pos n)))) h.0.0 ∙ lower_number m n low in
-    rw (test, none_kept m n rows low h.1) refl
-
-none_before : (i n : ℕ) (roots : List RootRow) → i + length roots ≤ n → filter (has_number 0 (pos n)) (flat_map (λ (r : ℕ × RootRow). root_lines r.0 r.1) (enumerate_from i roots)) ≡ []
-none_before i n [] h = refl
-none_before i n (root ∷ roots) h =
-    filter-append (has_number 0 (pos n)) (root_lines i root) (flat_map (λ (r : ℕ × RootRow). root_lines r.0 r.1) (enumerate_from (i + 1) roots))
-    ∙ ap₂ (λ (a b : List Row). a ++ b) (none_kept i n (root_lines i root) (omega (arith, h)) (lines_of_root i root)) (none_before (i + 1) n roots (omega (arith, h)))
-
-abbrev numbered_lines : ℕ × RootRow → List Row
-numbered_lines r = root_lines r.0 r.1
-
-lines_push : (i : ℕ) (roots : List RootRow) (root : RootRow) → flat_map numbered_lines (enumerate_from i (roots ++ root ∷ [])) ≡ flat_map numbered_lines (enumerate_from i roots) ++ root_lines (i + length roots) root
-lines_push i [] root = append-nil (root_lines i root) ∙ ap (λ (m : ℕ). root_lines m root) (let same : i ≡ i + 0 = omega arith in same)
-lines_push i (x ∷ roots) root =
-    let later : i + 1 + length roots ≡ i + suc (length roots) = omega arith in
-    ap (λ (zs : List Row). root_lines i x ++ zs) (lines_push (i + 1) roots root ∙ ap (λ (m : ℕ). flat_map numbered_lines (enumerate_from (i + 1) roots) ++ root_lines m root) later)
-    ∙ sym (append_assoc (root_lines i x) (flat_map numbered_lines (enumerate_from (i + 1) roots)) (root_lines (i + suc (length roots)) root))
-
--- one more root version has its rows behind the others
-pub roots_push : (roots : List RootRow) (root : RootRow) → roots_lines (roots ++ root ∷ []) ≡ roots_lines roots ++ root_lines (length roots + 1) root
-roots_push roots root =
-    let same : 1 + length roots ≡ length roots + 1 = omega arith in
-    lines_push 1 roots root ∙ ap (λ (m : ℕ). roots_lines roots ++ root_lines m root) same
-
-pub last_lines : (roots : List RootRow) (root : RootRow) → filter (has_number 0 (pos (length roots + 1))) (roots_lines (roots ++ root ∷ [])) ≡ root_lines (length roots + 1) root
-last_lines roots root =
-    let n = length roots + 1 in
-    ap (filter (has_number 0 (pos n))) (roots_push roots root)
-    ∙ filter-append (has_number 0 (pos n)) (roots_lines roots) (root_lines n root)
-    ∙ ap₂ (λ (a b : List Row). a ++ b) (none_before 1 n roots (omega arith)) (all_kept n (root_lines n root) (lines_of_root n root))
-
 whole : (m : ℕ) (rows : List Row) → AreOfRoot m rows → map (columns_at role_key_places) rows ≡ rows
 whole m [] h = refl
 whole m (row ∷ rows) h = ap₂ (λ (x : Row) (xs : List Row). x ∷ xs) h.0.1 (whole m rows h.1)
 
-pub whole_root : (m : ℕ) (root : RootRow) → map (columns_at role_key_places) (root_lines m root) ≡ root_lines m root
-whole_root m root = whole m (root_lines m root) (lines_of_root m root)
+-- all rows are the founding's, with all that is read of them
+read_lines : (f : Founding) → map (columns_at role_key_places) (filter (has_number 0 (pos f.root)) (founding_lines (Some f))) ≡ founding_lines (Some f)
+read_lines f = ap (map (columns_at role_key_places)) (all_kept f.root (founding_lines (Some f)) (lines_of_founding f)) ∙ whole f.root (founding_lines (Some f)) (lines_of_founding f)
 
 -- ---- the keys of a role among the rows that were found
 
@@ -318,41 +279,15 @@ pub record AreKeys (rows : List RoleKey) (keys : KeySet) : Type 0 where
   pub director : AreKeysOf (codes "director") rows keys.director
   pub image : AreKeysOf (codes "image") rows keys.image
 
-keys_told : (m : ℕ) (root : RootRow) (rows : List RoleKey) → root_lines m root ≡ map key_row rows → EachHasKeys root.keys → AreKeys rows root.keys
-keys_told m root rows h have =
-    let two = split key_row rows (repository_lines m Director root.keys.director) (repository_lines m Image root.keys.image) h in
-    let px = parts_of m Director root.keys.director two.0 two.3 in
-    let py = parts_of m Image root.keys.image two.1 two.4 in
-    subst (λ (l : List RoleKey). AreKeys l root.keys) (sym two.2)
-    (record { director = director_has m root.keys two.0 two.1 px py have.director; image = image_has m root.keys two.0 two.1 px py have.image })
+keys_told : (f : Founding) (rows : List RoleKey) → founding_lines (Some f) ≡ map key_row rows → EachHasKeys f.keys → AreKeys rows f.keys
+keys_told f rows h have =
+    let two = split key_row rows (repository_lines f.root Director f.keys.director) (repository_lines f.root Image f.keys.image) h in
+    let px = parts_of f.root Director f.keys.director two.0 two.3 in
+    let py = parts_of f.root Image f.keys.image two.1 two.4 in
+    subst (λ (l : List RoleKey). AreKeys l f.keys) (sym two.2)
+    (record { director = director_has f.root f.keys two.0 two.1 px py have.director; image = image_has f.root f.keys two.0 two.1 px py have.image })
 
--- ---- the last root version
-
-pub split_last : (roots : List RootRow) (root : RootRow) → slice_get roots (length roots - 1) ≡ Some root → (front : List RootRow) × (roots ≡ front ++ root ∷ [])
-split_last [] root h = absurd (let e = h in cc)
-split_last (x ∷ []) root h = ([], let same : x ≡ root = cc in ap (λ (r : RootRow). r ∷ []) same)
-split_last (x ∷ y ∷ ys) root h =
-    let at : slice_get (x ∷ y ∷ ys) (length (x ∷ y ∷ ys) - 1) ≡ slice_get (y ∷ ys) (length (y ∷ ys) - 1) =
-    (let same : length (x ∷ y ∷ ys) - 1 ≡ suc (length (y ∷ ys) - 1) = omega arith in ap (slice_get (x ∷ y ∷ ys)) same) in
-    let more = split_last (y ∷ ys) root (sym at ∙ h) in
-    (x ∷ more.0, ap (λ (l : List RootRow). x ∷ l) more.1)
-
-last_of_all : {A : Type 0} (P : A → Type 0) (xs : List A) (x : A) → AllByRecursion P (xs ++ x ∷ []) → P x
-last_of_all P [] x all = all.0
-last_of_all P (y ∷ ys) x all = last_of_all P ys x all.1
-
--- of the last root version that is kept: the rows are of the founding's keys
-last_told : (rows : StateRows) (f : Founding) (found : List RoleKey) (root : RootRow) → root.keys ≡ f.keys → slice_get rows.roots (length rows.roots - 1) ≡ Some root → f.root ≡ length rows.roots
-    → AllByRecursion (λ (r : RootRow). EachHasKeys r.keys) rows.roots → map (columns_at role_key_places) (filter (has_number 0 (pos f.root)) (roots_lines rows.roots)) ≡ map key_row found → AreKeys found f.keys
-last_told rows f found root keys at number typed shows =
-    let two = split_last rows.roots root at in
-    let n = length two.0 + 1 in
-    let size : f.root ≡ n = number ∙ ap length two.1 ∙ length_push two.0 root in
-    let lines : root_lines n root ≡ map key_row found =
-    sym (whole_root n root) ∙ ap (map (columns_at role_key_places)) (sym (last_lines two.0 root)) ∙ ap (λ (l : List RootRow). map (columns_at role_key_places) (filter (has_number 0 (pos n)) (roots_lines l))) (sym two.1)
-    ∙ ap (λ (m : ℕ). map (columns_at role_key_places) (filter (has_number 0 (pos m)) (roots_lines rows.roots))) (sym size) ∙ shows in
-    let have = last_of_all (λ (r : RootRow). EachHasKeys r.keys) two.0 root (subst (AllByRecursion (λ (r : RootRow). EachHasKeys r.keys)) two.1 typed) in
-    subst (AreKeys found) keys (keys_told n root found lines have)
+-- ---- the founding
 
 -- the rows and the numbers are of one founding
 one_founding : (row : MetaRow) (found : List RoleKey) (read kept : Option Founding) → IsFoundingOf row found read → IsFoundingOf row found kept → read ≡ kept
@@ -366,10 +301,6 @@ one_founding row found read kept a b =
     let same : a.founding ≡ b.founding = λ j. record { root = r j; keys = record { director = d j; image = i j }; image_version = v j; stamp = s j } in
     a.is ∙ ap Some same ∙ sym b.is
 
-keyed : (o : Option RootRow) (keys : KeySet) → option_map (λ (r : RootRow). r.keys) o ≡ Some keys → (root : RootRow) × (o ≡ Some root) × (root.keys ≡ keys)
-keyed None keys h = absurd (let e = h in cc)
-keyed (Some root) keys h = (root, refl, let same : root.keys ≡ keys = cc in same)
-
 -- the rows that were found are the founding's
 pub founding_told : (rows : StateRows) (row : MetaRow) (found : List RoleKey) (before after : Connected) → (row.root == 0) ≡ false → Reads before after
     → ((all : List Row) → HasTables before → ListsAll all (before.now.trees role_key_table.tree) → map (columns_at role_key_places) (filter (has_number 0 (pos row.root)) all) ≡ map key_row found)
@@ -377,19 +308,21 @@ pub founding_told : (rows : StateRows) (row : MetaRow) (found : List RoleKey) (b
 founding_told rows row found before after founded reads shows within numbers =
     let has : HasTables before = λ is_open. let here = within.here is_open in record { schema_is = here.schema_is; sound = here.sound; rows = tt } in
     let here = within.here reads.was_open in
-    go rows.founding refl here.rows.last (shows (roots_lines rows.roots) has here.rows.tables.role_keys)
-    (each_weaker IsTypedRoot (λ (r : RootRow). EachHasKeys r.keys) (λ r is. is.keys) rows.roots here.rows.typed.roots)
+    go rows.founding refl (shows (founding_lines rows.founding) has here.rows.tables.role_keys) here.rows.typed.founding
   where
-    go : (o : Option Founding) → rows.founding ≡ o → IsOfLastRoot o rows.roots → map (columns_at role_key_places) (filter (has_number 0 (pos row.root)) (roots_lines rows.roots)) ≡ map key_row found
-        → AllByRecursion (λ (r : RootRow). EachHasKeys r.keys) rows.roots → IsFoundingOf row found rows.founding
-    go None same last lines typed =
+    go : (o : Option Founding) → rows.founding ≡ o → map (columns_at role_key_places) (filter (has_number 0 (pos row.root)) (founding_lines rows.founding)) ≡ map key_row found
+        → IfSome o IsTypedFounding → IsFoundingOf row found rows.founding
+    go None same lines typed =
         let zero : row.root ≡ 0 = ap (λ (m : MetaRow). m.root) (numbers ∙ ap meta_told same) in
         absurd (let e = sym (ap (λ n. n == 0) zero) ∙ founded in cc)
-    go (Some f) same last lines typed =
+    go (Some f) same lines typed =
         let told : row ≡ meta_told (Some f) = numbers ∙ ap meta_told same in
-        let root = keyed (slice_get rows.roots (length rows.roots - 1)) f.keys last.1 in
         let number : row.root ≡ f.root = ap (λ (m : MetaRow). m.root) told in
-        let are = last_told rows f found root.0 root.2 root.1 last.0 typed (ap (λ (m : ℕ). map (columns_at role_key_places) (filter (has_number 0 (pos m)) (roots_lines rows.roots))) (sym number) ∙ lines) in
+        let own : founding_lines (Some f) ≡ map key_row found =
+        sym (read_lines f)
+        ∙ ap (λ (m : ℕ). map (columns_at role_key_places) (filter (has_number 0 (pos m)) (founding_lines (Some f)))) (sym number)
+        ∙ ap (λ (o : Option Founding). map (columns_at role_key_places) (filter (has_number 0 (pos row.root)) (founding_lines o))) (sym same) ∙ lines in
+        let are = keys_told f found own typed.keys in
         record { founding = f; is = same; numbers = sym told; director = are.director; image = are.image }
 
 pub founding_in : (rows : StateRows) (row : MetaRow) (found : List RoleKey) (read : Option Founding) (before after : Connected) → (row.root == 0) ≡ false → Reads before after
@@ -405,15 +338,13 @@ none_founded rows row before none was_open within numbers =
     let here = within.here was_open in
     go rows.founding refl here.rows.last
   where
-    go : (o : Option Founding) → rows.founding ≡ o → IsOfLastRoot o rows.roots → None ≡ rows.founding
+    go : (o : Option Founding) → rows.founding ≡ o → IsOfLastRoot o rows.director rows.image → None ≡ rows.founding
     go None same last = sym same
     go (Some f) same last =
         let number : row.root ≡ f.root = ap (λ (m : MetaRow). m.root) (numbers ∙ ap meta_told same) in
-        let root = keyed (slice_get rows.roots (length rows.roots - 1)) f.keys last.1 in
-        let two = split_last rows.roots root.0 root.1 in
-        let size : f.root ≡ length two.0 + 1 = last.0 ∙ ap length two.1 ∙ length_push two.0 root.0 in
+        let some = last.0 in
         let zero : row.root ≡ 0 = grind (arith, none, nat_tests) in
-        absurd (omega (arith, zero, number, size))
+        absurd (omega (arith, zero, number, some))
 
 -- a root version that isn't 0 tells that there is a founding
 pub founded_by : (rows : StateRows) (row : MetaRow) (before : Connected) → IsTrue before.is_open → IsWithin up_schema (ListsRows rows) before → row ≡ meta_told rows.founding → not (row.root == 0) ≡ is_some rows.founding

@@ -2,7 +2,8 @@
 use Rattle.std.proofs.Common.{◌≡◌, ℕ, pos, ◌+◌, ◌-◌, ◌<◌, ◌≤◌, ◌^◌, zero, suc, Bool, cond, length, bytes_eq, false, List, [], ◌∷◌, ◌++◌, Option, Some, None, Ok, Err, map, codes, refl, ap, ◌∙◌, subst, arith, true, IsUtf8}
 use Rattle.up_metadata.specs.declared.role_files.RoleTexts.{RoleTexts}
 use Rattle.up_store.specs.declared.keys.RoleKey.{RoleKey}
-use Rattle.up_store.proofs.Common.{⊤, HasCleanDisk, BlamesWithin, Store, IsTrue, IfOk, IfErr, IfSome, OnOk, Result, flat_map, find, slice_get, if◌then◌else◌, option_map, option_or, option_to_list, AllByRecursion, enumerate_from, Text, Row, Connected, Name, is_file_name, RepoKeys, Founding, File, texts_in, Repository, Director, Image, RootRow, text_in, row_named, other_text, text_held, StateRows, MetaRow, StoreFault, Memory, FitMeta, file_places, keys_shown, meta_values, role_key_places, HoldsOfMeta, meta_shown, IsWords, columns_at, has_number, meta_row, HasTables, IsWithin, ListsAll, ListsPairs, Reads, HoldsOfAll, HoldsOfFiles, AreLines, EachSays, IsLine, IsTold, Tells, meta_table, repo_file_table, role_key_table, up_schema, ServedFile, key_row, repository_word, repository_lines, root_lines, roots_lines, file_line, file_lines, file_row, ListsRows, files_lines, SaysFile, SaysKey, SaysNumbers, IsFoundingOf, meta_told, AreTyped, AreTypedTexts, IsTypedFile, IsTypedFounding, IsTypedKey, IsTypedRoot, each_said, lines_said}
+use Rattle.up_machine.specs.State.{last_text}
+use Rattle.up_store.proofs.Common.{⊤, HasCleanDisk, BlamesWithin, Store, IsTrue, IfOk, IfErr, IfSome, OnOk, Result, find, slice_get, if◌then◌else◌, option_map, option_or, option_to_list, AllByRecursion, enumerate_from, Text, Row, Connected, Name, is_file_name, RepoKeys, Founding, File, texts_in, Repository, Director, Image, text_named, root_named, other_text, text_held, StateRows, MetaRow, StoreFault, Memory, FitMeta, file_places, keys_shown, meta_values, role_key_places, HoldsOfMeta, meta_shown, IsWords, columns_at, has_number, meta_row, HasTables, IsWithin, ListsAll, ListsPairs, Reads, HoldsOfAll, HoldsOfFiles, AreLines, EachSays, IsLine, IsTold, Tells, meta_table, repo_file_table, role_key_table, up_schema, ServedFile, key_row, repository_word, repository_lines, founding_lines, file_line, file_lines, file_row, ListsRows, files_lines, SaysFile, SaysKey, SaysNumbers, IsFoundingOf, meta_told, AreTyped, AreTypedTexts, IsTypedFile, IsTypedFounding, IsTypedKey, each_said, lines_said, numbered_root_name, numbered_roots, root_texts, ◌==◌}
 use Rattle.up_store.proofs.Blamed.{all_filtered}
 use Rattle.up_store.proofs.ColumnFound.{has_tables, numbers_are}
 use Rattle.up_store.proofs.FoundingReads.{key_line}
@@ -76,9 +77,9 @@ repository_is m repository keys =
     (role_is m repository (codes "snapshot") keys.snapshot.threshold 0 keys.snapshot.keys (utf8 _ (printed (codes "snapshot") refl))))
     (role_is m repository (codes "timestamp") keys.timestamp.threshold 0 keys.timestamp.keys (utf8 _ (printed (codes "timestamp") refl)))
 
-roots_are : (i : ℕ) (roots : List RootRow) → AllByRecursion line (flat_map (λ (r : ℕ × RootRow). root_lines r.0 r.1) (enumerate_from i roots))
-roots_are i [] = tt
-roots_are i (root ∷ roots) = both_lines _ _ (both_lines _ _ (repository_is i Director root.keys.director) (repository_is i Image root.keys.image)) (roots_are (i + 1) roots)
+founding_is : (o : Option Founding) → AllByRecursion line (founding_lines o)
+founding_is None = tt
+founding_is (Some f) = both_lines _ _ (repository_is f.root Director f.keys.director) (repository_is f.root Image f.keys.image)
 
 -- a line shows itself
 shown_lines : (xs : List Row) → AllByRecursion line xs → AllByRecursion line (map (columns_at role_key_places) xs)
@@ -86,7 +87,7 @@ shown_lines [] all = tt
 shown_lines (x ∷ xs) all = ((all.0.0, all.0.1, ap (columns_at role_key_places) all.0.2), shown_lines xs all.1)
 
 pub holds_keys : (root : ℕ) (s : Connected) (rows : StateRows) → ListsRows rows s.now.trees → HoldsOfAll role_key_table (λ all. AllByRecursion line (keys_shown root all)) s
-holds_keys root s rows lists = (roots_lines rows.roots, lists.tables.role_keys, shown_lines _ (all_filtered line (has_number 0 (pos root)) (roots_lines rows.roots) (roots_are 1 rows.roots)))
+holds_keys root s rows lists = (founding_lines rows.founding, lists.tables.role_keys, shown_lines _ (all_filtered line (has_number 0 (pos root)) (founding_lines rows.founding) (founding_is rows.founding)))
 
 -- what a row says is its line
 key_said : (r : Row) (k : RoleKey) → SaysKey (columns_at role_key_places r) k → columns_at role_key_places r ≡ key_row k
@@ -116,18 +117,34 @@ either_typed : {X : Type 0} (P : X → Type 0) (a b : Option X) → IfSome a P �
 either_typed P None b first second = second
 either_typed P (Some x) b first second = first
 
-named_typed : (name : Name) (roots : List RootRow) → AllByRecursion IsTypedRoot roots → IfSome (row_named name roots) IsTypedRoot
-named_typed name roots all =
-    either_typed IsTypedRoot (if bytes_eq (codes "root.json") name then slice_get roots (length roots - 1) else None) (find (λ (row : RootRow). bytes_eq row.name name) roots) (by_test (bytes_eq (codes "root.json") name)) (first_typed IsTypedRoot (λ (row : RootRow). bytes_eq row.name name) roots all)
+-- the text of the first file of a name
+file_typed : (name : Name) (files : List File) → AllByRecursion (λ (f : File). IsUtf8 f.1) files → IfSome (text_named name files) IsUtf8
+file_typed name files typed = by_file (find (λ (f : File). bytes_eq f.0 name) files) (first_typed (λ (f : File). IsUtf8 f.1) (λ (f : File). bytes_eq f.0 name) files typed)
   where
-    by_test : (b : Bool) → IfSome (if b then slice_get roots (length roots - 1) else None) IsTypedRoot
-    by_test true = one_typed IsTypedRoot roots (length roots - 1) all
+    by_file : (o : Option File) → IfSome o (λ (f : File). IsUtf8 f.1) → IfSome (option_map (λ (f : File). f.1) o) IsUtf8
+    by_file None typed = tt
+    by_file (Some f) typed = typed
+
+numbered_typed : (i : ℕ) (texts : List (List ℕ)) → AllByRecursion IsUtf8 texts → AllByRecursion (λ (f : File). IsUtf8 f.1) (map (λ (r : ℕ × List ℕ). (numbered_root_name r.0, r.1)) (enumerate_from i texts))
+numbered_typed i [] typed = tt
+numbered_typed i (text ∷ texts) typed = (typed.0, numbered_typed (i + 1) texts typed.1)
+
+root_typed : (name : Name) (texts : List (List ℕ)) → AllByRecursion IsUtf8 texts → IfSome (root_named name texts) IsUtf8
+root_typed name texts typed =
+    either_typed IsUtf8 (if bytes_eq (codes "root.json") name then last_text texts else None) (text_named name (numbered_roots texts)) (by_test (bytes_eq (codes "root.json") name))
+    (file_typed name (numbered_roots texts) (numbered_typed 1 texts typed))
+  where
+    by_place : (b : Bool) → IfSome (if b then None else slice_get texts (length texts - 1)) IsUtf8
+    by_place true = tt
+    by_place false = one_typed IsUtf8 texts (length texts - 1) typed
+
+    by_test : (b : Bool) → IfSome (if b then last_text texts else None) IsUtf8
+    by_test true = by_place (length texts == 0)
     by_test false = tt
 
-root_typed : (repository : Repository) (o : Option RootRow) → IfSome o IsTypedRoot → IfSome (option_map (text_in repository) o) IsUtf8
-root_typed repository None typed = tt
-root_typed Director (Some root) typed = typed.director
-root_typed Image (Some root) typed = typed.image
+roots_typed : (repository : Repository) (rows : StateRows) → AreTyped rows → AllByRecursion IsUtf8 (root_texts repository rows)
+roots_typed Director rows typed = typed.director
+roots_typed Image rows typed = typed.image
 
 texts_typed : (texts : Option RoleTexts) → IfSome texts AreTypedTexts → AllByRecursion (λ (f : File). IsUtf8 f.1) (texts_in texts)
 texts_typed None typed = tt
@@ -135,16 +152,12 @@ texts_typed (Some texts) typed = (typed.targets, (typed.snapshot, (typed.timesta
 
 other_typed : (repository : Repository) (texts : Option RoleTexts) (name : Name) → IfSome texts AreTypedTexts → IfSome (other_text repository texts name) IsUtf8
 other_typed Director texts name typed = tt
-other_typed Image texts name typed = by_file (find (λ (f : File). bytes_eq f.0 name) (texts_in texts)) (first_typed (λ (f : File). IsUtf8 f.1) (λ (f : File). bytes_eq f.0 name) (texts_in texts) (texts_typed texts typed))
-  where
-    by_file : (o : Option File) → IfSome o (λ (f : File). IsUtf8 f.1) → IfSome (option_map (λ (f : File). f.1) o) IsUtf8
-    by_file None typed = tt
-    by_file (Some f) typed = typed
+other_typed Image texts name typed = file_typed name (texts_in texts) (texts_typed texts typed)
 
 -- a text that is held is in UTF-8
 held_typed : (rows : StateRows) (repository : Repository) (name : Name) → AreTyped rows → IfSome (text_held rows repository name) IsUtf8
 held_typed rows repository name typed =
-    either_typed IsUtf8 (option_map (text_in repository) (row_named name rows.roots)) (other_text repository rows.files name) (root_typed repository (row_named name rows.roots) (named_typed name rows.roots typed.roots)) (other_typed repository rows.files name typed.files)
+    either_typed IsUtf8 (root_named name (root_texts repository rows)) (other_text repository rows.files name) (root_typed name (root_texts repository rows) (roots_typed repository rows typed)) (other_typed repository rows.files name typed.files)
 
 -- the row of the file, or none
 abbrev its_file : Repository → Name → StateRows → Option ServedFile

@@ -29,7 +29,8 @@ no_file_lines word name = by_test (bytes_eq (repository_word Director) word) (by
 typed_none : AreTyped no_rows
 typed_none = record {
   founding = tt;
-  roots = tt;
+  director = tt;
+  image = tt;
   images = λ file image found. absurd (let e = sym (get-empty (slice_cmp nat_cmp) file) ∙ found in cc);
   files = tt;
   campaigns = λ name campaign found. absurd (let e = sym (get-empty (slice_cmp nat_cmp) name) ∙ found in cc);

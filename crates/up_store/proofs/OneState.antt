@@ -164,7 +164,7 @@ number_of part rows = founding_number part rows.founding
 
 counted : (founding : Option Founding) (director image : List (List ℕ)) → IsOfLastRoot founding director image → (founding_number (λ f. f.root) founding ≡ length director) × (founding_number (λ f. f.root) founding ≡ length image)
 counted None director image h = (sym (ap length h.0), sym (ap length h.1))
-counted (Some f) director image h = h
+counted (Some f) director image h = (h.1, h.2)
 
 numbers_alike : (a b c x y z : ℕ) → meta_row a b c ∷ [] ≡ meta_row x y z ∷ [] → (a ≡ x) × (b ≡ y) × (c ≡ z)
 numbers_alike a b c x y z h = (cc, cc, cc)

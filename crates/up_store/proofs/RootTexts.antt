@@ -3,7 +3,7 @@ use Rattle.std.proofs.Common.{◌≡◌, ◌≤◌, ◌<◌, ◌+◌, ◌^◌, �
 use Rattle.up_metadata.specs.declared.role_files.RoleTexts.{RoleTexts}
 use Rattle.up_store.proofs.Common.{decimal, find, if◌then◌else◌, option_map, slice_get, enumerate_from, option_or, bytes_decides, File, Name, Repository, Image, numbered_root_name, numbered_roots, root_texts, text_named, text_among, other_text, text_held, StateRows, file_lines}
 use Rattle.up_machine.specs.State.{last_text}
-use Rattle.up_store.proofs.RootPuts.{numbers_apart, not_targets, not_snapshot, not_timestamp}
+use Rattle.up_store.proofs.RootPuts.{no_number, numbers_apart, not_targets, not_snapshot, not_timestamp}
 
 -- ---- what is found under a number
 
@@ -83,17 +83,10 @@ one_texts repository first second size few same = one_list (root_texts repositor
 
 -- ---- the image repository's other files
 
-no_number : (t : Name) (i : ℕ) (texts : List (List ℕ)) → ((k : ℕ) → bytes_eq (numbered_root_name k) t ≡ false) → text_named t (map (λ (r : ℕ × List ℕ). (numbered_root_name r.0, r.1)) (enumerate_from i texts)) ≡ None
-no_number t i [] apart = refl
-no_number t i (x ∷ texts) apart =
-    ap (λ (b : Bool). option_map (λ (f : File). f.1) (cond b (Some (numbered_root_name i, x))
-        (find (λ (f : File). bytes_eq f.0 t) (map (λ (r : ℕ × List ℕ). (numbered_root_name r.0, r.1)) (enumerate_from (i + 1) texts))))) (apart i)
-    ∙ no_number t (i + 1) texts apart
-
 other_is : (rows : StateRows) (t : Name) → bytes_eq (codes "root.json") t ≡ false → ((k : ℕ) → bytes_eq (numbered_root_name k) t ≡ false) → text_held rows Image t ≡ text_among rows.files t
 other_is rows t latest apart =
     ap (λ (b : Bool). option_or (option_or (if b then last_text rows.image else None) (text_named t (numbered_roots rows.image))) (text_among rows.files t)) latest
-    ∙ ap (λ (o : Option (List ℕ)). option_or o (text_among rows.files t)) (no_number t 1 rows.image apart)
+    ∙ ap (λ (o : Option (List ℕ)). option_or o (text_among rows.files t)) (no_number t 1 rows.image (λ k low high. apart k))
 
 same_other : (first second : StateRows) (t : Name) → bytes_eq (codes "root.json") t ≡ false → ((k : ℕ) → bytes_eq (numbered_root_name k) t ≡ false) → AreListedAlike Image first second
     → text_among first.files t ≡ text_among second.files t

@@ -5,14 +5,15 @@ use Rattle.up_machine.specs.declared.decision.RootRows.{RootRows}
 use Rattle.up_machine.specs.declared.vehicle.Replacement.{Replacement}
 use Rattle.up_machine.specs.Rows.{new_row}
 use Rattle.up_machine.proofs.Lists.{each_one_more}
-use Rattle.up_store.proofs.Common.{option_map, unwrap_or, if◌then◌else◌, bytes_eq, AllByRecursion, slice_cmp, bytes_decides, nat_cmp, eq_by_cmp, Name, Table, CampaignData, ImageData, AcceptedRows, RegisterRows, EcuRow, VehicleRows, NewEcu, get_new, get_same, get_after-insert, new_root, with_root_rows, with_register_rows, with_vehicle_rows, in_place_of_row, replaced_rows, with_replaced_rows, with_campaign_row, with_accepted_rows, TellsItsHash, StateRows, with_image, IsReplacement, AreTyped, AreTypedTexts, IsTypedCampaign, IsTypedEcu, IsTypedFounding, IsTypedImage, IsTypedKept, IsTypedRoot, IsTypedVehicle}
+use Rattle.up_store.proofs.Common.{option_map, unwrap_or, if◌then◌else◌, IsUtf8, bytes_eq, AllByRecursion, slice_cmp, bytes_decides, nat_cmp, eq_by_cmp, Name, Table, CampaignData, ImageData, AcceptedRows, RegisterRows, EcuRow, VehicleRows, NewEcu, get_new, get_same, get_after-insert, with_root_rows, with_register_rows, with_vehicle_rows, in_place_of_row, replaced_rows, with_replaced_rows, with_campaign_row, with_accepted_rows, TellsItsHash, StateRows, with_image, IsReplacement, AreTyped, AreTypedTexts, IsTypedCampaign, IsTypedEcu, IsTypedFounding, IsTypedImage, IsTypedKept, IsTypedVehicle}
 
 -- ---- writes
 
-pub typed_root : (rows : StateRows) (new : RootRows) → AreTyped rows → IsTypedFounding new.founding → IsTypedRoot (new_root new) → AreTypedTexts new.files → AreTyped (with_root_rows rows new)
-typed_root rows new typed founding root files = record {
+pub typed_root : (rows : StateRows) (new : RootRows) → AreTyped rows → IsTypedFounding new.founding → IsUtf8 new.director × IsUtf8 new.image → AreTypedTexts new.files → AreTyped (with_root_rows rows new)
+typed_root rows new typed founding texts files = record {
   founding = founding;
-  roots = each_one_more IsTypedRoot rows.roots (new_root new) typed.roots root;
+  director = each_one_more IsUtf8 rows.director new.director typed.director texts.0;
+  image = each_one_more IsUtf8 rows.image new.image typed.image texts.1;
   images = typed.images;
   files = files;
   campaigns = typed.campaigns;
@@ -24,7 +25,8 @@ typed_root rows new typed founding root files = record {
 pub typed_register : (rows : StateRows) (new : RegisterRows) → AreTyped rows → IsTypedFounding new.founding → AreTypedTexts new.files → AreTyped (with_register_rows rows new)
 typed_register rows new typed founding files = record {
   founding = founding;
-  roots = typed.roots;
+  director = typed.director;
+  image = typed.image;
   images = typed.images;
   files = files;
   campaigns = typed.campaigns;
@@ -36,7 +38,8 @@ typed_register rows new typed founding files = record {
 pub typed_image : (rows : StateRows) (image : ImageData) → AreTyped rows → IsTypedImage image.file image → AreTyped (with_image rows image)
 typed_image rows image typed is = record {
   founding = typed.founding;
-  roots = typed.roots;
+  director = typed.director;
+  image = typed.image;
   images = λ file other found. get_after-insert IsTypedImage rows.images image.file file other image found is (typed.images file other);
   files = typed.files;
   campaigns = typed.campaigns;
@@ -48,7 +51,8 @@ typed_image rows image typed is = record {
 pub typed_campaign : (rows : StateRows) (new : CampaignData) → AreTyped rows → IsTypedCampaign new.name new → AreTyped (with_campaign_row rows new)
 typed_campaign rows new typed is = record {
   founding = typed.founding;
-  roots = typed.roots;
+  director = typed.director;
+  image = typed.image;
   images = typed.images;
   files = typed.files;
   campaigns = λ name other found. get_after-insert IsTypedCampaign rows.campaigns new.name name other new found is (typed.campaigns name other);
@@ -68,7 +72,8 @@ none_before t n q x none = by_test (eq_by_cmp (slice_cmp nat_cmp) q n) (sym (get
 pub typed_vehicle : (rows : StateRows) (new : VehicleRows) → AreTyped rows → IsTypedVehicle new.vehicle.vehicle new → AreTyped (with_vehicle_rows rows new)
 typed_vehicle rows new typed is = record {
   founding = typed.founding;
-  roots = typed.roots;
+  director = typed.director;
+  image = typed.image;
   images = typed.images;
   files = typed.files;
   campaigns = typed.campaigns;
@@ -80,7 +85,8 @@ typed_vehicle rows new typed is = record {
 pub typed_accepted : (rows : StateRows) (new : AcceptedRows) → AreTyped rows → IsTypedKept new.kept.vehicle new.kept → IsTypedVehicle new.vehicle.vehicle.vehicle new.vehicle → AreTyped (with_accepted_rows rows new)
 typed_accepted rows new typed is vehicle = record {
   founding = typed.founding;
-  roots = typed.roots;
+  director = typed.director;
+  image = typed.image;
   images = typed.images;
   files = typed.files;
   campaigns = typed.campaigns;
@@ -110,7 +116,8 @@ with_there rows new was there = ap (λ o. unwrap_or (option_map (λ (v : Vehicle
 pub typed_replaced : (rows : StateRows) (new : Replacement) → AreTyped rows → IsTypedEcu (new_row new.ecu) → IsReplacement new rows → AreTyped (with_replaced_rows rows new)
 typed_replaced rows new typed ecu fits = record {
   founding = typed.founding;
-  roots = typed.roots;
+  director = typed.director;
+  image = typed.image;
   images = typed.images;
   files = typed.files;
   campaigns = typed.campaigns;

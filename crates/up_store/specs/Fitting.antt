@@ -8,13 +8,13 @@ use Rattle.up_plan.specs.Images.{ImageData}
 use Rattle.up_machine.specs.declared.decision.AcceptedRows.{AcceptedRows}
 use Rattle.up_machine.specs.declared.decision.RegisterRows.{RegisterRows}
 use Rattle.up_machine.specs.declared.decision.RootRows.{RootRows}
+use Rattle.up_machine.specs.declared.rows.Founding.{Founding}
 use Rattle.up_machine.specs.declared.rows.VehicleRows.{VehicleRows}
 use Rattle.up_machine.specs.declared.vehicle.Replacement.{Replacement}
 use Rattle.up_machine.specs.Inventory.{closed}
 use Rattle.up_rows.specs.Lookups.{stands_among}
 use Rattle.up_rows.specs.SecondHashes.{TellsItsHash}
 use Rattle.up_rows.specs.StateRows.{StateRows, ecu_of}
-use Rattle.up_store.specs.Listing.{IsOfLastRoot}
 use Rattle.up_store.specs.Typed.{EachHasKeys}
 
 -- the root version is the next one, and each of its roles has a key
@@ -23,9 +23,12 @@ pub record IsNextRoot (new : RootRows) (rows : StateRows) : Type 0 where
   pub image : new.founding.root ≡ length rows.image + 1
   pub keys : EachHasKeys new.founding.keys
 
--- the root version is the last one still
-abbrev pub IsSameRoot : RegisterRows → StateRows → Type 0
-IsSameRoot new rows = IsOfLastRoot (Some new.founding) rows.director rows.image
+-- the root version is the last one still, of the same keys
+pub record IsSameRoot (new : RegisterRows) (rows : StateRows) : Type 0 where
+  pub before : Founding
+  pub there : rows.founding ≡ Some before
+  pub root : new.founding.root ≡ before.root
+  pub keys : new.founding.keys ≡ before.keys
 
 -- the filename is new, and the root version is the last one still
 pub record IsNewImage (image : ImageData) (new : RegisterRows) (rows : StateRows) : Type 0 where
