@@ -1,12 +1,12 @@
 -- What is decided fits the rows that are kept, and takes them to those of the next state.
-use Rattle.std.proofs.Common.{◌≡◌, ℕ, zero, suc, ◌+◌, ◌-◌, List, [], ◌∷◌, ◌++◌, Bool, true, false, cond, Option, Some, None, Ok, refl, sym, ap, ◌∙◌, subst, map, length, arith}
-use Rattle.std.specs.Prelude.{◌==◌, ◌<◌, ◌≤◌, ◌^◌, ⊤, if◌then◌else◌, not, codes, option_map, nat_le, is_none, slice_get}
-use Rattle.std.specs.List.{AllByRecursion, enumerate_from, list_all}
+use Rattle.std.proofs.Common.{◌≡◌, ℕ, suc, ◌+◌, List, [], ◌∷◌, ◌++◌, Bool, true, false, Option, Some, None, Ok, inl, inr, refl, sym, ap, ap₂, ◌∙◌, subst, map, length, arith}
+use Rattle.std.specs.Prelude.{◌<◌, ◌≤◌, ◌^◌, ⊤, if◌then◌else◌, not, codes, option_map, nat_le, is_none}
+use Rattle.std.specs.List.{AllByRecursion, list_all}
 use Rattle.std.specs.FinMap as table
 use Rattle.std.proofs.lemmas.List.{length-append}
+use Rattle.std.proofs.lemmas.Option.{same_Some}
 use Rattle.std.proofs.lemmas.Bool.{leb-true}
 use Rattle.up_canon.specs.Names.{Name, first_repeated, is_from_to}
-use Rattle.up_canon.proofs.Steps.{one_value}
 use Rattle.up_sign.specs.Envelopes.{identifier}
 use Rattle.up_sign.specs.Schemes.{Rules}
 use Rattle.up_plan.specs.Campaigns.{CampaignData}
@@ -15,7 +15,7 @@ use Rattle.up_metadata.specs.declared.keys.RoleSecrets.{RoleSecrets}
 use Rattle.up_metadata.specs.declared.keys.RepoKeys.{RepoKeys}
 use Rattle.up_metadata.specs.declared.keys.KeySet.{KeySet}
 use Rattle.up_metadata.specs.Keys.{role_fits, keys_fit, threshold_fits, secret_fits, repository_fits, key_set_fits}
-use Rattle.up_metadata.specs.Files.{Root}
+use Rattle.up_metadata.specs.declared.role_files.RoleTexts.{RoleTexts}
 use Rattle.up_machine.specs.declared.decision.AcceptedRows.{AcceptedRows}
 use Rattle.up_machine.specs.declared.decision.RegisterRows.{RegisterRows}
 use Rattle.up_machine.specs.declared.decision.RootRows.{RootRows}
@@ -26,9 +26,9 @@ use Rattle.up_machine.specs.declared.rows.VehicleRows.{VehicleRows}
 use Rattle.up_machine.specs.declared.vehicle.Replacement.{Replacement}
 use Rattle.up_machine.specs.declared.vehicle.NewEcu.{NewEcu}
 use Rattle.up_machine.specs.Vehicles.{NewVehicleData, has_ecu, new_vehicle_fault}
-use Rattle.up_machine.specs.State.{Entry, Vehicle, State, nth, root_at, added, version}
+use Rattle.up_machine.specs.State.{Chain, Entry, Vehicle, State, is_founded, root_number, key_set, added, version}
 use Rattle.up_machine.specs.Sound.{IsGrounded, IsSound}
-use Rattle.up_machine.specs.Deciding.{done}
+use Rattle.up_machine.specs.Deciding.{Outcome, done}
 use Rattle.up_machine.specs.Decisions.{IsDone, HasRootRows, HasRegisterRows, HasAcceptedRows}
 use Rattle.up_machine.specs.Deliveries.{with_entry}
 use Rattle.up_machine.specs.Inventory.{closed, with_campaign, decide_open, with_vehicle, decide_vehicle, with_replacement, decide_replace}
@@ -36,19 +36,18 @@ use Rattle.up_machine.specs.Repositories.{stamped, with_root, with_image, decide
 use Rattle.up_machine.specs.Rows.{ecu_row, founding_row, rows_of}
 use Rattle.up_metadata.proofs.Lists.{and_left, and_right}
 use Rattle.up_machine.proofs.Counters.{versions_are_counts}
-use Rattle.up_machine.proofs.Decided.{found_ok, rotate_ok}
+use Rattle.up_machine.proofs.Decided.{found_ok, rotate_ok, image_ok, refresh_ok}
+use Rattle.up_machine.proofs.Keeping.{there as is_there}
 use Rattle.up_machine.proofs.ReplacedRows.{rows_have}
 use Rattle.up_machine.proofs.SoundRows.{row_names}
-use Rattle.up_machine.proofs.Places.{nth_last}
 use Rattle.up_machine.proofs.Tables.{get_same}
 use Rattle.up_rows.specs.SecondHashes.{TellsItsHash}
-use Rattle.up_rows.specs.StateRows.{rows_of_state, root_row, ecu_of}
+use Rattle.up_rows.specs.StateRows.{rows_of_state, ecu_of}
 use Rattle.up_rows.specs.Changes.{with_root_rows, with_register_rows, with_image_rows, with_vehicle_rows, with_replaced_rows, with_campaign_row, with_accepted_rows}
 use Rattle.up_rows.specs.Laws.{VehiclesAreFound, EcusTellTheirHash, RootsAreAdded, FilesAreReplaced, ImagesAreAdded, VehiclesAreAdded, EcusAreReplaced, CampaignsAreWritten, ManifestsAreAdded}
 use Rattle.up_rows.specs.Fitting.{NewImagesAreNew, NewVehiclesAreNew, ReplacementsFit, NewCampaignsAreNew}
 use Rattle.up_rows.proofs.Told.{ecus_back}
 use Rattle.up_store.specs.Fitting.{IsNextRoot, IsSameRoot, IsNewImage, IsNewVehicle, IsReplacement, IsClosing, IsNewCampaign, IsRecorded}
-use Rattle.up_store.specs.Listing.{IsOfLastRoot}
 use Rattle.up_store.specs.Typed.{HasKeys, HaveKeys, EachHasKeys}
 use Rattle.up_store.specs.Writes.{FitsAccepted, FitsFounding, FitsVehicle, root_writes, register_writes, image_writes, campaign_writes, close_writes, vehicle_writes, replace_writes, accept_writes}
 use Rattle.up_store.specs.Writes as writes
@@ -60,9 +59,9 @@ pub closing_fits : (k : Rules) (s : State) (name : Name) (row was : CampaignData
     → WillWrite k s (with_campaign s row) (close_writes row) (λ _. ⊤) (IsClosing row) (λ rows. with_campaign_row rows row)
 closing_fits k s name row was sound written there is = record {
   fit = fit;
-  rows = written k s row;
+  rows = written s row;
   holds = λ next_sound. tt;
-  write = writes.close row fit (sym (written k s row)) refl;
+  write = writes.close row fit (sym (written s row)) refl;
 }
   where
     named : row.name ≡ name
@@ -75,9 +74,9 @@ pub opening_fits : (k : Rules) (s : State) (at : ℕ) (row : CampaignData) → C
     → WillWrite k s (with_campaign s row) (campaign_writes row) (λ _. ⊤) (IsNewCampaign row) (λ rows. with_campaign_row rows row)
 opening_fits k s at row written new it = record {
   fit = fit;
-  rows = written k s row;
+  rows = written s row;
   holds = λ next_sound. tt;
-  write = writes.campaign row fit (sym (written k s row)) refl;
+  write = writes.campaign row fit (sym (written s row)) refl;
 }
   where
     fit : IsNewCampaign row (rows_of_state s)
@@ -85,46 +84,35 @@ opening_fits k s at row written new it = record {
 
 -- ---- the last root version
 
-counted : {A B : Type 0} (f : ℕ → A → B) (n : ℕ) (xs : List A) → length (map (λ (r : ℕ × A). f r.0 r.1) (enumerate_from n xs)) ≡ length xs
-counted f n [] = refl
-counted f n (x ∷ xs) = ap suc (counted f (n + 1) xs)
+-- what is told of the founding where there is one
+abbrev founding_told : State → Founding
+founding_told s = record { root = root_number s; keys = key_set s; image_version = s.image_version; stamp = s.stamp }
 
-keys_at : (k : Rules) (s : State) (n : ℕ) (roots : List Root) (i : ℕ)
-    → option_map (λ r. r.keys) (slice_get (map (λ (r : ℕ × Root). root_row k s r.0 r.1) (enumerate_from n roots)) i) ≡ option_map (λ (r : Root). r.keys) (slice_get roots i)
-keys_at k s n [] i = refl
-keys_at k s n (root ∷ roots) zero = refl
-keys_at k s n (root ∷ roots) (suc i) = keys_at k s (n + 1) roots i
+pair : Chain → Chain → KeySet
+pair director image = record { director = director.keys; image = image.keys }
 
-nth_there : {A : Type 0} (xs : List A) (n : ℕ) (x : A) → nth xs n ≡ Some x → slice_get xs (n - 1) ≡ Some x
-nth_there xs n x h = by_test (n == 0) h
-  where
-    by_test : (b : Bool) → cond b None (slice_get xs (n - 1)) ≡ Some x → slice_get xs (n - 1) ≡ Some x
-    by_test true h = cc
-    by_test false h = h
-
-abbrev row_with : List Root → ℕ → ℕ → Root → Founding
-row_with roots version stamp root = record { root = length roots; keys = root.keys; image_version = version; stamp = stamp }
-
-last_root : (k : Rules) (s : State) (roots : List Root) (version stamp : ℕ) (f : Founding) (o : Option Root) → nth roots (length roots) ≡ o → option_map (row_with roots version stamp) o ≡ Some f
-    → IsOfLastRoot (Some f) (map (λ (r : ℕ × Root). root_row k s r.0 r.1) (enumerate_from 1 roots))
-last_root k s roots version stamp f None there is = cc
-last_root k s roots version stamp f (Some root) there is =
-    let same : row_with roots version stamp root ≡ f = cc in
-    let size : length (map (λ (r : ℕ × Root). root_row k s r.0 r.1) (enumerate_from 1 roots)) ≡ length roots = counted (root_row k s) 1 roots in (
-      sym (ap (λ (g : Founding). g.root) same) ∙ sym size,
-      ap (λ n. option_map (λ r. r.keys) (slice_get (map (λ (r : ℕ × Root). root_row k s r.0 r.1) (enumerate_from 1 roots)) (n - 1))) size
-          ∙ keys_at k s 1 roots (length roots - 1) ∙ ap (option_map (λ (r : Root). r.keys)) (nth_there roots (length roots) root there) ∙ ap (λ (g : Founding). Some g.keys) same,
-    )
+-- files that are made anew are of the same root version
+same_root : (s next : State) (new : RegisterRows) → is_founded s ≡ true → next.director ≡ s.director → next.image ≡ s.image → Some (founding_told next) ≡ Some new.founding → IsSameRoot new (rows_of_state s)
+unfolding pair
+same_root s next new founded director image h =
+    let files = is_there s.files founded in
+    let same : founding_told next ≡ new.founding = same_Some (founding_told next) new.founding h in
+    record {
+      before = founding_told s;
+      there = ap (option_map (λ (files : RoleTexts). founding_told s)) files.1;
+      root = sym (ap (λ (f : Founding). f.root) same) ∙ ap (λ (c : Chain). length c.texts) director;
+      keys = sym (ap (λ (f : Founding). f.keys) same) ∙ ap₂ (λ (d i : Chain). pair d i) director image;
+    }
 
 -- ---- numbers that columns hold
 
 founding_numbers : (k : Rules) (next : State) (f : Founding) → IsSound k next → founding_row next ≡ Some f → FitsFounding f
-founding_numbers k next f sound h = by_root (root_at next (length next.roots)) h
+founding_numbers k next f sound h = by_files next.files h
   where
-    by_root : (o : Option Root) → option_map (row_with next.roots next.image_version next.stamp) o ≡ Some f → FitsFounding f
-    by_root None h = cc
-    by_root (Some root) h =
-        let same : row_with next.roots next.image_version next.stamp root ≡ f = cc in
+    by_files : (o : Option RoleTexts) → option_map (λ (files : RoleTexts). founding_told next) o ≡ Some f → FitsFounding f
+    by_files None h = cc
+    by_files (Some files) h =
+        let same : founding_told next ≡ f = same_Some (founding_told next) f h in
         subst FitsFounding same (record { root = omega (arith, sound.repositories.root_limit); image_version = omega (arith, sound.repositories.version_limit) })
 
 ecu_count : (v : Vehicle) (ecus : List NewEcu) → length (map (ecu_row v) ecus) ≡ length ecus
@@ -150,26 +138,34 @@ pub refreshing_fits : (k : Rules) (s : State) (at version : ℕ) (new : Register
     → WillWrite k s (stamped k s at version) (register_writes new) (λ _. FitsFounding new.founding) (IsSameRoot new) (λ rows. with_register_rows rows new)
 refreshing_fits k s at version new sound replaced it = record {
   fit = fit;
-  rows = replaced k s at version new sound it.1;
+  rows = replaced k s at version new it.1;
   holds = λ next_sound. founding_numbers k (stamped k s at version) new.founding next_sound it.1.founding;
-  write = writes.register new fit (sym (replaced k s at version new sound it.1)) refl;
+  write = writes.register new fit (sym (replaced k s at version new it.1)) refl;
 }
   where
     fit : IsSameRoot new (rows_of_state s)
-    fit = last_root k s s.roots version at new.founding (root_at s (length s.roots)) refl it.1.founding
+    fit = same_root s (stamped k s at version) new (refresh_ok k s at version _ it.0).founded refl refl it.1.founding
+
+-- an image that is added is added where something is founded
+image_founded : (k : Rules) (s : State) (at : ℕ) (image : ImageData) (next : State) → decide_image k s at image ≡ Ok (done next) → is_founded s ≡ true
+image_founded k s at image next h = elim (image_ok k s at image (done next) h) [
+  | inl it ↦ let bad = ap (λ (o : Outcome). o.answer) it in absurd (cc)
+  | inr is ↦ is.founded
+]
 
 pub image_fits : (k : Rules) (s : State) (at : ℕ) (image : ImageData) (new : RegisterRows) → IsSound k s → ImagesAreAdded → NewImagesAreNew
     → IsDone (HasRegisterRows (stamped k (with_image s image) at (s.image_version + 1))) (stamped k (with_image s image) at (s.image_version + 1)) new (decide_image k s at image)
     → WillWrite k s (stamped k (with_image s image) at (s.image_version + 1)) (image_writes image new) (λ _. FitsFounding new.founding) (IsNewImage image new) (λ rows. with_image_rows rows image new)
 image_fits k s at image new sound added fresh it =
-    let none = fresh s at (s.image_version + 1) image it.0 in
+    let none = fresh k s at (s.image_version + 1) image it.0 in
+    let founded = image_founded k s at image (stamped k (with_image s image) at (s.image_version + 1)) it.0 in
     let fit : IsNewImage image new (rows_of_state s) =
-    record { none = none; root = last_root k s s.roots (s.image_version + 1) at new.founding (root_at s (length s.roots)) refl it.1.founding } in
+    record { none = none; root = same_root s (stamped k (with_image s image) at (s.image_version + 1)) new founded refl refl it.1.founding } in
     record {
       fit = fit;
-      rows = added k s at (s.image_version + 1) image new sound none it.1;
+      rows = added k s at (s.image_version + 1) image new it.1;
       holds = λ next_sound. founding_numbers k (stamped k (with_image s image) at (s.image_version + 1)) new.founding next_sound it.1.founding;
-      write = writes.image image new fit (sym (added k s at (s.image_version + 1) image new sound none it.1)) refl;
+      write = writes.image image new fit (sym (added k s at (s.image_version + 1) image new it.1)) refl;
     }
 
 -- ---- one more root version
@@ -194,37 +190,38 @@ have_keys k keys h =
 each_has_keys : (k : Rules) (keys : KeySet) → key_set_fits k keys ≡ true → EachHasKeys keys
 each_has_keys k keys h = record { director = have_keys k keys.director (and_left _ _ h); image = have_keys k keys.image (and_right _ _ h) }
 
-next_root : (k : Rules) (s : State) (at version : ℕ) (keys : KeySet) (new : RootRows) → key_set_fits k keys ≡ true → HasRootRows (stamped k (with_root k s at keys) at version) new
+next_root : (k : Rules) (s : State) (at version : ℕ) (keys : KeySet) (new : RootRows) → IsSound k s → key_set_fits k keys ≡ true → HasRootRows (stamped k (with_root k s at keys) at version) new
     → IsNextRoot new (rows_of_state s)
-next_root k s at version keys new fits has =
-    let root : Root = record { keys = keys; at = at } in
-    let roots : List Root = s.roots ++ root ∷ [] in
-    let is : new.founding ≡ row_with roots version at root = one_value (option_map (row_with roots version at) (nth roots (length roots))) new.founding (row_with roots version at root) has.founding
-    (ap (option_map (row_with roots version at)) (nth_last s.roots root)) in
+next_root k s at version keys new sound fits has =
+    let next = stamped k (with_root k s at keys) at version in
+    let same : founding_told next ≡ new.founding = same_Some (founding_told next) new.founding has.founding in
+    let number : new.founding.root ≡ length s.director.texts + 1 = sym (ap (λ (f : Founding). f.root) same) ∙ length-append s.director.texts _ in
+    let both = sound.repositories.same_number in
     record {
-      number = ap (λ (f : Founding). f.root) is ∙ length-append s.roots (root ∷ []) ∙ ap (λ n. n + 1) (sym (counted (root_row k s) 1 s.roots));
-      keys = subst EachHasKeys (sym (ap (λ (f : Founding). f.keys) is)) (each_has_keys k keys fits);
+      director = number;
+      image = omega (arith, number, both);
+      keys = subst EachHasKeys (ap (λ (f : Founding). f.keys) same) (each_has_keys k keys fits);
     }
 
 pub founding_fits : (k : Rules) (s : State) (at : ℕ) (keys : KeySet) (new : RootRows) → IsSound k s → RootsAreAdded
     → IsDone (HasRootRows (stamped k (with_root k s at keys) at 1)) (stamped k (with_root k s at keys) at 1) new (decide_found k s at keys)
     → WillWrite k s (stamped k (with_root k s at keys) at 1) (root_writes new) (λ _. FitsFounding new.founding) (IsNextRoot new) (λ rows. with_root_rows rows new)
 founding_fits k s at keys new sound added it = record {
-  fit = next_root k s at 1 keys new (found_ok k s at keys _ it.0).fits it.1;
-  rows = added k s at 1 keys new sound it.1;
+  fit = next_root k s at 1 keys new sound (found_ok k s at keys _ it.0).fits it.1;
+  rows = added k s at 1 keys new it.1;
   holds = λ next_sound. founding_numbers k (stamped k (with_root k s at keys) at 1) new.founding next_sound it.1.founding;
-  write = writes.root new (next_root k s at 1 keys new (found_ok k s at keys _ it.0).fits it.1) (sym (added k s at 1 keys new sound it.1)) refl;
+  write = writes.root new (next_root k s at 1 keys new sound (found_ok k s at keys _ it.0).fits it.1) (sym (added k s at 1 keys new it.1)) refl;
 }
 
 pub rotation_fits : (k : Rules) (s : State) (at : ℕ) (keys : KeySet) (new : RootRows) → IsSound k s → RootsAreAdded
     → IsDone (HasRootRows (stamped k (with_root k s at keys) at (s.image_version + 1))) (stamped k (with_root k s at keys) at (s.image_version + 1)) new (decide_rotate k s at keys)
     → WillWrite k s (stamped k (with_root k s at keys) at (s.image_version + 1)) (root_writes new) (λ _. FitsFounding new.founding) (IsNextRoot new) (λ rows. with_root_rows rows new)
 rotation_fits k s at keys new sound added it = record {
-  fit = next_root k s at (s.image_version + 1) keys new (rotate_ok k s at keys _ it.0).fits it.1;
-  rows = added k s at (s.image_version + 1) keys new sound it.1;
+  fit = next_root k s at (s.image_version + 1) keys new sound (rotate_ok k s at keys _ it.0).fits it.1;
+  rows = added k s at (s.image_version + 1) keys new it.1;
   holds = λ next_sound. founding_numbers k (stamped k (with_root k s at keys) at (s.image_version + 1)) new.founding next_sound it.1.founding;
-  write = writes.root new (next_root k s at (s.image_version + 1) keys new (rotate_ok k s at keys _ it.0).fits it.1)
-      (sym (added k s at (s.image_version + 1) keys new sound it.1)) refl;
+  write = writes.root new (next_root k s at (s.image_version + 1) keys new sound (rotate_ok k s at keys _ it.0).fits it.1)
+      (sym (added k s at (s.image_version + 1) keys new it.1)) refl;
 }
 
 -- ---- vehicles
@@ -234,9 +231,9 @@ pub vehicle_fits : (k : Rules) (s : State) (at : ℕ) (new : NewVehicleData) (ro
     → WillWrite k s (with_vehicle s new) (vehicle_writes row) (λ _. FitsVehicle row) (IsNewVehicle row) (λ rows. with_vehicle_rows rows row)
 vehicle_fits k s at new row found written fresh tell it =
     let none = (fresh k s at new it.0).none in
-    let rows = ap (with_vehicle_rows (rows_of_state s)) it.1 ∙ written k s new none in
+    let rows = ap (with_vehicle_rows (rows_of_state s)) it.1 ∙ written s new none in
     let fit : IsNewVehicle row (rows_of_state s) = record {
-      none = ap (λ (r : VehicleRows). table.get (rows_of_state s).vehicles r.vehicle.vehicle) it.1 ∙ found k s new.vehicle ∙ ap (option_map (rows_of new.vehicle)) none;
+      none = ap (λ (r : VehicleRows). table.get (rows_of_state s).vehicles r.vehicle.vehicle) it.1 ∙ found s new.vehicle ∙ ap (option_map (rows_of new.vehicle)) none;
       tell = subst (λ (r : VehicleRows). AllByRecursion TellsItsHash r.ecus) (sym it.1) (tell new.vehicle (added new));
     } in
     record {
@@ -253,7 +250,7 @@ replacement_fits k s at new v sound found replaced fit there is_done =
     let fits = fit k s at new v sound there is_done in
     let is : IsReplacement new (rows_of_state s) = record {
       was = rows_of new.vehicle v;
-      there = found k s new.vehicle ∙ ap (option_map (rows_of new.vehicle)) there;
+      there = found s new.vehicle ∙ ap (option_map (rows_of new.vehicle)) there;
       has = rows_have v new.old v.ecus ∙ fits.has;
       once = ap first_repeated (row_names v v.ecus) ∙ fits.once;
     } in
@@ -264,12 +261,12 @@ replacement_fits k s at new v sound found replaced fit there is_done =
       write = writes.replacement new is (sym (replaced k s new v sound there fits.free)) refl;
     }
 
-recorded : (k : Rules) (s : State) (name : Name) (v : Vehicle) (e : Entry) (new : AcceptedRows) → IsSound k s → VehiclesAreFound → EcusTellTheirHash → table.get s.vehicles name ≡ Some v → HasAcceptedRows s name v e new
+recorded : (k : Rules) (s : State) (name : Name) (v : Vehicle) (e : Entry) (new : AcceptedRows) → IsSound k s → VehiclesAreFound → EcusTellTheirHash → table.get s.vehicles name ≡ Some v → HasAcceptedRows name v e new
     → IsRecorded new (rows_of_state s)
 recorded k s name v e new sound found tell there has =
     let next : Vehicle = record v { entries = v.entries ++ e ∷ [] } in record {
       was = rows_of name v;
-      there = ap (λ (r : VehicleRows). table.get (rows_of_state s).vehicles r.vehicle.vehicle) has.vehicle ∙ found k s name ∙ ap (option_map (rows_of name)) there;
+      there = ap (λ (r : VehicleRows). table.get (rows_of_state s).vehicles r.vehicle.vehicle) has.vehicle ∙ found s name ∙ ap (option_map (rows_of name)) there;
       primary = ap (λ (r : VehicleRows). r.vehicle.primary) has.vehicle;
       ecus = ap (λ (r : VehicleRows). map ecu_of r.ecus) has.vehicle ∙ ecus_back next v.ecus ∙ sym (ecus_back v v.ecus);
       once = ap (λ (r : VehicleRows). first_repeated (map (λ (row : EcuRow). row.ecu) r.ecus)) has.vehicle ∙ ap first_repeated (row_names next v.ecus) ∙ (sound.vehicles name v there).once;
@@ -280,7 +277,7 @@ last_of : {A : Type 0} (P : A → Type 0) (xs : List A) (x : A) → AllByRecursi
 last_of P [] x h = h.0
 last_of P (y ∷ xs) x h = last_of P xs x h.1
 
-accepted_numbers : (k : Rules) (s : State) (name : Name) (v : Vehicle) (e : Entry) (new : AcceptedRows) → IsSound k (with_entry s name v e) → HasAcceptedRows s name v e new → FitsAccepted new
+accepted_numbers : (k : Rules) (s : State) (name : Name) (v : Vehicle) (e : Entry) (new : AcceptedRows) → IsSound k (with_entry s name v e) → HasAcceptedRows name v e new → FitsAccepted new
 accepted_numbers k s name v e new sound has =
     let after : Vehicle = record v { entries = v.entries ++ e ∷ [] } in
     let next = with_entry s name v e in
@@ -297,13 +294,13 @@ accepted_numbers k s name v e new sound has =
     }
 
 pub accepting_fits : (k : Rules) (s : State) (name : Name) (v : Vehicle) (e : Entry) (new : AcceptedRows) → IsSound k s → VehiclesAreFound → ManifestsAreAdded → EcusTellTheirHash
-    → table.get s.vehicles name ≡ Some v → HasAcceptedRows s name v e new
+    → table.get s.vehicles name ≡ Some v → HasAcceptedRows name v e new
     → WillWrite k s (with_entry s name v e) (accept_writes new) (λ rows. IsRecorded new rows × FitsAccepted new) (IsRecorded new) (λ rows. with_accepted_rows rows new)
 accepting_fits k s name v e new sound found added tell there has = record {
   fit = fit;
-  rows = added k s name v e new there has;
+  rows = added s name v e new there has;
   holds = λ next_sound. (fit, accepted_numbers k s name v e new next_sound has);
-  write = writes.manifest new fit (sym (added k s name v e new there has)) refl;
+  write = writes.manifest new fit (sym (added s name v e new there has)) refl;
 }
   where
     fit : IsRecorded new (rows_of_state s)

@@ -97,9 +97,6 @@ pub one_files : (first second : StateRows) → AreListedAlike Image first second
 one_files first second same = by_files first.files second.files (same_other first second (codes "targets.json") refl not_targets same) (same_other first second (codes "snapshot.json") refl not_snapshot same)
     (same_other first second (codes "timestamp.json") refl not_timestamp same)
   where
-    the_texts : List ℕ → List ℕ → List ℕ → RoleTexts
-    the_texts targets snapshot timestamp = record { targets = targets; snapshot = snapshot; timestamp = timestamp }
-
     by_files : (a b : Option RoleTexts) → text_among a (codes "targets.json") ≡ text_among b (codes "targets.json") → text_among a (codes "snapshot.json") ≡ text_among b (codes "snapshot.json")
         → text_among a (codes "timestamp.json") ≡ text_among b (codes "timestamp.json") → a ≡ b
     by_files None None targets snapshot timestamp = refl
