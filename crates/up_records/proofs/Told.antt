@@ -1,6 +1,6 @@
 -- What is read of the rows of a state is the state's.
-use Rattle.std.proofs.Common.{◌≡◌, ℕ, List, [], ◌∷◌, Bool, true, false, cond, T, Option, Some, None, length, map, refl, sym, ap, ap₂, ◌∙◌, arith, subst}
-use Rattle.std.specs.Prelude.{◌==◌, bytes_eq, is_none, is_some, option_map, option_and_then, unwrap_or, find, filter}
+use Rattle.std.proofs.Common.{◌≡◌, ℕ, List, [], ◌∷◌, ◌++◌, Bool, true, false, cond, T, Option, Some, None, map, refl, sym, ap, ap₂, ◌∙◌, subst}
+use Rattle.std.specs.Prelude.{bytes_eq, is_some, option_map, option_and_then, unwrap_or, find, filter}
 use Rattle.std.specs.List.{AllByRecursion}
 use Rattle.std.specs.Option.{option_or}
 use Rattle.std.specs.FinMap as table
@@ -11,18 +11,17 @@ use Rattle.std.specs.declared.cmp.Ordering.{Ordering}
 use Rattle.std.specs.declared.cmp.Ordering.TheVariants.{Less, Equal, Greater}
 use Rattle.std.specs.Cmp.{tied_itself}
 use Rattle.std.proofs.lemmas.Bool.{or_parts}
-use Rattle.std.proofs.lemmas.Bool.Decides.{nat_tests}
 use Rattle.std.proofs.lemmas.Cmp.{nat_list_cmp_total}
 use Rattle.std.specs.Cmp.Lexicographic.{slice_cmp}
 use Rattle.up_canon.specs.Names.{Name, Table}
 use Rattle.up_sign.specs.Schemes.{Rules}
-use Rattle.up_metadata.specs.Files.{Root}
+use Rattle.up_metadata.specs.declared.role_files.RoleTexts.{RoleTexts}
 use Rattle.up_machine.specs.declared.rows.EcuRow.{EcuRow}
 use Rattle.up_machine.specs.declared.rows.VehicleRow.{VehicleRow}
 use Rattle.up_machine.specs.declared.rows.VehicleRows.{VehicleRows}
-use Rattle.up_machine.specs.declared.rows.Founding.{Founding}
-use Rattle.up_machine.specs.Files.{File, file, files}
-use Rattle.up_machine.specs.State.{State, Vehicle}
+use Rattle.up_machine.specs.Files.{File, file, files, numbered_roots, latest_root, texts_in}
+use Rattle.up_machine.specs.Sound.{IsSound}
+use Rattle.up_machine.specs.State.{Chain, State, Vehicle, is_founded}
 use Rattle.up_machine.specs.Rows.{founding_row, vehicle_rows, rows_of}
 use Rattle.up_machine.specs.Reads.{version_of, ecus_of, installed}
 use Rattle.up_metadata.proofs.Lists.{and_left, and_right}
@@ -51,20 +50,20 @@ no_rows_of : (o : Option VehicleRows) → None ≡ option_map (λ (v : VehicleRo
 no_rows_of None h = refl
 no_rows_of (Some v) h = cc
 
-pub vehicle_whole : (k : Rules) (s : State) (name : Name) (vehicle : VehicleRow) (ecus : List EcuRow) → VehiclesAreFound → Some vehicle ≡ vehicle_found name (rows_of_state s)
+pub vehicle_whole : (s : State) (name : Name) (vehicle : VehicleRow) (ecus : List EcuRow) → VehiclesAreFound → Some vehicle ≡ vehicle_found name (rows_of_state s)
     → ecus ≡ ecus_found name (rows_of_state s) → Some (record { vehicle = vehicle; ecus = ecus }) ≡ vehicle_rows s name
-vehicle_whole k s name vehicle ecus found first second = rows_whole (table.get (rows_of_state s).vehicles name) vehicle ecus first second ∙ found k s name
+vehicle_whole s name vehicle ecus found first second = rows_whole (table.get (rows_of_state s).vehicles name) vehicle ecus first second ∙ found s name
 
-pub no_vehicle : (k : Rules) (s : State) (name : Name) → VehiclesAreFound → None ≡ vehicle_found name (rows_of_state s) → None ≡ vehicle_rows s name
-no_vehicle k s name found h = no_rows_of (table.get (rows_of_state s).vehicles name) h ∙ found k s name
+pub no_vehicle : (s : State) (name : Name) → VehiclesAreFound → None ≡ vehicle_found name (rows_of_state s) → None ≡ vehicle_rows s name
+no_vehicle s name found h = no_rows_of (table.get (rows_of_state s).vehicles name) h ∙ found s name
 
 there_after : {A B : Type 0} (f : A → B) (o : Option A) → is_some (option_map f o) ≡ is_some o
 there_after f None = refl
 there_after f (Some x) = refl
 
 -- a vehicle is known where it has a row
-pub vehicle_known : (k : Rules) (s : State) (name : Name) → VehiclesAreFound → is_some (vehicle_found name (rows_of_state s)) ≡ table.contains_key s.vehicles name
-vehicle_known k s name found = there_after (λ (v : VehicleRows). v.vehicle) (table.get (rows_of_state s).vehicles name) ∙ ap is_some (found k s name) ∙ there_after (rows_of name) (table.get s.vehicles name)
+pub vehicle_known : (s : State) (name : Name) → VehiclesAreFound → is_some (vehicle_found name (rows_of_state s)) ≡ table.contains_key s.vehicles name
+vehicle_known s name found = there_after (λ (v : VehicleRows). v.vehicle) (table.get (rows_of_state s).vehicles name) ∙ ap is_some (found s name) ∙ there_after (rows_of name) (table.get s.vehicles name)
 
 -- ---- views
 
@@ -72,11 +71,11 @@ mapped_twice : {A B C : Type 0} (f : A → B) (g : B → C) (o : Option A) → o
 mapped_twice f g None = refl
 mapped_twice f g (Some x) = refl
 
-pub version_read : (k : Rules) (s : State) (name : Name) → VersionsAreTold → option_map (λ (v : VehicleRow). v.version) (vehicle_found name (rows_of_state s)) ≡ version_of s name
-version_read k s name told = mapped_twice (λ (v : VehicleRows). v.vehicle) (λ (v : VehicleRow). v.version) (table.get (rows_of_state s).vehicles name) ∙ told k s name
+pub version_read : (s : State) (name : Name) → VersionsAreTold → option_map (λ (v : VehicleRow). v.version) (vehicle_found name (rows_of_state s)) ≡ version_of s name
+version_read s name told = mapped_twice (λ (v : VehicleRows). v.vehicle) (λ (v : VehicleRow). v.version) (table.get (rows_of_state s).vehicles name) ∙ told s name
 
-pub ecus_read : (k : Rules) (s : State) (name : Name) → VehiclesAreFound → EcusAreTold → option_map (λ (v : VehicleRows). map (λ (row : EcuRow). row.ecu) v.ecus) (vehicle_rows s name) ≡ ecus_of s name
-ecus_read k s name found told = sym (ap (option_map (λ (v : VehicleRows). map (λ (row : EcuRow). row.ecu) v.ecus)) (found k s name)) ∙ told k s name
+pub ecus_read : (s : State) (name : Name) → VehiclesAreFound → EcusAreTold → option_map (λ (v : VehicleRows). map (λ (row : EcuRow). row.ecu) v.ecus) (vehicle_rows s name) ≡ ecus_of s name
+ecus_read s name found told = sym (ap (option_map (λ (v : VehicleRows). map (λ (row : EcuRow). row.ecu) v.ecus)) (found s name)) ∙ told s name
 
 -- ---- the vehicle of an ECU
 
@@ -124,8 +123,8 @@ all_named [] = tt
 all_named (e ∷ es) = (refl, all_named es)
 
 -- the vehicle in which an ECU stands is found by its name
-owner_there : (k : Rules) (s : State) (ecu : Name) (v : VehicleRows) → owner_among ecu (table.values (rows_of_state s).vehicles) ≡ Some v → table.get (rows_of_state s).vehicles v.vehicle.vehicle ≡ Some v
-owner_there k s ecu v h =
+owner_there : (s : State) (ecu : Name) (v : VehicleRows) → owner_among ecu (table.values (rows_of_state s).vehicles) ≡ Some v → table.get (rows_of_state s).vehicles v.vehicle.vehicle ≡ Some v
+owner_there s ecu v h =
     let all = (rows_of_state s).vehicles in
     table.get-entries all v.vehicle.vehicle
     ∙ owner_at (λ (r : VehicleRows). stands_among ecu r.ecus) (table.entries all) v (from_T _ (table.entries_sorted all))
@@ -147,58 +146,61 @@ none_among ecu (row ∷ ecus) h =
     ap (λ b. option_and_then (λ (r : EcuRow). r.installed) (cond b (Some row) (find (λ (r : EcuRow). bytes_eq r.ecu ecu) ecus))) both.0 ∙ none_among ecu ecus both.1
 
 -- an ECU that stands in no vehicle doesn't stand in the one in which it was replaced
-none_there : (k : Rules) (s : State) (ecu owner : Name) (o : Option VehicleRows) → owner_among ecu (table.values (rows_of_state s).vehicles) ≡ None
+none_there : (s : State) (ecu owner : Name) (o : Option VehicleRows) → owner_among ecu (table.values (rows_of_state s).vehicles) ≡ None
     → table.get (rows_of_state s).vehicles owner ≡ o → installed_among ecu (unwrap_or (option_map (λ (r : VehicleRows). r.ecus) o) []) ≡ None
-none_there k s ecu owner None none is = refl
-none_there k s ecu owner (Some v) none is =
+none_there s ecu owner None none is = refl
+none_there s ecu owner (Some v) none is =
     let all = (rows_of_state s).vehicles in
     let each = none_passes (λ (r : VehicleRows). stands_among ecu r.ecus) (table.values all) none in
     none_among ecu v.ecus (value_at (λ (r : VehicleRows). stands_among ecu r.ecus ≡ false) owner (table.entries all) v each (sym (table.get-entries all owner) ∙ is))
 
-installed_from : (k : Rules) (s : State) (ecu owner : Name) (ecus : List EcuRow) (o : Option VehicleRows) → owner_among ecu (table.values (rows_of_state s).vehicles) ≡ o
+installed_from : (s : State) (ecu owner : Name) (ecus : List EcuRow) (o : Option VehicleRows) → owner_among ecu (table.values (rows_of_state s).vehicles) ≡ o
     → Some owner ≡ option_or (option_map (λ (v : VehicleRows). v.vehicle.vehicle) o) (last_owner ecu (rows_of_state s)) → ecus ≡ ecus_found owner (rows_of_state s)
     → installed_among ecu ecus ≡ option_and_then (λ (v : VehicleRows). installed_among ecu v.ecus) o
-installed_from k s ecu owner ecus None is first second = ap (installed_among ecu) second ∙ none_there k s ecu owner (table.get (rows_of_state s).vehicles owner) is refl
-installed_from k s ecu owner ecus (Some v) is first second =
+installed_from s ecu owner ecus None is first second = ap (installed_among ecu) second ∙ none_there s ecu owner (table.get (rows_of_state s).vehicles owner) is refl
+installed_from s ecu owner ecus (Some v) is first second =
     let name : owner ≡ v.vehicle.vehicle = cc in
     ap (installed_among ecu) (second ∙ ap (λ n. ecus_found n (rows_of_state s)) name
-    ∙ ap (λ o. unwrap_or (option_map (λ (r : VehicleRows). r.ecus) o) []) (owner_there k s ecu v is))
+    ∙ ap (λ o. unwrap_or (option_map (λ (r : VehicleRows). r.ecus) o) []) (owner_there s ecu v is))
 
-pub installed_read : (k : Rules) (s : State) (ecu owner : Name) (ecus : List EcuRow) → InstalledIsTold → Some owner ≡ owner_found ecu (rows_of_state s) → ecus ≡ ecus_found owner (rows_of_state s)
+pub installed_read : (s : State) (ecu owner : Name) (ecus : List EcuRow) → InstalledIsTold → Some owner ≡ owner_found ecu (rows_of_state s) → ecus ≡ ecus_found owner (rows_of_state s)
     → installed_among ecu ecus ≡ installed s ecu
-installed_read k s ecu owner ecus told first second = installed_from k s ecu owner ecus (owner_among ecu (table.values (rows_of_state s).vehicles)) refl first second ∙ told k s ecu
+installed_read s ecu owner ecus told first second = installed_from s ecu owner ecus (owner_among ecu (table.values (rows_of_state s).vehicles)) refl first second ∙ told s ecu
 
 not_installed : (ecu : Name) (o : Option VehicleRows) (last : Option Name) → None ≡ option_or (option_map (λ (v : VehicleRows). v.vehicle.vehicle) o) last
     → None ≡ option_and_then (λ (v : VehicleRows). installed_among ecu v.ecus) o
 not_installed ecu None last h = refl
 not_installed ecu (Some v) last h = cc
 
-pub none_installed : (k : Rules) (s : State) (ecu : Name) → InstalledIsTold → None ≡ owner_found ecu (rows_of_state s) → None ≡ installed s ecu
-none_installed k s ecu told h =
-    not_installed ecu (owner_among ecu (table.values (rows_of_state s).vehicles)) (last_owner ecu (rows_of_state s)) h ∙ told k s ecu
+pub none_installed : (s : State) (ecu : Name) → InstalledIsTold → None ≡ owner_found ecu (rows_of_state s) → None ≡ installed s ecu
+none_installed s ecu told h =
+    not_installed ecu (owner_among ecu (table.values (rows_of_state s).vehicles)) (last_owner ecu (rows_of_state s)) h ∙ told s ecu
 
 -- ---- files
 
 -- before founding there is no file
-no_file : (k : Rules) (s : State) (repository : Repository) (name : Name) (roots : List Root) → s.roots ≡ roots → length roots ≡ 0 → file s repository name ≡ None
+no_file : (s : State) (repository : Repository) (name : Name) → s.director.texts ≡ [] → s.image.texts ≡ [] → s.files ≡ None → file s repository name ≡ None
 unfolding files
-no_file k s Director name [] none same =
-    ap (λ (roots : List Root). option_map (λ (f : File). f.1) (find (λ (f : File). bytes_eq f.0 name) (files k (record s { roots = roots }) Director))) none
-no_file k s Image name [] none same =
-    ap (λ (roots : List Root). option_map (λ (f : File). f.1) (find (λ (f : File). bytes_eq f.0 name) (files k (record s { roots = roots }) Image))) none
-no_file k s repository name (root ∷ roots) some none = absurd (omega (arith, none))
+no_file s Director name director image none =
+    ap (λ (texts : List (List ℕ)). option_map (λ (f : File). f.1) (find (λ (f : File). bytes_eq f.0 name) (latest_root texts ++ numbered_roots texts))) director
+no_file s Image name director image none =
+    ap (λ (texts : List (List ℕ)). option_map (λ (f : File). f.1) (find (λ (f : File). bytes_eq f.0 name) (latest_root texts ++ numbered_roots texts ++ texts_in s.files))) image
+    ∙ ap (λ (o : Option RoleTexts). option_map (λ (f : File). f.1) (find (λ (f : File). bytes_eq f.0 name) (texts_in o))) none
 
-some_where : (o : Option Founding) (b : Bool) → is_none o ≡ b → b ≡ false → true ≡ is_some o
-some_where None b is has = absurd (let e = is ∙ has in cc)
-some_where (Some f) b is has = refl
+no_texts : (o : Option RoleTexts) → is_some o ≡ false → o ≡ None
+no_texts None h = refl
+no_texts (Some texts) h = cc
 
 -- where there is a file, there is a founding
-pub founded_with : (k : Rules) (s : State) (repository : Repository) (name : Name) (text : List ℕ) → FoundedIsFound → Some text ≡ file s repository name → true ≡ is_some (founding_row s)
-founded_with k s repository name text founded there = by_roots (length s.roots == 0) refl
+pub founded_with : (k : Rules) (s : State) (repository : Repository) (name : Name) (text : List ℕ) → FoundedIsFound → IsSound k s → Some text ≡ file s repository name → true ≡ is_some (founding_row s)
+founded_with k s repository name text founded sound there = by_files (is_founded s) refl
   where
-    by_roots : (b : Bool) → (length s.roots == 0) ≡ b → true ≡ is_some (founding_row s)
-    by_roots true none = absurd (let e = there ∙ no_file k s repository name s.roots refl (grind (arith, none, nat_tests)) in cc)
-    by_roots false some = some_where (founding_row s) (length s.roots == 0) (founded s) some
+    by_files : (b : Bool) → is_founded s ≡ b → true ≡ is_some (founding_row s)
+    by_files true is = sym (founded s ∙ is)
+    by_files false is =
+        let none = no_texts s.files is in
+        let un = sound.repositories.unfounded none in
+        absurd (let e = there ∙ no_file s repository name (ap (λ (c : Chain). c.texts) un.director_is) (ap (λ (c : Chain). c.texts) un.image_is) none in cc)
 
 -- ---- the running campaigns
 

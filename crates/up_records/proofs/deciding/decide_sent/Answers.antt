@@ -12,7 +12,7 @@ pub returns-in-Ok : goal.returns-in-Ok
 returns-in-Ok g c inside =
     let k = g.K.Scheme.rules c.args.scheme.now in
     let manifest = c.args.incoming.now.manifest in
-    decides_on g.D.Store (then_on g.D.Store (none_on g.D.Store {rules = λ _. Rattle.std.specs.Prelude.⊤} inside) (rows_on g.D.Store _ (λ j s x is. is ∙ c.rows_are_found.ensures.kept j s manifest.vehicle manifest.counter) c.in-Ok.ensures)) k tt c.decide_again.result
+    decides_on g.D.Store (then_on g.D.Store (none_on g.D.Store {rules = λ _. Rattle.std.specs.Prelude.⊤} inside) (rows_on g.D.Store _ (λ j s x is. is ∙ c.rows_are_found.ensures.kept s manifest.vehicle manifest.counter) c.in-Ok.ensures)) k tt c.decide_again.result
     (λ s. never_delivered k s c.args.at c.args.incoming.now) (λ s r h. h)
     (λ s sound sent found. c.decide_again.ensures.decided k s c.args.at c.requires.given.0 sound sent.from (c.as_ref.ensures.value ∙ found.1))
 

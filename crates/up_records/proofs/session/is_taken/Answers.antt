@@ -7,7 +7,7 @@ pub returns-in-Ok : goal.returns-in-Ok
 returns-in-Ok g c inside =
     let G = g.D.Store in
     all_on G (then_on G (none_on G inside) (rows_on G _ (λ k s x is. is) c.in-Ok.ensures)) _ _
-    (λ k of s found. c.is_some.ensures ∙ ap is_some found.1 ∙ c.rows_are_found.ensures.taken k s c.args.ecu.now)
+    (λ k of s found. c.is_some.ensures ∙ ap is_some found.1 ∙ c.rows_are_found.ensures.taken s c.args.ecu.now)
 
 pub returns-in-Err : goal.returns-in-Err
 returns-in-Err g c inside = let G = g.D.Store in lost_on G (none_on G inside) _ (Err c.in-Err.fault) refl (rows_on G _ (λ k s x is. is) c.in-Err.ensures)
