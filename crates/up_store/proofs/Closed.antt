@@ -50,7 +50,6 @@ puts_closed (Ok done) new before after sets was_open = λ rows within fits.
     alters_as campaign_table _ _ (λ trees. lists_as 1 _ _ trees (only_inserted rows.campaigns new.name new campaign_lines (campaign_line new.name (reach_column fits.was.reach) (items_column fits.was.items) (pos 0)) line)) before after alters in
     goes_on campaign_table _ (ListsRows (with_campaign_row rows new)) before after now (record {
       last = here.rows.last;
-      numbered = here.rows.numbered;
       typed = typed_campaign rows new here.rows.typed (typed_closed rows new here.rows.typed fits);
       tables = lists_campaigns (table_rows rows) (with_campaign_lines rows new) before after here.rows.tables now;
     })

@@ -109,7 +109,6 @@ puts_image_rows (Ok done) image before mid after first second typed hash was_ope
     let next = with_image rows image in
     goes_as two (record {
       last = here.rows.last;
-      numbered = here.rows.numbered;
       typed = typed_image rows image here.rows.typed (typed hash);
       tables = record {
         meta = t.meta;
@@ -145,7 +144,7 @@ pub puts_campaign : {A : Type 0} (r : Result A StoreFault) (new : CampaignData) 
 puts_campaign r new made before after is typed puts was_open =
     puts_named r campaign_table campaign_lines (λ rows. rows.campaigns) new.name new made.name.now (campaign_row made) (IsNewCampaign new) (λ rows. with_campaign_row rows new) before after (λ rows fits. fits)
     refl (ap (λ (row : Row). row ∷ []) (sym is)) (let e = is in cc) (λ rows lists. lists.tables.campaigns)
-    (λ rows lists now. record { last = lists.last; numbered = lists.numbered; typed = typed_campaign rows new lists.typed typed; tables = lists_campaigns (table_rows rows) _ before after lists.tables now }) puts was_open
+    (λ rows lists now. record { last = lists.last; typed = typed_campaign rows new lists.typed typed; tables = lists_campaigns (table_rows rows) _ before after lists.tables now }) puts was_open
 
 -- ---- kept manifests
 

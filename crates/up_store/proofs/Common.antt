@@ -1,5 +1,5 @@
 -- The names that the proofs of this crate cite most, passed on from one place. Declares nothing.
-pub use Rattle.serde_json.specs.Data.{Data, Members, string}
+pub use Rattle.serde_json.specs.Data.{Data}
 pub use Rattle.sqlite.specs.Effect.{Database}
 pub use Rattle.sqlite.specs.Held.{Held, state}
 pub use Rattle.sqlite.specs.Order.{column, Row, value_cmp}
@@ -14,10 +14,9 @@ pub use Rattle.std.specs.Cmp.Lexicographic.{bytes_decides, slice_cmp}
 pub use Rattle.std.specs.List.{AllByRecursion, enumerate_from, list_all, list_any}
 pub use Rattle.std.specs.Option.{option_or, option_to_list}
 pub use Rattle.std.specs.Ordering.{eq_by_cmp, is_eq, is_lt, nat_cmp}
-pub use Rattle.std.specs.Prelude.{bytes_eq, codes, decimal, find, flat_map, IfErr, IfOk, IfSome, if◌then◌else◌, is_some, IsErrAnd, IsSomeAnd, IsTrue, IsUtf8, length, map, MatchBool, nat_le, not, OnOk, option_and_then, option_map, Result, slice_get, String, T, unwrap_or, ⊤, ◌&&◌, ◌-◌, ◌==◌, ◌||◌}
+pub use Rattle.std.specs.Prelude.{bytes_eq, codes, decimal, find, IfErr, IfOk, IfSome, if◌then◌else◌, is_some, IsErrAnd, IsSomeAnd, IsTrue, IsUtf8, length, MatchBool, nat_le, not, OnOk, option_and_then, option_map, Result, slice_get, String, T, unwrap_or, ⊤, ◌&&◌, ◌==◌, ◌||◌}
 pub use Rattle.std.specs.Result.{IsOk}
-pub use Rattle.up_canon.specs.Canon.{CanonIsRead, escape_of, has_canon, is_plain, is_printable, is_printable_text, more_items_text, more_members_text, json_string, text}
-pub use Rattle.up_canon.specs.Moments.{day_in_month, last_command_moment, last_moment, MomentsAreRead, month_of, parts_text, read_moment, year_of}
+pub use Rattle.up_canon.specs.Canon.{CanonIsRead, has_canon, is_plain, is_printable, is_printable_text, more_items_text, text}
 pub use Rattle.up_canon.specs.Names.{is_file_name, is_ident, Name, Table}
 pub use Rattle.up_canon.specs.Steps.{if_passes}
 pub use Rattle.up_columns.specs.CampaignColumns.{campaign_items_in, items_column, items_data, reach_column, reach_data, reach_in}
@@ -33,7 +32,6 @@ pub use Rattle.up_machine.specs.declared.rows.VehicleRow.{VehicleRow}
 pub use Rattle.up_machine.specs.declared.rows.VehicleRows.{VehicleRows}
 pub use Rattle.up_machine.specs.declared.vehicle.NewEcu.{NewEcu}
 pub use Rattle.up_metadata.proofs.Lists.{each_weaker}
-pub use Rattle.up_metadata.specs.Files.{Root, root_file, root_signers}
 pub use Rattle.up_metadata.specs.declared.keys.KeySet.{KeySet}
 pub use Rattle.up_metadata.specs.declared.keys.RepoKeys.{RepoKeys}
 pub use Rattle.up_plan.specs.Campaigns.{campaign_fits, CampaignData}

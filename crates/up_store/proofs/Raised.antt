@@ -19,7 +19,7 @@ pub rows_again : (version : SchemaVersion) (rows : StateRows) (old new : Connect
 rows_again version rows old new is_open was now =
     let were = (was.here is_open).rows in record {
       mode = now.mode;
-      here = λ open_now. let here = now.here open_now in record { schema_is = here.schema_is; sound = here.sound; rows = record { last = were.last; numbered = were.numbered; typed = were.typed; tables = here.rows } };
+      here = λ open_now. let here = now.here open_now in record { schema_is = here.schema_is; sound = here.sound; rows = record { last = were.last; typed = were.typed; tables = here.rows } };
       committed = now.committed;
     }
 
@@ -37,7 +37,7 @@ raised_rows old new survives = record {
           let told = made.0.1 version (table_rows rows) (tables_of version rows old was) in
           let were = (was.here made.0.0).rows in
           let held = told.1 in
-          (told.0, record { schema_is = held.schema_is; sound = held.sound; rows = record { last = were.last; numbered = were.numbered; typed = were.typed; tables = held.rows } }),
+          (told.0, record { schema_is = held.schema_is; sound = held.sound; rows = record { last = were.last; typed = were.typed; tables = held.rows } }),
       made.1,
     )
   ];

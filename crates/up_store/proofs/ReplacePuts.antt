@@ -127,7 +127,6 @@ puts_replaced (Ok x) new before mid after first second typed was_open = λ rows 
     λ n. same_inserted rows.vehicles name was (replaced_rows new was) vehicle_lines fits.there refl n ∙ sym (ap (λ t. vehicle_lines (table.get t n)) (with_there rows new was fits.there)) in
     goes_on retired_table _ (ListsRows next) mid after two (record {
       last = here.rows.last;
-      numbered = here.rows.numbered;
       typed = typed_replaced rows new here.rows.typed typed fits;
       tables = record {
         meta = t.meta;

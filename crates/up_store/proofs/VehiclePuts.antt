@@ -60,7 +60,6 @@ puts_vehicle (Ok done) new vehicle before mid after same typed ecus_typed first 
     let two : Alters ecu_table (Lists 2 ecu_rows) mid after = alters_as ecu_table _ _ (λ trees. lists_as 2 _ _ trees ecus_are) mid after more in
     goes_on ecu_table _ (ListsRows (with_vehicle_rows rows new)) mid after two (record {
       last = here.rows.last;
-      numbered = here.rows.numbered;
       typed = typed_vehicle rows new here.rows.typed (record { named = refl; row = typed; ecus = ecus_typed; tell = fits.tell });
       tables = lists_ecus (record (table_rows rows) { vehicles = vehicles }) ecu_rows mid after lists two;
     })

@@ -1,5 +1,5 @@
 -- What rows that are written have to fit of those that are kept: decisions answer only such rows.
-use Rattle.std.specs.Prelude.{◌≡◌, ◌+◌, Some, None, IsTrue, length, map}
+use Rattle.std.specs.Prelude.{◌≡◌, ◌+◌, Option, Some, None, IsTrue, length, map}
 use Rattle.std.specs.List.{AllByRecursion}
 use Rattle.std.specs.FinMap as table
 use Rattle.up_canon.specs.Names.{first_repeated}
@@ -23,12 +23,16 @@ pub record IsNextRoot (new : RootRows) (rows : StateRows) : Type 0 where
   pub image : new.founding.root ≡ length rows.image + 1
   pub keys : EachHasKeys new.founding.keys
 
--- the root version is the last one still, of the same keys
-pub record IsSameRoot (new : RegisterRows) (rows : StateRows) : Type 0 where
+-- of the same root version as the one before, and of the same keys
+pub record IsOfSameRoot (new : Founding) (founding : Option Founding) : Type 0 where
   pub before : Founding
-  pub there : rows.founding ≡ Some before
-  pub root : new.founding.root ≡ before.root
-  pub keys : new.founding.keys ≡ before.keys
+  pub there : founding ≡ Some before
+  pub root : new.root ≡ before.root
+  pub keys : new.keys ≡ before.keys
+
+-- the root version is the last one still
+abbrev pub IsSameRoot : RegisterRows → StateRows → Type 0
+IsSameRoot new rows = IsOfSameRoot new.founding rows.founding
 
 -- the filename is new, and the root version is the last one still
 pub record IsNewImage (image : ImageData) (new : RegisterRows) (rows : StateRows) : Type 0 where
