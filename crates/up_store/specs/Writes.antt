@@ -18,7 +18,7 @@ use Rattle.up_rows.specs.StateRows.{StateRows}
 use Rattle.up_tables.specs.Lines.{retired_line}
 use Rattle.up_tables.specs.Texts.{insert_image_text, insert_sha512_text, insert_campaign_text, close_campaign_text, insert_vehicle_text}
 use Rattle.up_tables.specs.Texts.{insert_retired_text, insert_kept_text, update_meta_text, replace_ecu_text, insert_ecu_text, update_ecu_text}
-use Rattle.up_tables.specs.Texts.{insert_role_key_text, upsert_file_text, upsert_vehicle_text}
+use Rattle.up_tables.specs.Texts.{delete_role_keys_text, insert_role_key_text, upsert_file_text, upsert_vehicle_text}
 use Rattle.up_tables.specs.Tried.{Makes, RefusesOne}
 use Rattle.up_store.specs.declared.files.ServedFile.{ServedFile}
 use Rattle.up_store.specs.Fitting.{IsNextRoot, IsSameRoot, IsNewImage, IsNewVehicle, IsReplacement, IsNewCampaign, IsClosing, IsRecorded}
@@ -34,8 +34,12 @@ each_with text rows = map (λ values. (text, values)) rows
 abbrev pub founding_writes : Founding → List (List ℕ × Row)
 founding_writes f = each_with update_meta_text ((Int (pos f.root) ∷ Int (pos f.image_version) ∷ Int (pos f.stamp) ∷ []) ∷ [])
 
+-- all keys that were there go, and these come
+abbrev pub key_line_writes : List Row → List (List ℕ × Row)
+key_line_writes lines = (delete_role_keys_text, []) ∷ each_with insert_role_key_text lines
+
 abbrev pub key_writes : Founding → List (List ℕ × Row)
-key_writes f = each_with insert_role_key_text (repository_lines f.root Director f.keys.director ++ repository_lines f.root Image f.keys.image)
+key_writes f = key_line_writes (repository_lines f.root Director f.keys.director ++ repository_lines f.root Image f.keys.image)
 
 abbrev pub file_writes : List ServedFile → List (List ℕ × Row)
 file_writes files = each_with upsert_file_text (map file_row files)

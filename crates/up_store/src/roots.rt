@@ -6,7 +6,6 @@ ghost use Rattle.up_rows.specs.Lookups.{text_held};
 ghost use Rattle.up_tables.specs.Forms.{FitRoleKey, role_key_row};
 ghost use Rattle.up_tables.specs.Statements.{FindsAll, FindsFiles, WhereOpen};
 ghost use Rattle.up_tables.specs.Tables.{role_key_table};
-ghost use Rattle.up_tables.specs.Texts.{insert_role_key_text};
 ghost use Rattle.up_tables.specs.declared.values.StoreFault.TheVariants as StoreFault;
 ghost use Rattle.up_store.specs.Connections.{PutsRows, PutsTables};
 ghost use Rattle.up_store.specs.Fitting.{IsNextRoot, IsSameRoot};
@@ -16,7 +15,7 @@ ghost use Rattle.up_store.specs.ReadAs.{FindsFounding, FindsNumbers, ReadsFile, 
 ghost use Rattle.up_store.specs.Shown.{file_read, meta_told, IsFoundingOf};
 ghost use Rattle.up_store.specs.Typed.{IsTypedFounding};
 ghost use Rattle.up_store.specs.Within.{FindsWithin, MakesAndPuts, PutsWithin};
-ghost use Rattle.up_store.specs.Writes.{FitsFounding, each_with, file_writes, register_writes, root_writes};
+ghost use Rattle.up_store.specs.Writes.{FitsFounding, file_writes, key_line_writes, register_writes, root_writes};
 
 use crate::column_values::moment_in;
 use crate::files::{FileReading, ServedFile, role_files, root_files, root_name};
@@ -32,7 +31,7 @@ use up_machine::rows::Founding;
 use up_roles::repository::Repository;
 use up_tables::meta::MetaRow;
 use up_tables::repo_file::{FileRow, file, upsert_files};
-use up_tables::role_key::{RoleKeyRow, insert_role_keys, role_keys_of};
+use up_tables::role_key::{RoleKeyRow, replace_role_keys, role_keys_of};
 
 /// The founding.
 pub fn find_founding<D: Alter>(
@@ -172,7 +171,7 @@ pub fn put_register<D: Alter>(
     put_files(tx, &role_files(&new.files))
 }
 
-/// Puts in the rows of keys.
+/// Puts the rows of keys in the place of those that were there.
 fn put_keys<D: Alter>(
     tx: &mut Transaction<'_, D>,
     keys: &[RoleKeyRow<'_>],
@@ -180,9 +179,9 @@ fn put_keys<D: Alter>(
     requires fit { All FitRoleKey keys.now }
     ensures { WhereOpen D.Store tx.old.conn
         (PutsWithin D.Store (PutsTables (λ _. ⊤) (with_key_lines (map role_key_row keys.now)))
-        (each_with insert_role_key_text (map role_key_row keys.now)) (λ _. ⊤) tx.old.conn tx.new.conn result) }
+        (key_line_writes (map role_key_row keys.now)) (λ _. ⊤) tx.old.conn tx.new.conn result) }
 {
-    insert_role_keys(tx, keys)
+    replace_role_keys(tx, keys)
 }
 
 /// Sets the texts of files.

@@ -64,6 +64,12 @@ AppendsRows table more old new result =
     HasCleanDisk new → OnOk result ((all : List Row) → HasTables old
     → ListsAll all (old.now.trees table.tree) → Alters table (ListsAll (all ++ more)) old new)
 
+-- it has just these rows
+abbrev pub SetsRows : {A E : Type 0} → Table → List Row → State → State → Result A E → Type 0
+SetsRows table rows old new result =
+    HasCleanDisk new → OnOk result ((all : List Row) → HasTables old
+    → ListsAll all (old.now.trees table.tree) → Alters table (ListsAll rows) old new)
+
 -- the one row of `meta` has these numbers
 abbrev pub SetsMeta : {A E : Type 0} → MetaRow → State → State → Result A E → Type 0
 SetsMeta meta old new result =

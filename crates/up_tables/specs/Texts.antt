@@ -42,6 +42,9 @@ update_ecu_text = codes "UPDATE ecu SET file = ?6, length = ?7, sha256 = ?8, cou
 abbrev pub insert_role_key_text : List ℕ
 insert_role_key_text = codes "INSERT INTO role_key (root, repository, role, place, secret, threshold) VALUES (?1, ?2, ?3, ?4, ?5, ?6)"
 
+abbrev pub delete_role_keys_text : List ℕ
+delete_role_keys_text = codes "DELETE FROM role_key"
+
 abbrev pub upsert_file_text : List ℕ
 upsert_file_text = codes "INSERT INTO repo_file (repository, name, body) VALUES (?1, ?2, ?3) ON CONFLICT (repository, name) DO UPDATE SET body = excluded.body"
 

@@ -4,10 +4,10 @@ ghost use Rattle.std.specs.Prelude.{◌<◌, ◌∷◌, [], ◌^◌, ⊤, pos, m
 ghost use Rattle.std.specs.List.{AllByRecursion};
 ghost use Rattle.sqlite.specs.declared.types.Value.TheVariants.{Int};
 ghost use Rattle.up_tables.specs.Forms.{FitRoleKey, keys_shown, role_key_row};
-ghost use Rattle.up_tables.specs.Statements.{AppendsRows, FindsAll, HoldsOfAll, WhereOpen};
+ghost use Rattle.up_tables.specs.Statements.{AppendsRows, FindsAll, HoldsOfAll, SetsRows, WhereOpen};
 ghost use Rattle.up_tables.specs.Stored.{AreWritten, EachSays, IsLine, IsQueried, IsWritten, Tells};
 ghost use Rattle.up_tables.specs.Tables.{role_key_table};
-ghost use Rattle.up_tables.specs.Texts.{insert_role_key_text, role_keys_of_text};
+ghost use Rattle.up_tables.specs.Texts.{delete_role_keys_text, insert_role_key_text, role_keys_of_text};
 
 use crate::reading::RowReading;
 use crate::statement::{list_values, write};
@@ -49,8 +49,29 @@ fn insert_role_key<S: Alter>(
     )
 }
 
+/// Takes away the rows of all keys.
+fn delete_role_keys<S: Alter>(tx: &mut Transaction<'_, S>) -> Result<(), StoreFault>
+    ensures { IsWritten S.Store delete_role_keys_text [] (SetsRows role_key_table []) tx.old.conn tx.new.conn result }
+{
+    write(tx, "DELETE FROM role_key", &[])
+}
+
+/// Puts the rows of keys in the place of all that were there.
+pub fn replace_role_keys<S: Alter>(
+    tx: &mut Transaction<'_, S>,
+    keys: &[RoleKeyRow<'_>],
+) -> Result<(), StoreFault>
+    requires fit { All FitRoleKey keys.now }
+    ensures { WhereOpen S.Store tx.old.conn
+        (AreWritten S.Store ((delete_role_keys_text, []) ∷ map (λ k. (insert_role_key_text, role_key_row k)) keys.now) (λ _. ⊤)
+        (SetsRows role_key_table (map role_key_row keys.now)) tx.old.conn tx.new.conn result) }
+{
+    delete_role_keys(tx)?;
+    insert_role_keys(tx, keys)
+}
+
 /// Puts in the rows of keys, one after another, behind the others.
-pub fn insert_role_keys<S: Alter>(
+fn insert_role_keys<S: Alter>(
     tx: &mut Transaction<'_, S>,
     keys: &[RoleKeyRow<'_>],
 ) -> Result<(), StoreFault>
