@@ -71,7 +71,7 @@ pub fn replace_role_keys<S: Alter>(
 }
 
 /// Puts in the rows of keys, one after another, behind the others.
-fn insert_role_keys<S: Alter>(
+pub fn insert_role_keys<S: Alter>(
     tx: &mut Transaction<'_, S>,
     keys: &[RoleKeyRow<'_>],
 ) -> Result<(), StoreFault>
