@@ -41,10 +41,10 @@ commands_calm law last head k s c tells =
 record Shown (k : Rules) (is : State) (mid : Standing) : Type 0 where
   at : State
   sound : IsSound k at
-  shown : IfClean (ShowsState k at) mid
+  shown : IfClean (ShowsState at) mid
   here : HasCleanDisk mid → at ≡ is
 
-shown_or : (k : Rules) (s is : State) (mid : Standing) → (HasCleanDisk mid → (at : State) × (at ≡ is) × IsSound k at × ShowsState k at mid) → IsSound k s → Shown k is mid
+shown_or : (k : Rules) (s is : State) (mid : Standing) → (HasCleanDisk mid → (at : State) × (at ≡ is) × IsSound k at × ShowsState at mid) → IsSound k s → Shown k is mid
 shown_or k s is mid shows sound = by_disk (doubt mid.connection.is_clean) refl
   where
     by_disk : (d : ℕ) → doubt mid.connection.is_clean ≡ d → Shown k is mid
@@ -54,7 +54,7 @@ shown_or k s is mid shows sound = by_disk (doubt mid.connection.is_clean) refl
     by_disk (suc d) other = record { at = s; sound = sound; shown = λ now. absurd (omega (arith, now, other)); here = λ now. absurd (omega (arith, now, other)) }
 
 module _ (parts : Done → clients.Part) (k : Rules) where
-  pub none_last : (s : State) (now : Standing) → IsSound k s → IfClean (ShowsState k s) now → AllLast parts k s [] now now
+  pub none_last : (s : State) (now : Standing) → IsSound k s → IfClean (ShowsState s) now → AllLast parts k s [] now now
   none_last s now sound was = record {
     due = λ clean. tt;
     shown = λ clean. (sound, was clean);
@@ -63,11 +63,11 @@ module _ (parts : Done → clients.Part) (k : Rules) where
   }
 
   pub more_last : (d : Done) (ds : List Done) (s : State) (old mid new : Standing) → (parts d).service.rules ≡ k → Lasts (parts d).service s (parts d).met [] old mid
-      → ((t : State) → IsSound k t → IfClean (ShowsState k t) mid → AllLast parts k t ds mid new)
+      → ((t : State) → IsSound k t → IfClean (ShowsState t) mid → AllLast parts k t ds mid new)
       → IsSound k s → AllLast parts k s (d ∷ ds) old new
   more_last d ds s old mid new same first rest sound = record {
     due = λ now. (first.due (clean now), subst (λ t. clients.AllDue parts t ds) (b.here (clean now)) (it.due now));
-    shown = λ now. subst (λ t. IsSound k (behind_all parts t ds) × ShowsState k (behind_all parts t ds) new) (b.here (clean now)) (it.shown now);
+    shown = λ now. subst (λ t. IsSound k (behind_all parts t ds) × ShowsState (behind_all parts t ds) new) (b.here (clean now)) (it.shown now);
     crash = survives_then old.connection mid.connection new.connection (HoldsSome (parts d).service s (parts d).met []) (HoldsOne parts b.at ds) (HoldsOne parts s (d ∷ ds))
         (λ now trees made. inl made) (λ now trees made. inr (subst (λ t. HoldsOne parts t ds trees) (b.here (clean now)) made)) first.crash it.crash;
     durable = λ now. (stays now, subst (λ t. AllStay parts t ds new) (b.here (clean now)) (it.durable now));
@@ -133,7 +133,7 @@ module _ {K D : Type 0} (rules : K → Rules) (g : Ghosts D) (law : RefusalsChan
       group_lasts last head (rules old.scheme) (commands_calm law last head (rules old.scheme)) thin s commands answers (state g old.store) (state g new.store) h.1 sound was
   done_last (Lines lines texts) old new h s sound was = lines_last lines texts [] old new new h refl s sound was
 
-  steps_last : (q : K) (done : List Done) (old new : DeskView K D) → old.scheme ≡ q → Steps (Does rules g) old done new → (s : State) → IsSound (rules q) s → IfClean (ShowsState (rules q) s) (state g old.store)
+  steps_last : (q : K) (done : List Done) (old new : DeskView K D) → old.scheme ≡ q → Steps (Does rules g) old done new → (s : State) → IsSound (rules q) s → IfClean (ShowsState s) (state g old.store)
       → AllLast (part_of last head (rules q)) (rules q) s done (state g old.store) (state g new.store)
   steps_last q [] old new same steps s sound was =
       subst (λ (d : DeskView K D). AllLast (part_of last head (rules q)) (rules q) s [] (state g old.store) (state g d.store)) (sym steps)

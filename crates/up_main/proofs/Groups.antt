@@ -198,8 +198,8 @@ module _ (ends heads : Bool) (k : Rules) (calm : FaultsChangeNothing (command_se
 
   stays : (s : State) (ms : List (Told Timely)) (xs : List Sent) (before rest : List (Told Timely)) (m : Told Timely) (new : Standing) → Walk ends heads k s ms xs → IsAnsweredCommit v s ms before rest m
       → ((first last : List Sent) (x : Sent) → desk.IsAnsweredCommit k s xs first last x
-      → LeavesOnly (λ trees. (at : State) × StaysOrComesTo k (outcome_behind k s first x).next last at × HoldsState k at trees) new)
-      → LeavesOnly (λ trees. HoldsState k (behind v (after v s before) m) trees ⊎ HoldsSome v (behind v (after v s before) m) rest [] trees) new
+      → LeavesOnly (λ trees. (at : State) × StaysOrComesTo k (outcome_behind k s first x).next last at × HoldsState at trees) new)
+      → LeavesOnly (λ trees. HoldsState (behind v (after v s before) m) trees ⊎ HoldsSome v (behind v (after v s before) m) rest [] trees) new
   stays s ms xs before rest m new walk commit outlasts = λ trees may. by_state trees (outlasts c.first c.last c.x made_it trees may)
     where
       c : Cut s xs before rest m
@@ -230,9 +230,9 @@ module _ (ends heads : Bool) (k : Rules) (calm : FaultsChangeNothing (command_se
       next_behind : next ≡ behind v (after v s before) m
       next_behind = next_is t m c.x c.one ∙ ap (λ q. behind v q m) (sym c.here)
 
-      by_state : (trees : Trees) → (at : State) × StaysOrComesTo k (outcome_behind k s c.first c.x).next c.last at × HoldsState k at trees
-          → HoldsState k (behind v (after v s before) m) trees ⊎ HoldsSome v (behind v (after v s before) m) rest [] trees
-      by_state trees (at, inl same, holds) = inl (subst (λ q. HoldsState k q trees) (same ∙ sym next_made ∙ next_behind) holds)
+      by_state : (trees : Trees) → (at : State) × StaysOrComesTo k (outcome_behind k s c.first c.x).next c.last at × HoldsState at trees
+          → HoldsState (behind v (after v s before) m) trees ⊎ HoldsSome v (behind v (after v s before) m) rest [] trees
+      by_state trees (at, inl same, holds) = inl (subst (λ q. HoldsState q trees) (same ∙ sym next_made ∙ next_behind) holds)
       by_state trees (at, inr (first, lost, others, list, is), holds) = inr (
         at,
         subst (λ q. IsMadeBySome v q rest [] at) next_behind
@@ -243,7 +243,7 @@ module _ (ends heads : Bool) (k : Rules) (calm : FaultsChangeNothing (command_se
   -- ---- all of it
 
   pub group_lasts : ServedIsThinned → (s : State) (cs : List (ℕ × Command)) (answers : List Answer) (old new : Standing) → AreCalled k cs [] answers old new
-      → IsSound k s → IfClean (ShowsState k s) old
+      → IsSound k s → IfClean (ShowsState s) old
       → Lasts (command_service ends heads k) s (told cs (map (λ answer. answer_response answer ends heads) answers)) [] old new
   group_lasts thin s cs answers old new called sound was =
       subst (λ (l : List Answer). Lasts v s (told cs (map (as_text ends heads) l)) [] old new) (sym called.appended) (record {
@@ -251,7 +251,7 @@ module _ (ends heads : Bool) (k : Rules) (calm : FaultsChangeNothing (command_se
         shown = λ clean.
             let it = called.ran clean s sound was in
             (it.0, it.1.state ∙ sym (thin k s xs) ∙ sym (after_of s ms xs (walk clean)), it.2, it.3);
-        crash = survives_weaker old.connection new.connection (λ trees. (at : State) × ComesTo k s xs at × HoldsState k at trees) (HoldsSome v s ms [])
+        crash = survives_weaker old.connection new.connection (λ trees. (at : State) × ComesTo k s xs at × HoldsState at trees) (HoldsSome v s ms [])
             (λ clean trees held. (held.0, comes s ms xs held.1.0 held.1.1 held.1.2 held.0 (walk clean) held.1.3 held.1.4, held.2)) (called.crash s sound was);
         durable = λ before rest m made_it clean.
             stays s ms xs before rest m new (walk clean) made_it (λ first last x it. called.lasts s sound was first last x it clean);

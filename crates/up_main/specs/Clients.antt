@@ -69,7 +69,7 @@ HoldsOne parts s (d ∷ ds) trees = HoldsSome (parts d).service s (parts d).met 
 -- behind each commit that was answered a crash leaves the state behind it, or what follows makes from there on
 abbrev pub PartStays : {I : Type 0} → Service I → State → List (Told I) → (Trees → Type 0) → Standing → Type 0
 PartStays {I} v s ms Follow new = (before rest : List (Told I)) (m : Told I) → IsAnsweredCommit v s ms before rest m
-    → LeavesOnly (λ trees. HoldsState v.rules (behind v (after v s before) m) trees ⊎ HoldsSome v (behind v (after v s before) m) rest [] trees ⊎ Follow trees) new
+    → LeavesOnly (λ trees. HoldsState (behind v (after v s before) m) trees ⊎ HoldsSome v (behind v (after v s before) m) rest [] trees ⊎ Follow trees) new
 
 abbrev pub AllStay : (Done → Part) → State → List Done → Standing → Type 0
 AllStay parts s [] new = ⊤
@@ -80,13 +80,13 @@ AllStay parts s (d ∷ ds) new = PartStays (parts d).service s (parts d).met (Ho
 -- behind all. Only a fault of the disk shuts the connection, and a crash loses nothing that was answered.
 pub record AllLast (parts : Done → Part) (k : Rules) (s : State) (done : List Done) (old new : Standing) : Type 0 where
   pub due : HasCleanDisk new → AllDue parts s done
-  pub shown : HasCleanDisk new → IsSound k (behind_all parts s done) × ShowsState k (behind_all parts s done) new
+  pub shown : HasCleanDisk new → IsSound k (behind_all parts s done) × ShowsState (behind_all parts s done) new
   pub crash : Survives old new (HoldsOne parts s done)
   pub durable : IfClean (AllStay parts s done) new
 
 -- so from each sound state that the tables showed before, however the answers to the commands of groups are told
 abbrev pub DoneLasts : {K D : Type 0} → (K → Rules) → Ghosts D → DeskView K D → List Done → DeskView K D → Type 0
-DoneLasts rules g old done new = (last head : Bool) (s : State) → IsSound (rules old.scheme) s → IfClean (ShowsState (rules old.scheme) s) (state g old.store)
+DoneLasts rules g old done new = (last head : Bool) (s : State) → IsSound (rules old.scheme) s → IfClean (ShowsState s) (state g old.store)
     → AllLast (part_of last head (rules old.scheme)) (rules old.scheme) s done (state g old.store) (state g new.store)
 
 -- of all that is done, one after another

@@ -60,10 +60,10 @@ behind_is v calm s next m (inr failed) = failed.1 ∙ sym (ap (λ b. if b then s
 record Shown {I : Type 0} (v : Service I) (is : State) (mid : Standing) : Type 0 where
   at : State
   sound : IsSound v.rules at
-  shown : IfClean (ShowsState v.rules at) mid
+  shown : IfClean (ShowsState at) mid
   here : HasCleanDisk mid → at ≡ is
 
-shown_or : {I : Type 0} (v : Service I) (s is : State) (mid : Standing) → (HasCleanDisk mid → (at : State) × (at ≡ is) × IsSound v.rules at × ShowsState v.rules at mid) → IsSound v.rules s → Shown v is mid
+shown_or : {I : Type 0} (v : Service I) (s is : State) (mid : Standing) → (HasCleanDisk mid → (at : State) × (at ≡ is) × IsSound v.rules at × ShowsState at mid) → IsSound v.rules s → Shown v is mid
 shown_or v s is mid shows sound = by_disk (doubt mid.connection.is_clean) refl
   where
     by_disk : (d : ℕ) → doubt mid.connection.is_clean ≡ d → Shown v is mid
@@ -74,7 +74,7 @@ shown_or v s is mid shows sound = by_disk (doubt mid.connection.is_clean) refl
 
 -- ---- what is made at once
 
-was_called : (k : Rules) (called : Option Answer) (next : State) (trees : Trees) → HoldsNext k called next trees → IsSome called × HoldsState k next trees
+was_called : (k : Rules) (called : Option Answer) (next : State) (trees : Trees) → HoldsNext called next trees → IsSome called × HoldsState next trees
 was_called k (Some answer) next trees held = (refl, held)
 was_called k None next trees held = absurd held
 
@@ -153,14 +153,14 @@ split_at {A} (x ∷ xs) ys (b ∷ before) rest m is =
 
 -- ---- runs
 
-holds_made : {I : Type 0} (v : Service I) (s : State) (item : I) (trees : Trees) → HoldsNext v.rules (v.answer s item).called (v.answer s item).next trees
-    → (at : State) × IsMade v s item at × HoldsState v.rules at trees
+holds_made : {I : Type 0} (v : Service I) (s : State) (item : I) (trees : Trees) → HoldsNext (v.answer s item).called (v.answer s item).next trees
+    → (at : State) × IsMade v s item at × HoldsState at trees
 holds_made v s item trees held =
     let was = was_called v.rules (v.answer s item).called (v.answer s item).next trees held in
     ((v.answer s item).next, (was.0, refl), was.1)
 
 -- nothing was handed on
-pub lasts_none : {I : Type 0} (v : Service I) (s : State) (now : Standing) → IsSound v.rules s → IfClean (ShowsState v.rules s) now → Lasts v s [] [] now now
+pub lasts_none : {I : Type 0} (v : Service I) (s : State) (now : Standing) → IsSound v.rules s → IfClean (ShowsState s) now → Lasts v s [] [] now now
 lasts_none v s now sound was = record {
   due = λ clean. tt;
   shown = λ clean. (s, refl, sound, was clean);
@@ -169,12 +169,12 @@ lasts_none v s now sound was = record {
 }
 
 -- an item for which no text was written whole
-lasts_last : {I : Type 0} (v : Service I) (s : State) (item : I) (text : List ℕ) (old new : Standing) → Answers v item text old new → IsSound v.rules s → IfClean (ShowsState v.rules s) old
+lasts_last : {I : Type 0} (v : Service I) (s : State) (item : I) (text : List ℕ) (old new : Standing) → Answers v item text old new → IsSound v.rules s → IfClean (ShowsState s) old
     → Lasts v s [] (item ∷ []) old new
 lasts_last v s item text old new step sound was = record {
   due = λ clean. tt;
   shown = λ clean. let it = step.answered clean s sound was in (it.0, by_answer it.0 it.1, it.2, it.3);
-  crash = survives_weaker old.connection new.connection (HoldsNext v.rules (v.answer s item).called (v.answer s item).next) (HoldsSome v s [] (item ∷ []))
+  crash = survives_weaker old.connection new.connection (HoldsNext (v.answer s item).called (v.answer s item).next) (HoldsSome v s [] (item ∷ []))
       (λ clean trees held. let it = holds_made v s item trees held in (it.0, one_handed v v.together s item it.0 it.1, it.2)) (step.crash s sound was);
   durable = λ before rest m made. absurd (omega (arith, ap length made.list, length-append before (m ∷ rest)));
 }
@@ -184,18 +184,18 @@ lasts_last v s item text old new step sound was = record {
     by_answer next (inr failed) = inl failed.1
 
 -- one item
-pub lasts_one : {I : Type 0} (v : Service I) → FaultsChangeNothing v → (s : State) (m : Told I) (old new : Standing) → Answers v m.item m.text old new → IsSound v.rules s → IfClean (ShowsState v.rules s) old
+pub lasts_one : {I : Type 0} (v : Service I) → FaultsChangeNothing v → (s : State) (m : Told I) (old new : Standing) → Answers v m.item m.text old new → IsSound v.rules s → IfClean (ShowsState s) old
     → Lasts v s (m ∷ []) [] old new
 lasts_one {I} v calm s m old new step sound was = record {
   due = λ clean. (due v s (step.answered clean s sound was).0 m (step.answered clean s sound was).1, tt);
   shown = λ clean. let it = step.answered clean s sound was in (it.0, behind_is v calm s it.0 m it.1, it.2, it.3);
-  crash = survives_weaker old.connection new.connection (HoldsNext v.rules (v.answer s m.item).called (v.answer s m.item).next) (HoldsSome v s (m ∷ []) [])
+  crash = survives_weaker old.connection new.connection (HoldsNext (v.answer s m.item).called (v.answer s m.item).next) (HoldsSome v s (m ∷ []) [])
       (λ clean trees held. let it = holds_made v s m.item trees held in (it.0, inl (one_made v v.together s m.item it.0 it.1), it.2)) (step.crash s sound was);
   durable = stays;
 }
   where
     stays : (before rest : List (Told I)) (n : Told I) → IsAnsweredCommit v s (m ∷ []) before rest n
-        → IfClean (LeavesOnly (λ trees. HoldsState v.rules (behind v (after v s before) n) trees ⊎ HoldsSome v (behind v (after v s before) n) rest [] trees)) new
+        → IfClean (LeavesOnly (λ trees. HoldsState (behind v (after v s before) n) trees ⊎ HoldsSome v (behind v (after v s before) n) rest [] trees)) new
     stays (x ∷ before) rest n made clean = absurd (let long : 1 ≡ suc (length (before ++ n ∷ rest)) = ap length made.list in omega (arith, long, length-append before (n ∷ rest)))
     stays [] rest n made clean = by_answer (step.answered clean s sound was).1
       where
@@ -206,14 +206,14 @@ lasts_one {I} v calm s m old new step sound was = record {
         same = ap (λ (q : Told I). (v.answer s q.item).next) heads ∙ sym (ap (λ b. if b then s else (v.answer s n.item).next) made.answered)
 
         by_answer : {at : State} → IsAnswerOrFailed (v.tell m.item) (v.answer s m.item) s m.text at
-            → LeavesOnly (λ trees. HoldsState v.rules (behind v s n) trees ⊎ HoldsSome v (behind v s n) rest [] trees) new
+            → LeavesOnly (λ trees. HoldsState (behind v s n) trees ⊎ HoldsSome v (behind v s n) rest [] trees) new
         by_answer (inl told) = λ trees may.
-            inl (subst (λ q. HoldsState v.rules q trees) same (step.durable s sound was told.0 (subst (λ (q : Told I). IsCommitted s (v.answer s q.item).called (v.answer s q.item).next) (sym heads) made.commit) clean trees may))
+            inl (subst (λ q. HoldsState q trees) same (step.durable s sound was told.0 (subst (λ (q : Told I). IsCommitted s (v.answer s q.item).called (v.answer s q.item).next) (sym heads) made.commit) clean trees may))
         by_answer (inr failed) = absurd (let e = failed_tells v m failed.0 in let f = ap (tells_fault v) heads in cc)
 
 -- some items, and those that follow
 pub lasts_append : {I : Type 0} (v : Service I) (s : State) (ms ns : List (Told I)) (next : List I) (old mid new : Standing) → Lasts v s ms [] old mid
-    → ((t : State) → IsSound v.rules t → IfClean (ShowsState v.rules t) mid → Lasts v t ns next mid new)
+    → ((t : State) → IsSound v.rules t → IfClean (ShowsState t) mid → Lasts v t ns next mid new)
     → IsSound v.rules s → Lasts v s (ms ++ ns) next old new
 lasts_append {I} v s ms ns next old mid new first rest sound = record {
   due = λ now. due_append v s ms ns (first.due (clean now)) (subst (λ t. AreDue v t ns) (b.here (clean now)) (it.due now));
@@ -237,7 +237,7 @@ lasts_append {I} v s ms ns next old mid new first rest sound = record {
 
     stays : (before after_it : List (Told I)) (n : Told I) → IsAnsweredCommit v s (ms ++ ns) before after_it n → HasCleanDisk new
         → ((l : List (Told I)) × (ms ≡ before ++ n ∷ l) × (after_it ≡ l ++ ns)) ⊎ ((l : List (Told I)) × (before ≡ ms ++ l) × (ns ≡ l ++ n ∷ after_it))
-        → LeavesOnly (λ trees. HoldsState v.rules (behind v (after v s before) n) trees ⊎ HoldsSome v (behind v (after v s before) n) after_it next trees) new
+        → LeavesOnly (λ trees. HoldsState (behind v (after v s before) n) trees ⊎ HoldsSome v (behind v (after v s before) n) after_it next trees) new
     stays before after_it n made now (inl (l, is, tail)) = λ trees may. by_crash trees (it.crash.crash now trees may)
       where
         at_n : State
@@ -246,11 +246,11 @@ lasts_append {I} v s ms ns next old mid new first rest sound = record {
         till : after v s ms ≡ after v at_n l
         till = ap (after v s) is ∙ after_append v s before (n ∷ l)
 
-        by_first : (trees : Trees) → HoldsState v.rules at_n trees ⊎ HoldsSome v at_n l [] trees → HoldsState v.rules at_n trees ⊎ HoldsSome v at_n after_it next trees
+        by_first : (trees : Trees) → HoldsState at_n trees ⊎ HoldsSome v at_n l [] trees → HoldsState at_n trees ⊎ HoldsSome v at_n after_it next trees
         by_first trees (inl held) = inl held
         by_first trees (inr held) = inr (held.0, subst (λ k. IsMadeBySome v at_n k next held.0) (sym tail) (some_first v at_n l ns next held.0 held.1), held.2)
 
-        by_crash : (trees : Trees) → mid.connection.may_leave trees ⊎ HoldsSome v b.at ns next trees → HoldsState v.rules at_n trees ⊎ HoldsSome v at_n after_it next trees
+        by_crash : (trees : Trees) → mid.connection.may_leave trees ⊎ HoldsSome v b.at ns next trees → HoldsState at_n trees ⊎ HoldsSome v at_n after_it next trees
         by_crash trees (inl earlier) = by_first trees (first.durable before l n (record { list = is; answered = made.answered; commit = made.commit }) (clean now) trees earlier)
         by_crash trees (inr held) = inr (
           held.0,
@@ -260,7 +260,7 @@ lasts_append {I} v s ms ns next old mid new first rest sound = record {
         )
     stays before after_it n made now (inr (l, is, tail)) =
         let same : after v b.at l ≡ after v s before = ap (λ t. after v t l) (b.here (clean now)) ∙ sym (after_append v s ms l) ∙ sym (ap (after v s) is) in
-        subst (λ t. LeavesOnly (λ trees. HoldsState v.rules (behind v t n) trees ⊎ HoldsSome v (behind v t n) after_it next trees) new) same
+        subst (λ t. LeavesOnly (λ trees. HoldsState (behind v t n) trees ⊎ HoldsSome v (behind v t n) after_it next trees) new) same
         (it.durable l after_it n (record {
           list = tail;
           answered = made.answered;
@@ -331,7 +331,7 @@ Ends v g None old new = new ≡ old
 Ends v g (Some item) old new = (text : List ℕ) × AnswersBy v g old item text new
 
 lasts_run : {K D I : Type 0} (v : Service I) → FaultsChangeNothing v → (g : Ghosts D) (items : List I) (texts : List (List ℕ)) (next : Option I) (old last new : DeskView K D)
-    → Run (AnswersBy v g) old items texts last → Ends v g next last new → (s : State) → IsSound v.rules s → IfClean (ShowsState v.rules s) (state g old.store)
+    → Run (AnswersBy v g) old items texts last → Ends v g next last new → (s : State) → IsSound v.rules s → IfClean (ShowsState s) (state g old.store)
     → Lasts v s (told items texts) (listed next) (state g old.store) (state g new.store)
 lasts_run v calm g [] [] None old last new run ends s sound was =
     subst (λ d. Lasts v s [] [] (state g old.store) (state g d.store)) (sym (ends ∙ run)) (lasts_none v s (state g old.store) sound was)

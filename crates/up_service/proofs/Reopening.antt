@@ -9,8 +9,8 @@ use Rattle.up_rows.specs.StateRows.{rows_of_state}
 use Rattle.up_records.specs.Standing.{HoldsState}
 use Rattle.up_service.specs.Runs.{Service, Told, behind, after, HoldsSome, IsMadeBySome, ReopenedLast}
 
-stays_or_made : {I : Type 0} (v : Service I) (s : State) (ms : List (Told I)) (next : List I) (trees : Trees) → HoldsState v.rules s trees ⊎ HoldsSome v s ms next trees
-    → (at : State) × ((at ≡ s) ⊎ IsMadeBySome v s ms next at) × HoldsState v.rules at trees
+stays_or_made : {I : Type 0} (v : Service I) (s : State) (ms : List (Told I)) (next : List I) (trees : Trees) → HoldsState s trees ⊎ HoldsSome v s ms next trees
+    → (at : State) × ((at ≡ s) ⊎ IsMadeBySome v s ms next at) × HoldsState at trees
 stays_or_made v s ms next trees (inl held) = (s, inl refl, held)
 stays_or_made v s ms next trees (inr held) = (held.0, inr held.1, held.2)
 
@@ -19,4 +19,4 @@ reopened_last I g v s ms next old new lasts before rest m made clean stopped aga
     let f = again whole left may opened is found in
     ∥∥₁_map f.left (λ r.
     let held = stays_or_made v (behind v (after v s before) m) rest next (file_state opened).committed.trees (lasts.durable before rest m made clean (file_state opened).committed.trees r) in
-    (held.0, held.1, f.shown (rows_of_state v.rules held.0) held.2))
+    (held.0, held.1, f.shown (rows_of_state held.0) held.2))

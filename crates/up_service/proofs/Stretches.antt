@@ -207,8 +207,8 @@ module _ (k : Rules) (calm : FaultsChangeNothing (line_service k)) where
 
   stays : (s : State) (ms : List (Told (List ℕ))) (xs : List Sent) (before rest : List (Told (List ℕ))) (m : Told (List ℕ)) (new : Standing) → Walk k s ms xs → IsAnsweredCommit v s ms before rest m
       → ((first last : List Sent) (x : Sent) → desk.IsAnsweredCommit k s xs first last x
-      → LeavesOnly (λ trees. (at : State) × StaysOrComesTo k (outcome_behind k s first x).next last at × HoldsState k at trees) new)
-      → LeavesOnly (λ trees. HoldsState k (behind v (after v s before) m) trees ⊎ HoldsSome v (behind v (after v s before) m) rest [] trees) new
+      → LeavesOnly (λ trees. (at : State) × StaysOrComesTo k (outcome_behind k s first x).next last at × HoldsState at trees) new)
+      → LeavesOnly (λ trees. HoldsState (behind v (after v s before) m) trees ⊎ HoldsSome v (behind v (after v s before) m) rest [] trees) new
   stays s ms xs before rest m new walk commit outlasts = λ trees may. by_state trees (outlasts c.first c.last c.x made_it trees may)
     where
       c : Cut s xs before rest m
@@ -239,9 +239,9 @@ module _ (k : Rules) (calm : FaultsChangeNothing (line_service k)) where
       next_behind : next ≡ behind v (after v s before) m
       next_behind = next_is t m c.x c.one ∙ ap (λ q. behind v q m) (sym c.here)
 
-      by_state : (trees : Trees) → (at : State) × StaysOrComesTo k (outcome_behind k s c.first c.x).next c.last at × HoldsState k at trees
-          → HoldsState k (behind v (after v s before) m) trees ⊎ HoldsSome v (behind v (after v s before) m) rest [] trees
-      by_state trees (at, inl same, holds) = inl (subst (λ q. HoldsState k q trees) (same ∙ sym next_made ∙ next_behind) holds)
+      by_state : (trees : Trees) → (at : State) × StaysOrComesTo k (outcome_behind k s c.first c.x).next c.last at × HoldsState at trees
+          → HoldsState (behind v (after v s before) m) trees ⊎ HoldsSome v (behind v (after v s before) m) rest [] trees
+      by_state trees (at, inl same, holds) = inl (subst (λ q. HoldsState q trees) (same ∙ sym next_made ∙ next_behind) holds)
       by_state trees (at, inr (first, lost, others, list, is), holds) = inr (
         at,
         subst (λ q. IsMadeBySome v q rest [] at) next_behind
@@ -252,14 +252,14 @@ module _ (k : Rules) (calm : FaultsChangeNothing (line_service k)) where
   -- ---- all of it
 
   as_one_lasts : ServedIsThinned → (s : State) (lines : List (List ℕ)) (cs : List (ℕ × Command)) (answers : List Answer) (old new : Standing) → AreRead (IsReadAs k) lines cs → AreCalled k cs [] answers old new
-      → IsSound k s → IfClean (ShowsState k s) old → Lasts v s (told lines (map answer_text answers)) [] old new
+      → IsSound k s → IfClean (ShowsState s) old → Lasts v s (told lines (map answer_text answers)) [] old new
   as_one_lasts thin s lines cs answers old new read called sound was =
       subst (λ (l : List Answer). Lasts v s (told lines (map answer_text l)) [] old new) (sym called.appended) (record {
         due = λ clean. due_of s ms xs (walk clean);
         shown = λ clean.
             let it = called.ran clean s sound was in
             (it.0, it.1.state ∙ sym (thin k s xs) ∙ sym (after_of s ms xs (walk clean)), it.2, it.3);
-        crash = survives_weaker old.connection new.connection (λ trees. (at : State) × ComesTo k s xs at × HoldsState k at trees) (HoldsSome v s ms [])
+        crash = survives_weaker old.connection new.connection (λ trees. (at : State) × ComesTo k s xs at × HoldsState at trees) (HoldsSome v s ms [])
             (λ clean trees held. (held.0, comes s ms xs held.1.0 held.1.1 held.1.2 held.0 (walk clean) held.1.3 held.1.4, held.2)) (called.crash s sound was);
         durable = λ before rest m made_it clean.
             stays s ms xs before rest m new (walk clean) made_it (λ first last x it. called.lasts s sound was first last x it clean);
@@ -287,7 +287,7 @@ module _ {K D : Type 0} (rules : K → Rules) (g : Ghosts D) (calm : (q : K) →
   record PartLasts (old : DeskView K D) (p : Part) (new : DeskView K D) : Type 0 where
     scheme : new.scheme ≡ old.scheme
     count : length p.texts ≡ length p.lines
-    lasts : (s : State) → IsSound (rules old.scheme) s → IfClean (ShowsState (rules old.scheme) s) (state g old.store)
+    lasts : (s : State) → IsSound (rules old.scheme) s → IfClean (ShowsState s) (state g old.store)
         → Lasts (line_service (rules old.scheme)) s (told p.lines p.texts) [] (state g old.store) (state g new.store)
 
   part_lasts : (old new : DeskView K D) (p : Part) → IsPart (Line rules g) (LinesAsOne rules g) old p new → PartLasts old p new
@@ -308,7 +308,7 @@ module _ {K D : Type 0} (rules : K → Rules) (g : Ghosts D) (calm : (q : K) →
   record PartsLast (q : K) (old : DeskView K D) (ps : List Part) (new : DeskView K D) : Type 0 where
     scheme : new.scheme ≡ q
     count : length (texts_in ps) ≡ length (lines_in ps)
-    lasts : (s : State) → IsSound (rules q) s → IfClean (ShowsState (rules q) s) (state g old.store)
+    lasts : (s : State) → IsSound (rules q) s → IfClean (ShowsState s) (state g old.store)
         → Lasts (line_service (rules q)) s (told (lines_in ps) (texts_in ps)) [] (state g old.store) (state g new.store)
 
   parts_last : (q : K) (ps : List Part) (old new : DeskView K D) → old.scheme ≡ q → AreParts (Line rules g) (LinesAsOne rules g) old ps new → PartsLast q old ps new
@@ -326,12 +326,12 @@ module _ {K D : Type 0} (rules : K → Rules) (g : Ghosts D) (calm : (q : K) →
         lasts = λ s sound was.
             subst (λ (l : List (Told (List ℕ))). Lasts (line_service (rules q)) s l [] (state g old.store) (state g new.store)) (sym (told_append p.lines (lines_in ps) p.texts (texts_in ps) one.count))
             (lasts_append (line_service (rules q)) s (told p.lines p.texts) (told (lines_in ps) (texts_in ps)) [] (state g old.store) (state g parts.0.store) (state g new.store)
-            (subst (λ z. (t : State) → IsSound (rules z) t → IfClean (ShowsState (rules z) t) (state g old.store) → Lasts (line_service (rules z)) t (told p.lines p.texts) [] (state g old.store) (state g parts.0.store))
+            (subst (λ z. (t : State) → IsSound (rules z) t → IfClean (ShowsState t) (state g old.store) → Lasts (line_service (rules z)) t (told p.lines p.texts) [] (state g old.store) (state g parts.0.store))
             same one.lasts s sound was) rest.lasts sound);
       }
 
   lines_told : (q : K) (lines texts : List (List ℕ)) (old new : DeskView K D) → old.scheme ≡ q → Lines rules g old lines texts new
-      → (new.scheme ≡ q) × (length texts ≡ length lines) × ((s : State) → IsSound (rules q) s → IfClean (ShowsState (rules q) s) (state g old.store)
+      → (new.scheme ≡ q) × (length texts ≡ length lines) × ((s : State) → IsSound (rules q) s → IfClean (ShowsState s) (state g old.store)
       → Lasts (line_service (rules q)) s (told lines texts) [] (state g old.store) (state g new.store))
   lines_told q lines texts old new same h =
       let it = parts_last q h.parts old new same h.told in (

@@ -119,7 +119,7 @@ IsMadeBySome v s (m ∷ ms) next at = IsMadeAtOnce v.together v s (items_of (m �
 
 -- what a crash left holds such a state
 abbrev pub HoldsSome : {I : Type 0} → Service I → State → List (Told I) → List I → Trees → Type 0
-HoldsSome v s ms next trees = (at : State) × IsMadeBySome v s ms next at × HoldsState v.rules at trees
+HoldsSome v s ms next trees = (at : State) × IsMadeBySome v s ms next at × HoldsState at trees
 
 -- one of the items is a commit, and its text tells no fault
 pub record IsAnsweredCommit {I : Type 0} (v : Service I) (s : State) (ms before rest : List (Told I)) (m : Told I) : Type 0 where
@@ -135,16 +135,16 @@ pub record IsAnsweredCommit {I : Type 0} (v : Service I) (s : State) (ms before 
 -- crash leaves the state behind it, or what one of the items that follow makes from there on.
 pub record Lasts {I : Type 0} (v : Service I) (s : State) (ms : List (Told I)) (next : List I) (old new : Standing) : Type 0 where
   pub due : HasCleanDisk new → AreDue v s ms
-  pub shown : HasCleanDisk new → (at : State) × IsBehind v (after v s ms) next at × IsSound v.rules at × ShowsState v.rules at new
+  pub shown : HasCleanDisk new → (at : State) × IsBehind v (after v s ms) next at × IsSound v.rules at × ShowsState at new
   pub crash : Survives old new (HoldsSome v s ms next)
   pub durable : (before rest : List (Told I)) (m : Told I) → IsAnsweredCommit v s ms before rest m
-      → IfClean (LeavesOnly (λ trees. HoldsState v.rules (behind v (after v s before) m) trees
+      → IfClean (LeavesOnly (λ trees. HoldsState (behind v (after v s before) m) trees
       ⊎ HoldsSome v (behind v (after v s before) m) rest next trees)) new
 
 -- so from each sound state that the tables showed before the run
 abbrev pub LastsFrom : {K D I : Type 0} → (K → Service I) → Ghosts D → DeskView K D → List I → List (List ℕ) → List I → DeskView K D → Type 0
 LastsFrom u g old items texts next new =
-    (s : State) → IsSound (u old.scheme).rules s → IfClean (ShowsState (u old.scheme).rules s) (state g old.store)
+    (s : State) → IsSound (u old.scheme).rules s → IfClean (ShowsState s) (state g old.store)
     → Lasts (u old.scheme) s (told items texts) next (state g old.store) (state g new.store)
 
 -- behind a run one more item was handed on and answered, whatever was written of it; or none was
@@ -179,4 +179,4 @@ ReopenedLast {D} I g = (v : Service I) (s : State) (ms : List (Told I)) (next : 
     → (left : Image) → (files.state stopped).may_leave left
     → (opened : Held (FileStore D g)) → IsOpened opened → FindsIn left (file_state opened)
     → ∥ ((at : State) × ((at ≡ behind v (after v s before) m) ⊎ IsMadeBySome v (behind v (after v s before) m) rest next at)
-    × connections.KeepsState v.rules at (file_state opened)) ∥₁
+    × connections.KeepsState at (file_state opened)) ∥₁

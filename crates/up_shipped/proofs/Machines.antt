@@ -16,7 +16,7 @@ use Rattle.up_shipped.specs.Machines.{AnswersAsMachine, StandsFor}
 use Rattle.up_shipped.proofs.FromNothing.{shows_nothing}
 
 -- over fresh tables a desk stands for the empty state
-pub fresh_stands : {K D : Type 0} (rules : K → Rules) (g : Ghosts D) (k : Rules) → IsSound k empty_state → rows_of_state k empty_state ≡ no_rows → (empty made : Connected) (desk : DeskView K D) → Creates empty made
+pub fresh_stands : {K D : Type 0} (rules : K → Rules) (g : Ghosts D) (k : Rules) → IsSound k empty_state → rows_of_state empty_state ≡ no_rows → (empty made : Connected) (desk : DeskView K D) → Creates empty made
     → state g desk.store ≡ record { connection = made; catalog = None } → rules desk.scheme ≡ k → StandsFor rules g k empty_state desk
 fresh_stands rules g k sound none empty made desk creates fresh same = record {
   same = same;

@@ -21,4 +21,4 @@ AnswersAsMachine k stands_for at c a old new =
 pub record StandsFor {K D : Type 0} (rules : K → Rules) (g : Ghosts D) (k : Rules) (s : State) (desk : DeskView K D) : Type 0 where
   pub same : rules desk.scheme ≡ k
   pub sound : IsSound k s
-  pub shown : IfClean (ShowsState k s) (state g desk.store)
+  pub shown : IfClean (ShowsState s) (state g desk.store)

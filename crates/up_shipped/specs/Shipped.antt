@@ -99,7 +99,7 @@ ShipsScript rules g s had has first now result =
 abbrev pub ScriptsAreRuns : {K D : Type 0} → (K → Rules) → Ghosts D → Type 0
 ScriptsAreRuns {K} {D} rules g = (had has : Option (List ℕ)) (first now : At (DeskView K D)) (result : Result ℕ ScriptFault)
     → RunsScript rules g had has first now result → HasCleanDisk (state g now.state.store)
-    → (s : State) → IsSound (rules first.state.scheme) s → IfClean (ShowsState (rules first.state.scheme) s) (state g first.state.store)
+    → (s : State) → IsSound (rules first.state.scheme) s → IfClean (ShowsState s) (state g first.state.store)
     → ShipsScript rules g s had has first now result
 
 -- ---- streams
@@ -132,5 +132,5 @@ ShipsStream rules g at s had has first now result =
 abbrev pub StreamsAreRuns : {K D : Type 0} → (K → Rules) → Ghosts D → Type 0
 StreamsAreRuns {K} {D} rules g = (at : ℕ) (had has : Option (List ℕ)) (first now : At (DeskView K D)) (result : Result Served ServeFault)
     → RunsStream rules g at had has first now result → HasCleanDisk (state g now.state.store)
-    → (s : State) → IsSound (rules first.state.scheme) s → IfClean (ShowsState (rules first.state.scheme) s) (state g first.state.store)
+    → (s : State) → IsSound (rules first.state.scheme) s → IfClean (ShowsState s) (state g first.state.store)
     → ShipsStream rules g at s had has first now result

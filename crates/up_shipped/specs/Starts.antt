@@ -24,14 +24,14 @@ use Rattle.up_shipped.specs.Shipped.{ShipsScript, ShipsStream}
 -- The tables of some version of the schema showed the state. Or there were none, and nothing is founded in it, where the disk counted no
 -- fault, which may shut a connection.
 abbrev pub WasShown : Rules → State → Connected → Connected → Type 0
-WasShown k s conn taken = ((version : SchemaVersion) × IfClean (KeepsAs version (rows_of_state k s)) conn)
+WasShown k s conn taken = ((version : SchemaVersion) × IfClean (KeepsAs version (rows_of_state s)) conn)
     ⊎ ((s ≡ empty_state) × IfClean HasNoTables conn × ¬ MoreFaults conn.faults taken.faults)
 
 -- a database that was taken shows each sound state that it showed before
 abbrev pub TakenTablesShow : {K D : Type 0} → (K → Rules) → Ghosts D → Type 0
 TakenTablesShow {K} {D} rules g = (scheme : K) (conn taken : Held D) → IsTakenFor (holding.state g) (rules scheme).method (holding.state g conn) (holding.state g taken)
     → (s : State) → IsSound (rules scheme) s → WasShown (rules scheme) s (holding.state g conn) (holding.state g taken)
-    → standing.IfClean (ShowsState (rules scheme) s) (standing.state g (bare taken))
+    → standing.IfClean (ShowsState s) (standing.state g (bare taken))
 
 -- The database was taken for this scheme, and then the script was carried out over it. Its commands with their answers are a run of the plain
 -- machine, from each sound state that was shown before.
