@@ -1,6 +1,6 @@
 -- The laws of published files over single commands.
 use Rattle.std.specs.Cmp.Lexicographic.{pointwise}
-use Rattle.std.specs.Prelude.{◌≡◌, ℕ, ◌<◌, ◌≤◌, ◌⊎◌, ◌++◌, ◌+◌, List, [], ◌∷◌, Option, Some, None, IsTrue, true, option_map, option_and_then, Ok, ⊤}
+use Rattle.std.specs.Prelude.{◌≡◌, ℕ, ◌<◌, ◌≤◌, ◌⊎◌, ◌++◌, ◌+◌, List, [], ◌∷◌, Option, Some, None, IsTrue, option_map, option_and_then, Ok, ⊤}
 use Rattle.up_sign.specs.Schemes.{Rules, IsScheme}
 use Rattle.up_sign.specs.Formats.{envelope_text}
 use Rattle.up_sign.specs.declared.envelope.Envelope.{Envelope}
@@ -67,11 +67,10 @@ pub record IsBroughtTargets (k : Showing) (at : ℕ) (c : Command) (next : State
   pub signed : IsTrue (accepts k root.targets envelope)
   pub lists : IsTrue (pointwise same_target file.targets (image_targets next))
 
--- where the keys of the image repository's Root and Targets are offline, Targets stay as they are, or were brought, or the server has been given
--- keys of the Targets role by a new Root
+-- where the keys of the image repository's Targets are offline behind a command, Targets stay as they are, or were brought: so it is where they
+-- were taken offline just then, too
 abbrev pub OfflineTargetsAreBrought : Type 0
-OfflineTargetsAreBrought = (k : Showing) (s : State) (at : ℕ) (c : Command) → IsTrue (is_offline s.image.keys.root) → IsTrue (is_offline s.image.keys.targets) → IsTrue (is_founded s)
-    → is_offline (step k s at c).image.keys.targets ≡ true
+OfflineTargetsAreBrought = (k : Showing) (s : State) (at : ℕ) (c : Command) → IsTrue (is_offline (step k s at c).image.keys.targets)
     → (targets_text (step k s at c) ≡ targets_text s)
     ⊎ ((text : List ℕ) × (targets_text (step k s at c) ≡ Some text) × IsBroughtTargets k at c (step k s at c) text)
 
@@ -86,16 +85,23 @@ pub record IsBroughtRoot (k : Showing) (at : ℕ) (chain : Chain) (text : List �
   pub before : IsTrue (accepted_before k (last_root chain) envelope)
   pub own : IsTrue (accepts k file.root envelope)
 
--- where a root role is kept offline, root versions stay, or one follows that was brought
+-- where a root role is kept offline behind a command, root versions stay, or one followed that was brought: so it is of the one that took the role
+-- offline, too
 abbrev pub GrowsByBrought : Showing → ℕ → Chain → Chain → Type 0
-GrowsByBrought k at chain next = (next ≡ chain) ⊎ ((text : List ℕ) × (next.texts ≡ chain.texts ++ text ∷ []) × IsBroughtRoot k at chain text × IsTrue (is_offline next.keys.root))
+GrowsByBrought k at chain next = IsTrue (is_offline next.keys.root)
+    → (next ≡ chain) ⊎ ((text : List ℕ) × (next.texts ≡ chain.texts ++ text ∷ []) × IsBroughtRoot k at chain text)
+
+-- a role that was kept offline is so still
+abbrev pub StaysOffline : RoleSecrets → RoleSecrets → Type 0
+StaysOffline role next = IsTrue (is_offline role) → IsTrue (is_offline next)
 
 pub record OfflineRootsAreBrought (k : Showing) (at : ℕ) (s next : State) : Type 0 where
-  pub director : IsTrue (is_offline s.director.keys.root) → GrowsByBrought k at s.director next.director
-  pub image : IsTrue (is_offline s.image.keys.root) → GrowsByBrought k at s.image next.image
+  pub director : GrowsByBrought k at s.director next.director
+  pub image : GrowsByBrought k at s.image next.image
+  pub stay : IsTrue (is_founded s) → StaysOffline s.director.keys.root next.director.keys.root × StaysOffline s.image.keys.root next.image.keys.root
 
 abbrev pub OfflineRootsGrow : Type 0
-OfflineRootsGrow = (k : Showing) (s : State) (at : ℕ) (c : Command) → IsTrue (is_founded s) → OfflineRootsAreBrought k at s (step k s at c)
+OfflineRootsGrow = (k : Showing) (s : State) (at : ℕ) (c : Command) → OfflineRootsAreBrought k at s (step k s at c)
 
 -- ---- secrets are of the last Root
 

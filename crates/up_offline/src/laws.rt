@@ -15,7 +15,8 @@ pub fn versions_rise()
     ensures { VersionsRise }
 {}
 
-/// Root versions and Targets whose keys are kept offline are never made here: a new one was brought, and is signed for its role.
+/// Root versions and Targets whose keys are kept offline are never made here: a new one was brought, and is signed for its role. So
+/// is the one that takes its role offline, for which the keys that were held sign too; and a root role stays offline.
 pub fn offline_files_are_brought()
     ensures roots { OfflineRootsGrow }
     ensures targets { OfflineTargetsAreBrought }
