@@ -8,17 +8,17 @@ use Rattle.sqlite_ast.specs.declared.Rows.{Rows}
 use Rattle.sqlite_ast.specs.declared.Statement.{Statement}
 use Rattle.sqlite_ast.specs.declared.Statement.TheVariants as written
 use Rattle.sqlite_ast.specs.declared.Upsert.{Upsert}
-use Rattle.sqlite_resolve.specs.Compile.{first, compiled, planned, meaning, returning, command, target, new_rows, insert, insert_or, insert_or_abort, update, with_command}
+use Rattle.sqlite_resolve.specs.Compile.{first, compiled, planned, meaning, returning, command, target, new_rows, insert, insert_or, insert_or_abort, update, delete, with_command}
 use Rattle.sqlite_resolve.specs.Body.{table_at}
 use Rattle.sqlite_resolve.specs.Given.{upserts}
 use Rattle.sqlite_resolve.specs.Program.{program}
-use Rattle.sqlite_resolve.specs.Write.{updated}
+use Rattle.sqlite_resolve.specs.Write.{updated, deleted}
 use Rattle.sqlite_resolve.specs.Lowering.{Checked, and_then}
 use Rattle.sqlite_resolve.specs.Scope.{Name}
 use Rattle.sqlite_resolve.specs.declared.compiled.Compiled.{Compiled}
 use Rattle.sqlite_resolve.specs.declared.error.CompileError.TheVariants.{NoSuchTable}
 use Rattle.sqlite_schema.specs.declared.command.Command.{Command}
-use Rattle.sqlite_schema.specs.declared.command.Command.TheVariants.{Insert, InsertOr, Update}
+use Rattle.sqlite_schema.specs.declared.command.Command.TheVariants.{Insert, InsertOr, Update, Delete}
 use Rattle.sqlite_schema.specs.declared.command.Conflict.{Conflict}
 use Rattle.sqlite_schema.specs.declared.command.Conflict.TheVariants as how
 use Rattle.sqlite_schema.specs.declared.command.Returning.{Returning}
@@ -26,11 +26,12 @@ use Rattle.sqlite_syntax.specs.declared.statement.Parsed.{Parsed}
 
 -- ---- the command
 
--- it puts in rows, or sets some
+-- it puts in rows, sets some, or takes some away
 abbrev pub is_write : Command → Bool
 is_write (Insert at from) = true
 is_write (InsertOr at way from clauses) = true
 is_write (Update at q) = true
+is_write (Delete at q) = true
 is_write _ = false
 
 abbrev Writes : Checked Command → Type 0
@@ -65,12 +66,18 @@ unfolding update
 sets schema name to test =
     writes_then (target schema name) _ (λ at. writes_then (table_at schema at) _ (λ table. writes_then (updated schema at table to test) _ (λ d. writes_then (program schema [] d) (λ p. Ok (Update at p)) (λ p. refl))))
 
+removes : (schema : Schema) (name : Name) (test : Option Expr) → Writes (delete schema name test)
+unfolding delete
+removes schema name test =
+    writes_then (target schema name) _ (λ at. writes_then (table_at schema at) _ (λ table. writes_then (deleted schema at table test) _ (λ d. writes_then (program schema [] d) (λ p. Ok (Delete at p)) (λ p. refl))))
+
 -- ---- the statement
 
--- it puts in rows, or sets some
+-- it puts in rows, sets some, or takes some away
 abbrev pub is_row_written : Statement → Bool
 is_row_written (written.Insert way name columns rows clauses shown) = true
 is_row_written (written.Update name to test shown) = true
+is_row_written (written.Delete name test shown) = true
 is_row_written _ = false
 
 writes : (schema : Schema) (formats : List Name) (base : ℕ) (statement : Statement) → is_row_written statement ≡ true → Writes (command schema formats base statement)
@@ -79,6 +86,7 @@ writes schema formats base (written.Insert conflict.Abort name columns rows clau
 writes schema formats base (written.Insert conflict.Ignore name columns rows clauses shown) is = inserts_or schema base how.Ignore name columns rows clauses
 writes schema formats base (written.Insert conflict.Replace name columns rows clauses shown) is = inserts_or schema base how.Replace name columns rows clauses
 writes schema formats base (written.Update name to test shown) is = sets schema name to test
+writes schema formats base (written.Delete name test shown) is = removes schema name test
 writes schema formats base _ is = absurd (let e = is in cc)
 
 -- it asks for rows
@@ -140,7 +148,7 @@ unfolding understood compiled
 understood_as P Q text h read schema =
     listing_as P (reads_listing schema text) _ _ (compiled_as P Q listing_schema (h listing_schema) (first text) read) (compiled_as P Q schema (h schema) (first text) read)
 
--- the text is read as a statement that puts in rows, or sets some
+-- the text is read as a statement that puts in rows, sets some, or takes some away
 abbrev pub IsRowWritten : List ℕ → Type 0
 IsRowWritten text = IfOk (first text) (λ p. is_row_written p.statement ≡ true)
 

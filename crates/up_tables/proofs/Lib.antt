@@ -42,11 +42,13 @@ pub mod KeptLemmas
 pub mod CampaignLemmas
 pub mod EcuInserts
 pub mod EachLemmas
+pub mod FirstLemmas
 pub mod EcuReads
 pub mod FileSteps
 pub mod FileLemmas
 pub mod MetaReads
 pub mod NamedLemmas
+pub mod DeleteLemmas
 pub mod RoleKeyLemmas
 pub mod ListedLemmas
 pub mod RaiseLemmas

@@ -12,7 +12,7 @@ use Rattle.sqlite.proofs.Callers.{IsPlain, command_of}
 use Rattle.sqlite_resolve.specs.declared.compiled.Compiled.{Compiled}
 use Rattle.sqlite_resolve.specs.declared.error.CompileError.{CompileError}
 use Rattle.sqlite_schema.specs.declared.command.Command.{Command}
-use Rattle.sqlite_schema.specs.declared.command.Command.TheVariants.{Insert, InsertOr, Update}
+use Rattle.sqlite_schema.specs.declared.command.Command.TheVariants.{Insert, InsertOr, Update, Delete}
 use Rattle.sqlite_schema.specs.declared.command.Returning.{Returning}
 use Rattle.up_tables.specs.Tables.{up_schema}
 use Rattle.up_tables.specs.Faults.{store_fault}
@@ -28,12 +28,14 @@ not_query : (k : Command) → is_write k ≡ true → is_query k ≡ false
 not_query (Insert at from) h = refl
 not_query (InsertOr at way from clauses) h = refl
 not_query (Update at q) h = refl
+not_query (Delete at q) h = refl
 not_query _ h = absurd (let e = h in cc)
 
 not_pragma : (k : Command) → is_write k ≡ true → is_pragma k ≡ false
 not_pragma (Insert at from) h = refl
 not_pragma (InsertOr at way from clauses) h = refl
 not_pragma (Update at q) h = refl
+not_pragma (Delete at q) h = refl
 not_pragma _ h = absurd (let e = h in cc)
 
 other : {k other : Command} → is_write k ≡ true → k ≡ other → is_write other ≡ false → ⊥
@@ -52,7 +54,7 @@ stays held s k h (inl (inr it)) = other h it refl
 stays held s k h (inr (name, inl it, _)) = other h it refl
 stays held s k h (inr (name, inr it, _)) = other h it refl
 
--- a statement that puts in rows or sets some, with as many parameters as are given
+-- a statement that puts in rows, sets some or takes some away, with as many parameters as are given
 pub record IsWriting (text : List ℕ) (params : Row) (command : Command) : Type 0 where
   pub is : command_of (understood up_schema text) ≡ command
   pub untimed : IsUntimed (understood up_schema text)

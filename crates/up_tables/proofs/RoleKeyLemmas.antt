@@ -1,5 +1,7 @@
 -- The statements on keys of roles.
-use Rattle.std.proofs.Common.{◌≡◌, ◌+◌, suc, take, slice_get, arith, ℕ, pos, List, [], ◌∷◌, ◌++◌, map, length, Some, Result, OnOk, IsTrue, refl, sym, ap, subst, ◌∙◌, codes, append-nil, drop}
+use Rattle.std.proofs.Common.{◌≡◌, ◌+◌, suc, take, slice_get, arith, ℕ, pos, List, [], ◌∷◌, ◌++◌, map, length, true, Some, Result, Ok, Err, OnOk, IsTrue, refl, sym, ap, subst, ◌∙◌, codes, append-nil, drop}
+use Rattle.std.specs.List.{AllByRecursion}
+use Rattle.std.specs.List.Sorted.{IsPermutation}
 use Rattle.std.specs.Ordering.{is_eq}
 use Rattle.std.proofs.Math.Bool.{and-true}
 use Rattle.sqlite.specs.declared.types.Value.TheVariants.{Null, Int}
@@ -7,21 +9,29 @@ use Rattle.sqlite.specs.declared.error.Error.{Error}
 use Rattle.sqlite.specs.Order.{Row, column, value_cmp}
 use Rattle.sqlite.specs.Cast.{cast_row}
 use Rattle.sqlite.specs.Source.TheVariants.{Values}
-use Rattle.sqlite.specs.Command.TheVariants.{Insert}
+use Rattle.sqlite.specs.Command.TheVariants.{Insert, Delete}
+use Rattle.sqlite.specs.Effect.{Answers}
 use Rattle.sqlite.specs.Listing.{understood}
+use Rattle.sqlite.specs.Term.{col}
+use Rattle.sqlite.specs.Tree.{Trees}
 use Rattle.sqlite.specs.State.{State, HasCleanDisk, Survives, ExecutesInside}
 use Rattle.sqlite.proofs.Callers.{IsPlain, command_of}
+use Rattle.sqlite_keyed.proofs.ListLemmas.{filter_all}
+use Rattle.sqlite_schema.specs.declared.program.Program.{Program}
 use Rattle.sqlite_tied.specs.Compute.{everything}
 use Rattle.up_tables.specs.Rows.{columns_at, has_number}
 use Rattle.up_tables.specs.Stands.{ListsAll, IfClean, IsInside, Alters, HasTables, IsOpen}
-use Rattle.up_tables.proofs.AnswerLemmas.{over, given, all_columns, equals_int}
+use Rattle.up_tables.specs.Statements.{AppendsRows, SetsRows}
+use Rattle.up_tables.specs.declared.values.StoreFault.{StoreFault}
+use Rattle.up_tables.proofs.AnswerLemmas.{over, given, all_columns, answer_is, equals_int, shows_passing}
 use Rattle.up_tables.proofs.Casts.{cast_int, cast_null}
 use Rattle.up_tables.proofs.EcuRows.{column_after}
 use Rattle.up_tables.proofs.EcuUpdate.{equals}
+use Rattle.up_tables.proofs.DeleteLemmas.{empties, id_row}
 use Rattle.up_tables.proofs.InsertLemmas.{inserts_in}
 use Rattle.std.proofs.lemmas.List.{map-append, append_assoc}
 use Rattle.up_tables.specs.Tables.{up_schema, role_key_table}
-use Rattle.up_tables.specs.Texts.{insert_role_key_text, role_keys_of_text}
+use Rattle.up_tables.specs.Texts.{delete_role_keys_text, insert_role_key_text, role_keys_of_text}
 use Rattle.up_tables.specs.Forms.{keys_shown, role_key_row, role_key_places}
 use Rattle.up_tables.specs.declared.role_key.RoleKeyRow.{RoleKeyRow}
 use Rattle.up_tables.proofs.ByNameLemmas.{added_in}
@@ -29,7 +39,52 @@ use Rattle.up_tables.proofs.EcuInserts.{take_next, take_whole}
 use Rattle.up_tables.proofs.OthersLemmas.{alters_to, alters_none, has_after, alters_then}
 use Rattle.up_tables.proofs.ReadLemmas.{Asks, answers_all, by_rowid}
 use Rattle.up_tables.proofs.RefusalLemmas.{Writes}
+use Rattle.up_tables.proofs.RunLemmas.{IsRun, idle, run_alters, run_in, then_ok}
 use Rattle.up_tables.proofs.StoredLemmas.{IsListingIn}
+
+-- ---- taken away
+
+abbrev delete_program : Program
+delete_program = record { lets = []; body = over role_key_table.tree [] (col 1 0 ∷ []) [] }
+
+delete_is : (command_of (understood up_schema delete_role_keys_text) ≡ Delete 1 delete_program) × IsPlain (understood up_schema delete_role_keys_text)
+unfolding understood everything
+delete_is = (refl, (refl, refl))
+
+pub role_keys_delete : Writes delete_role_keys_text [] (Delete 1 delete_program)
+unfolding understood everything
+role_keys_delete = record { row = refl; is = delete_is.0; plain = delete_is.1; writes = refl; whole = refl; count = refl }
+
+each_passes : (rows : List Row) → AllByRecursion (λ r. true ≡ true) rows
+each_passes [] = tt
+each_passes (r ∷ rows) = (refl, each_passes rows)
+
+-- the query of the deletion shows the rowid of each row
+ids_shown : (db : Trees) (rows : List Row) → Answers (record { schema = up_schema; trees = db }) delete_program [] rows → IsPermutation (map id_row (db role_key_table.tree)) rows
+ids_shown db rows h =
+    let all = db role_key_table.tree in
+    let same = shows_passing [] (col 1 0 ∷ []) [] all rows (answer_is (Rattle.sqlite.specs.Program.overlay db []) role_key_table.tree [] (col 1 0 ∷ []) [] [] rows (h.answer Null)) in
+    subst (λ xs. IsPermutation (map id_row xs) rows) (filter_all (λ r. true) all (each_passes all)) same
+
+pub role_keys_emptied : (r : Result ℕ Error) (old new : State) → Survives old new (λ _. ⊥) → IfClean IsInside old
+    → (HasCleanDisk new → IsTrue old.in_transaction → ExecutesInside 0 delete_role_keys_text [] old new r)
+    → HasCleanDisk new → OnOk r ((all : List Row) → HasTables old → ListsAll all (old.now.trees role_key_table.tree) → Alters role_key_table (ListsAll []) old new)
+role_keys_emptied r old new survives inside ran clean = then_ok r empty (run_in delete_role_keys_text [] old new r survives inside ran clean)
+  where
+    empty : IsRun delete_role_keys_text [] old new → (all : List Row) → HasTables old → ListsAll all (old.now.trees role_key_table.tree) → Alters role_key_table (ListsAll []) old new
+    empty run all has lists =
+        let done = empties up_schema delete_role_keys_text 1 role_key_table delete_program [] delete_is.0 delete_is.1 refl (idle role_key_table.tree) old new run.count (has run.was_open).schema_is lists.shaped.1 (ids_shown old.now.trees) run.went in
+        let now : ListsAll [] (new.now.trees role_key_table.tree) = subst (ListsAll []) (sym done.rows) (record { shaped = (tt, tt); every = refl }) in
+        run_alters delete_role_keys_text [] role_key_table _ old new run done.schema_is done.sound now done.others
+
+-- behind the deletion, what is put in is all
+pub role_keys_set : {A B : Type 0} (more : List Row) (old mid new : State) (x : A) (r : Result B StoreFault) → (HasCleanDisk new → HasCleanDisk mid) → SetsRows role_key_table [] old mid (Ok x) → AppendsRows role_key_table more mid new r
+    → SetsRows role_key_table more old new r
+role_keys_set more old mid new x (Err e) before first second clean = tt
+role_keys_set more old mid new x (Ok y) before first second clean = λ all has lists.
+    let none = first (before clean) all has lists in
+    let some = second clean [] (has_after role_key_table _ old mid none) none.rows in
+    alters_then role_key_table _ _ old mid new none some
 
 -- ---- put in
 

@@ -14,7 +14,7 @@ use Rattle.sqlite.specs.Clock.{timed}
 use Rattle.sqlite.specs.declared.run.Mode.{Mode}
 use Rattle.sqlite_resolve.specs.declared.compiled.Compiled.{Compiled}
 use Rattle.sqlite_schema.specs.declared.command.Command.{Command}
-use Rattle.sqlite_schema.specs.declared.command.Command.TheVariants.{Insert, InsertOr, Update}
+use Rattle.sqlite_schema.specs.declared.command.Command.TheVariants.{Insert, InsertOr, Update, Delete}
 use Rattle.sqlite_schema.specs.declared.command.Returning.{Returning}
 use Rattle.up_tables.specs.Stands.{HasTables, IfClean, IsInside, IsOpen}
 use Rattle.up_tables.specs.Tried.{BlamesOne, BlamesRefusal, Makes, MakesOf, Ran, RefusesOne, our_mode}
@@ -58,12 +58,14 @@ pub keeps_schema : (limit : Option ℕ) (mode : Mode) (params : Row) (db : Datab
 keeps_schema limit mode params db text returning (Insert at from) tally after is h = on_table limit mode params db returning (Insert at from) tally after (slice_get db.schema.tables at) h
 keeps_schema limit mode params db text returning (InsertOr at way from clauses) tally after is h = on_table limit mode params db returning (InsertOr at way from clauses) tally after (slice_get db.schema.tables at) h
 keeps_schema limit mode params db text returning (Update at q) tally after is h = on_table limit mode params db returning (Update at q) tally after (slice_get db.schema.tables at) h
+keeps_schema limit mode params db text returning (Delete at q) tally after is h = on_table limit mode params db returning (Delete at q) tally after (slice_get db.schema.tables at) h
 keeps_schema limit mode params db text returning _ tally after is h = absurd (let e = is in cc)
 
 writes_of : (old new : State) (returning : Option Returning) (command : Command) (text : List ℕ) (params : Row) (count : ℕ) → is_write command ≡ true → Runs old new returning command text params count → HasWritten old new returning command text params count
 writes_of old new returning (Insert at from) text params count is h = h
 writes_of old new returning (InsertOr at way from clauses) text params count is h = h
 writes_of old new returning (Update at q) text params count is h = h
+writes_of old new returning (Delete at q) text params count is h = h
 writes_of old new returning _ text params count is h = absurd (let e = is in cc)
 
 -- what a statement made of an open connection
@@ -77,6 +79,7 @@ reads_none : (k : Command) (db : Database) (params : Row) (rows : List Row) → 
 reads_none (Insert at from) db params rows is h = h
 reads_none (InsertOr at way from clauses) db params rows is h = h
 reads_none (Update at q) db params rows is h = h
+reads_none (Delete at q) db params rows is h = h
 reads_none _ db params rows is h = absurd (let e = is in cc)
 
 module _ (text : List ℕ) (params : Row) (row : IsRowWritten text) (old new : State) where
