@@ -6,7 +6,7 @@ use Rattle.up_canon.specs.declared.refusal.Refusal.{Refusal}
 use Rattle.up_canon.specs.declared.refusal.Refusal.TheVariants.{NotFounded}
 use Rattle.up_metadata.specs.declared.role_files.RoleTexts.{RoleTexts}
 use Rattle.up_machine.specs.declared.rows.Founding.{Founding}
-use Rattle.up_machine.specs.State.{State, root_number, key_set}
+use Rattle.up_machine.specs.State.{State, root_number, image_root_number, key_set}
 use Rattle.up_machine.specs.Rows.{founding_row}
 use Rattle.up_machine.specs.Deciding.{check_founded}
 
@@ -21,7 +21,7 @@ by_files f (Some files) = refl
 
 -- the row of a founded state
 abbrev pub row_of : State → Founding
-row_of s = record { root = root_number s; keys = key_set s; image_version = s.image_version; stamp = s.stamp }
+row_of s = record { root = root_number s; image_root = image_root_number s; keys = key_set s; image_version = s.image_version; targets_version = s.targets_version; stamp = s.stamp }
 
 pub founded_by_row : (s : State) → check_founded s ≡ check_by_row (founding_row s)
 founded_by_row s = by_files (λ files. row_of s) s.files

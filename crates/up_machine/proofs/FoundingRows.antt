@@ -18,10 +18,10 @@ use Rattle.up_machine.specs.declared.rows.Founding.{Founding}
 use Rattle.up_machine.specs.declared.decision.NextRoot.{NextRoot}
 use Rattle.up_machine.specs.declared.decision.RegisterRows.{RegisterRows}
 use Rattle.up_machine.specs.declared.decision.RootRows.{RootRows}
-use Rattle.up_machine.specs.State.{State, is_founded, chain_of, root_number, key_set, keys_before, last_text}
+use Rattle.up_machine.specs.State.{State, is_founded, chain_of, root_number, image_root_number, key_set, keys_before, last_text}
 use Rattle.up_machine.specs.Files.{target_of}
 use Rattle.up_machine.specs.Rows.{founding_row}
-use Rattle.up_machine.specs.Repositories.{next_chain, with_root, stamped}
+use Rattle.up_machine.specs.Repositories.{next_chain, with_root, stamped, are_roots_full}
 use Rattle.up_machine.specs.Decisions.{HasRootRows, HasRegisterRows}
 use Rattle.up_machine.specs.Due.{row_with_root, HasNewFiles, HasRoot, HasFounding}
 use Rattle.up_machine.proofs.FoundedRow.{row_of}
@@ -54,6 +54,12 @@ none_there (Some x) h = cc
 pub root_number_is : (s : State) (f : Founding) → Some f ≡ founding_row s → f.root ≡ root_number s
 root_number_is s f h = ap (λ (f : Founding). f.root) (founding_of s f h).1
 
+pub image_root_number_is : (s : State) (f : Founding) → Some f ≡ founding_row s → f.image_root ≡ image_root_number s
+image_root_number_is s f h = ap (λ (f : Founding). f.image_root) (founding_of s f h).1
+
+pub as_full : (s : State) (f : Founding) → Some f ≡ founding_row s → are_roots_full f.root f.image_root ≡ are_roots_full (root_number s) (image_root_number s)
+as_full s f h = ap (λ (f : Founding). are_roots_full f.root f.image_root) (founding_of s f h).1
+
 pub version_number : (s : State) (f : Founding) → Some f ≡ founding_row s → f.image_version ≡ s.image_version
 version_number s f h = ap (λ (f : Founding). f.image_version) (founding_of s f h).1
 
@@ -73,18 +79,20 @@ new_text k repository s at keys number before is old =
     nth_last (chain_of repository s).texts _
     ∙ ap₂ (λ n b. Some (root_text k repository n (record { keys = keys; at = at }) b)) (sym is) (sym old)
 
-pub root_is_due : (k : Rules) (s : State) (at : ℕ) (keys : KeySet) (version number : ℕ) (hashed : HashedKeySet) (before : Option KeySet) → number ≡ root_number s + 1 → length s.image.texts ≡ root_number s → before ≡ keys_before s
-    → HasRoot k (stamped k (with_root k s at keys) at version) at keys (record { number = number; version = version; hashed = hashed; before = before })
-root_is_due k s at keys version number hashed before is same old = record {
-  founding = ap {B = Option Founding} (λ n. Some (record { root = n; keys = keys; image_version = version; stamp = at })) (length-append s.director.texts (_ ∷ []) ∙ sym is);
+pub root_is_due : (k : Rules) (s : State) (at : ℕ) (keys : KeySet) (version number image_number : ℕ) (hashed : HashedKeySet) (before : Option KeySet) → number ≡ root_number s + 1 → image_number ≡ image_root_number s + 1
+    → before ≡ keys_before s
+    → HasRoot k (stamped k (with_root k s at keys) at version) at keys (record { number = number; image_number = image_number; version = version; hashed = hashed; before = before })
+root_is_due k s at keys version number image_number hashed before is image_is old = record {
+  founding = ap₂ {C = Option Founding} (λ n m. Some (record { root = n; image_root = m; keys = keys; image_version = version; targets_version = version; stamp = at }))
+      (length-append s.director.texts (_ ∷ []) ∙ sym is) (length-append s.image.texts (_ ∷ []) ∙ sym image_is);
   director = new_text k Director s at keys number before is old;
-  image = new_text k Image s at keys number before (is ∙ ap (λ n. n + 1) (sym same)) old;
+  image = new_text k Image s at keys image_number before image_is old;
   files = refl;
 }
 
 -- the founding's row with new files of the image repository
 abbrev pub row_with : Founding → ℕ → ℕ → Founding
-row_with f version at = record { root = f.root; keys = f.keys; image_version = version; stamp = at }
+row_with f version at = record { root = f.root; image_root = f.image_root; keys = f.keys; image_version = version; targets_version = version; stamp = at }
 
 pub files_are_due : (k : Rules) (s : State) (images : Table ImageData) (at version : ℕ) (f : Founding) → founding_row s ≡ Some f
     → HasFounding (stamped k (record s { images = images }) at version) (row_with f version at)
@@ -111,7 +119,7 @@ abbrev pub root_rows_of : Rules → ℕ → KeySet → NextRoot → Option KeySe
 root_rows_of k at keys new before images = record {
   founding = row_with_root at keys new;
   director = root_text k Director new.number (record { keys = keys; at = at }) before;
-  image = root_text k Image new.number (record { keys = keys; at = at }) before;
+  image = root_text k Image new.image_number (record { keys = keys; at = at }) before;
   files = files_of k (row_with_root at keys new) images;
 }
 

@@ -1,6 +1,6 @@
 -- What the decisions on both repositories come to, by what each check found.
-use Rattle.std.proofs.Common.{◌≡◌, ℕ, ◌+◌, ◌<◌, ◌≤◌, Bool, true, false, cond, Some, None, Result, Ok, Err, sym, ap, ◌∙◌, subst, arith}
-use Rattle.std.specs.Prelude.{⊤, MatchBool, IsErrAnd, nat_le, is_some}
+use Rattle.std.proofs.Common.{◌≡◌, ℕ, ◌+◌, ◌<◌, ◌≤◌, Bool, true, false, cond, Some, None, Result, Ok, Err, refl, sym, ap, ◌∙◌, subst, arith}
+use Rattle.std.specs.Prelude.{◌||◌, ⊤, MatchBool, IsErrAnd, nat_le, is_some}
 use Rattle.std.specs.FinMap as table
 use Rattle.std.proofs.lemmas.Bool.Decides.{nat_tests}
 use Rattle.up_canon.specs.Canon.{max_count}
@@ -13,9 +13,9 @@ use Rattle.up_sign.specs.Schemes.{Rules}
 use Rattle.up_plan.specs.Images.{ImageData}
 use Rattle.up_metadata.specs.declared.keys.KeySet.{KeySet}
 use Rattle.up_metadata.specs.Keys.{check_keys}
-use Rattle.up_machine.specs.State.{State, is_founded, root_number}
+use Rattle.up_machine.specs.State.{State, is_founded, root_number, image_root_number}
 use Rattle.up_machine.specs.Deciding.{Outcome, done, already, where_new, check_founded, check_version}
-use Rattle.up_machine.specs.Repositories.{stamped, with_root, with_image, same_image, decide_found, decide_rotate, decide_new_image, decide_image, decide_refresh}
+use Rattle.up_machine.specs.Repositories.{stamped, with_root, with_image, are_roots_full, same_image, decide_found, decide_rotate, decide_new_image, decide_image, decide_refresh}
 use Rattle.up_machine.specs.Decisions.{GivesRows}
 use Rattle.up_machine.specs.Due.{GivesOutright}
 use Rattle.up_machine.proofs.Fetched.{in_time}
@@ -91,26 +91,34 @@ pub rotate_unfounded : (k : Rules) (s : State) (at : ℕ) (keys : KeySet) → at
 unfolding decide_rotate
 rotate_unfounded k s at keys moment good none = bind-ok _ _ tt (in_time at moment) ∙ bind-ok _ _ tt good ∙ bind-err _ _ NotFounded (not_founded s none)
 
-pub rotate_full : (k : Rules) (s : State) (at : ℕ) (keys : KeySet) → at ≤ last_command_moment → check_keys k keys ≡ Ok tt → is_founded s ≡ true → 64 ≤ root_number s → decide_rotate k s at keys ≡ Err RootFull
+pub rotate_full : (k : Rules) (s : State) (at : ℕ) (keys : KeySet) → at ≤ last_command_moment → check_keys k keys ≡ Ok tt → is_founded s ≡ true → are_roots_full (root_number s) (image_root_number s) ≡ true → decide_rotate k s at keys ≡ Err RootFull
 unfolding decide_rotate
 rotate_full k s at keys moment good some full =
-    let test : nat_le 64 (root_number s) ≡ true = grind (arith, nat_tests) in
-    bind-ok _ _ tt (in_time at moment) ∙ bind-ok _ _ tt good ∙ bind-ok _ _ tt (founded s some) ∙ bind-err _ _ RootFull (ap (λ b. refuse_if b RootFull) test)
+    bind-ok _ _ tt (in_time at moment) ∙ bind-ok _ _ tt good ∙ bind-ok _ _ tt (founded s some) ∙ bind-err _ _ RootFull (ap (λ b. refuse_if b RootFull) full)
 
-room_for_root : (s : State) → root_number s < 64 → refuse_if (nat_le 64 (root_number s)) RootFull ≡ Ok tt
-room_for_root s room = let test : nat_le 64 (root_number s) ≡ false = grind (arith, nat_tests) in ap (λ b. refuse_if b RootFull) test
+room_for_root : (s : State) → are_roots_full (root_number s) (image_root_number s) ≡ false → refuse_if (are_roots_full (root_number s) (image_root_number s)) RootFull ≡ Ok tt
+room_for_root s room = ap (λ b. refuse_if b RootFull) room
 
-pub rotate_limit : (k : Rules) (s : State) (at : ℕ) (keys : KeySet) → at ≤ last_command_moment → check_keys k keys ≡ Ok tt → is_founded s ≡ true → root_number s < 64 → max_count ≤ s.image_version
+pub rotate_limit : (k : Rules) (s : State) (at : ℕ) (keys : KeySet) → at ≤ last_command_moment → check_keys k keys ≡ Ok tt → is_founded s ≡ true → are_roots_full (root_number s) (image_root_number s) ≡ false → max_count ≤ s.image_version
     → decide_rotate k s at keys ≡ Err VersionLimit
 unfolding decide_rotate
 rotate_limit k s at keys moment good some room limit =
     bind-ok _ _ tt (in_time at moment) ∙ bind-ok _ _ tt good ∙ bind-ok _ _ tt (founded s some) ∙ bind-ok _ _ tt (room_for_root s room) ∙ bind-err _ _ VersionLimit (at_limit s limit)
 
-pub rotate_done : (k : Rules) (s : State) (at : ℕ) (keys : KeySet) → at ≤ last_command_moment → check_keys k keys ≡ Ok tt → is_founded s ≡ true → root_number s < 64 → s.image_version < max_count
+pub rotate_done : (k : Rules) (s : State) (at : ℕ) (keys : KeySet) → at ≤ last_command_moment → check_keys k keys ≡ Ok tt → is_founded s ≡ true → are_roots_full (root_number s) (image_root_number s) ≡ false → s.image_version < max_count
     → decide_rotate k s at keys ≡ Ok (done (stamped k (with_root k s at keys) at (s.image_version + 1)))
 unfolding decide_rotate
 rotate_done k s at keys moment good some room below =
     bind-ok _ _ tt (in_time at moment) ∙ bind-ok _ _ tt good ∙ bind-ok _ _ tt (founded s some) ∙ bind-ok _ _ tt (room_for_root s room) ∙ bind-ok _ _ tt (below_limit s below)
+
+-- neither number is at its limit
+pub neither_full : (director image : ℕ) → are_roots_full director image ≡ false → (director < 64) × (image < 64)
+neither_full director image h = by_tests (nat_le 64 director) (nat_le 64 image) refl refl h
+  where
+    by_tests : (a b : Bool) → nat_le 64 director ≡ a → nat_le 64 image ≡ b → (a || b) ≡ false → (director < 64) × (image < 64)
+    by_tests true b first second h = cc
+    by_tests false true first second h = cc
+    by_tests false false first second h = (grind (arith, nat_tests), grind (arith, nat_tests))
 
 -- ---- images
 

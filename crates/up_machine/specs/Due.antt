@@ -26,7 +26,14 @@ use Rattle.up_machine.specs.Decisions.{IsDone}
 
 -- the founding's row with a root version that is due
 abbrev pub row_with_root : ℕ → KeySet → NextRoot → Founding
-row_with_root at keys new = record { root = new.number; keys = keys; image_version = new.version; stamp = at }
+row_with_root at keys new = record {
+  root = new.number;
+  image_root = new.image_number;
+  keys = keys;
+  image_version = new.version;
+  targets_version = new.version;
+  stamp = at;
+}
 
 -- the image repository's files are those that are made of the rest
 abbrev pub HasNewFiles : Rules → State → Type 0
@@ -36,7 +43,7 @@ HasNewFiles k next = next.files ≡ Some (role_texts k (image_metadata next))
 pub record HasRoot (k : Rules) (next : State) (at : ℕ) (keys : KeySet) (new : NextRoot) : Type 0 where
   pub founding : founding_row next ≡ Some (row_with_root at keys new)
   pub director : last_text next.director.texts ≡ Some (root_text k Director new.number (record { keys = keys; at = at }) new.before)
-  pub image : last_text next.image.texts ≡ Some (root_text k Image new.number (record { keys = keys; at = at }) new.before)
+  pub image : last_text next.image.texts ≡ Some (root_text k Image new.image_number (record { keys = keys; at = at }) new.before)
   pub files : HasNewFiles k next
 
 -- the founding's row
@@ -45,13 +52,14 @@ HasFounding next founding = founding_row next ≡ Some founding
 
 -- ---- what making files asks of it
 
--- the keys fit, `hashed` is of these keys, those of the version before can sign, and both repositories' files have a version and a
+-- the keys fit, `hashed` is of these keys, those of the version before can sign, and both repositories' files have their numbers and a
 -- command's moment
 pub record CanMakeRoot (k : Rules) (at : ℕ) (keys : KeySet) (new : NextRoot) : Type 0 where
   pub keys_fit : IsTrue (key_set_fits k keys)
   pub hashed : new.hashed ≡ hashed_key_set k keys
   pub before : IfSome new.before (λ b. IsTrue (all_can_sign k b))
   pub number : IsTrue (version_fits new.number)
+  pub image_number : IsTrue (version_fits new.image_number)
   pub version : IsTrue (version_fits new.version)
   pub moment : at ≤ last_command_moment
 

@@ -1,5 +1,5 @@
 -- The decisions on both repositories' roots and on the register of images. Each check carries the name of its refusal, in the order of refusals.
-use Rattle.std.specs.Prelude.{ℕ, ◌+◌, ◌==◌, ◌&&◌, ◌++◌, List, [], ◌∷◌, Bool, true, false, nat_le, length, bytes_eq, Option, Some, None, Result, Ok}
+use Rattle.std.specs.Prelude.{ℕ, ◌+◌, ◌==◌, ◌&&◌, ◌||◌, ◌++◌, List, [], ◌∷◌, Bool, true, false, nat_le, length, bytes_eq, Option, Some, None, Result, Ok}
 use Rattle.std.specs.Cmp.Lexicographic.{pointwise}
 use Rattle.std.specs.FinMap as table
 use Rattle.up_canon.specs.Names.{Name}
@@ -15,7 +15,7 @@ use Rattle.up_metadata.specs.declared.keys.KeySet.{KeySet}
 use Rattle.up_metadata.specs.Keys.{check_keys}
 use Rattle.up_metadata.specs.Files.{keys_of, root_text, role_texts}
 use Rattle.up_machine.specs.declared.answer.Answer.TheVariants.{File}
-use Rattle.up_machine.specs.State.{Chain, State, is_founded, chain_of, root_number, keys_before}
+use Rattle.up_machine.specs.State.{Chain, State, is_founded, chain_of, root_number, image_root_number, keys_before}
 use Rattle.up_machine.specs.Files.{image_metadata, file}
 use Rattle.up_machine.specs.Deciding.{Outcome, done, where_new, check_moment, check_founded, check_version}
 
@@ -27,7 +27,7 @@ with_files k s = record s { files = Some (role_texts k (image_metadata s)) }
 
 -- new files of the image repository, with this version and moment
 abbrev pub stamped : Rules → State → ℕ → ℕ → State
-stamped k s at version = with_files k (record s { image_version = version; stamp = at })
+stamped k s at version = with_files k (record s { image_version = version; targets_version = version; stamp = at })
 
 -- a repository's next root version, which the keys of the last one sign too
 abbrev pub next_chain : Rules → Repository → State → ℕ → KeySet → Chain
@@ -41,6 +41,10 @@ with_root k s at keys = record s { director = next_chain k Director s at keys; i
 
 abbrev pub with_image : State → ImageData → State
 with_image s image = record s { images = table.insert s.images image.file image }
+
+-- one of the repositories, with these numbers of root versions, has as many as it may have
+abbrev pub are_roots_full : ℕ → ℕ → Bool
+are_roots_full director image = nat_le 64 director || nat_le 64 image
 
 -- ---- equal images
 
@@ -73,7 +77,7 @@ decide_rotate k s at keys = do
   moment_out_of_range ← check_moment at
   bad_shape ← check_keys k keys
   not_founded ← check_founded s
-  root_full ← refuse_if (nat_le 64 (root_number s)) RootFull
+  root_full ← refuse_if (are_roots_full (root_number s) (image_root_number s)) RootFull
   version_limit ← check_version s
   Ok (done (stamped k (with_root k s at keys) at (s.image_version + 1)))
 

@@ -12,11 +12,18 @@ use Rattle.up_machine.specs.declared.rows.Kept.{Kept}
 use Rattle.up_machine.specs.declared.answer.Reply.{Reply}
 use Rattle.up_machine.specs.declared.vehicle.NewEcu.{NewEcu}
 use Rattle.up_machine.specs.Vehicles.{NewVehicleData}
-use Rattle.up_machine.specs.State.{Entry, Vehicle, State, root_number, key_set, version, last_counter, last_report, installed_on}
+use Rattle.up_machine.specs.State.{Entry, Vehicle, State, root_number, image_root_number, key_set, version, last_counter, last_report, installed_on}
 
 -- none before founding
 abbrev pub founding_row : State → Option Founding
-founding_row s = option_map (λ files. record { root = root_number s; keys = key_set s; image_version = s.image_version; stamp = s.stamp }) s.files
+founding_row s = option_map (λ files. record {
+  root = root_number s;
+  image_root = image_root_number s;
+  keys = key_set s;
+  image_version = s.image_version;
+  targets_version = s.targets_version;
+  stamp = s.stamp;
+}) s.files
 
 abbrev pub vehicle_row : Name → Vehicle → VehicleRow
 vehicle_row name v = record { vehicle = name; primary = v.primary; version = version v.entries; last = last_counter v.entries }

@@ -45,14 +45,15 @@ pub record Vehicle : Type 0 where
   pub retired : List Name
   pub entries : List Entry
 
--- both repositories, and the image repository's other files; before founding there are none, and the image repository's version and stamp
--- are 0
+-- both repositories, and the image repository's other files; its version is that of its Snapshot and its Timestamp, which were made at the
+-- stamp, and its Targets have a version of their own. Before founding there are no files, and these numbers are 0
 pub record State : Type 0 where
   pub director : Chain
   pub image : Chain
   pub files : Option RoleTexts
   pub images : Table ImageData
   pub image_version : ℕ
+  pub targets_version : ℕ
   pub stamp : ℕ
   pub campaigns : Table CampaignData
   pub vehicles : Table Vehicle
@@ -70,7 +71,7 @@ no_chain = record { texts = []; keys = no_keys }
 
 -- nothing is founded
 abbrev pub empty_state : State
-empty_state = record { director = no_chain; image = no_chain; files = None; images = table.empty; image_version = 0; stamp = 0; campaigns = table.empty; vehicles = table.empty }
+empty_state = record { director = no_chain; image = no_chain; files = None; images = table.empty; image_version = 0; targets_version = 0; stamp = 0; campaigns = table.empty; vehicles = table.empty }
 
 -- the i-th, counted from 1
 abbrev pub nth : {A : Type 0} → List A → ℕ → Option A
@@ -86,9 +87,12 @@ abbrev pub chain_of : Repository → State → Chain
 chain_of Director s = s.director
 chain_of Image s = s.image
 
--- how many root versions there are
+-- how many root versions the Director has, and how many the image repository
 abbrev pub root_number : State → ℕ
 root_number s = length s.director.texts
+
+abbrev pub image_root_number : State → ℕ
+image_root_number s = length s.image.texts
 
 -- the last of these texts; none of none
 abbrev pub last_text : List (List ℕ) → Option (List ℕ)

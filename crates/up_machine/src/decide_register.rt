@@ -109,12 +109,21 @@ pub fn decide_refresh(
 
 /// The founding's row with new files of the image repository.
 fn with_version(old: Founding, version: u64, at: Moment) -> Founding
-    ensures { result ≡ record { root = old.root; keys = old.keys; image_version = version; stamp = at } }
+    ensures { result ≡ record {
+      root = old.root;
+      image_root = old.image_root;
+      keys = old.keys;
+      image_version = version;
+      targets_version = version;
+      stamp = at;
+    } }
 {
     Founding {
         root: old.root,
+        image_root: old.image_root,
         keys: old.keys,
         image_version: version,
+        targets_version: version,
         stamp: at,
     }
 }

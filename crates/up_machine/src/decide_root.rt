@@ -7,6 +7,7 @@ ghost use Rattle.up_metadata.specs.Keys.{check_keys as check_keys_in, hashed_key
 ghost use Rattle.up_metadata.specs.declared.keys.KeySet.{KeySet as KeySetData};
 ghost use Rattle.up_machine.specs.RowsFit.{founding_fits};
 ghost use Rattle.up_machine.specs.Due.{CanMakeRoot};
+ghost use Rattle.up_machine.specs.Repositories.{are_roots_full as are_roots_full_of};
 ghost use Rattle.up_machine.specs.TwoSteps.{TellsFounding, TellsRotation, TellsFoundingOutright, TellsRotationOutright};
 
 use crate::decision::NextRoot;
@@ -20,7 +21,7 @@ use up_metadata::key_checks::check_keys;
 use up_metadata::keys::KeySet;
 use up_sign::scheme::Scheme;
 
-/// How many root versions there may be.
+/// How many root versions a repository may have.
 const MAX_ROOTS: u64 = 64;
 
 /// Decides on a founding, at a command's moment: `BadShape` where a key doesn't fit, a key stands twice in a role or a
@@ -55,6 +56,7 @@ fn first_root(hashed: HashedKeySet, is_founded: bool) -> Result<NextRoot, Refusa
     }
     Ok(NextRoot {
         number: 1,
+        image_number: 1,
         version: 1,
         hashed,
         before: None,
@@ -98,7 +100,7 @@ fn next_root(hashed: HashedKeySet, founding: Option<Founding>) -> Result<NextRoo
         drop(hashed);
         return Err(Refusal::NotFounded);
     };
-    if old.root >= MAX_ROOTS {
+    if are_roots_full(&old) {
         drop(old);
         drop(hashed);
         return Err(Refusal::RootFull);
@@ -110,8 +112,16 @@ fn next_root(hashed: HashedKeySet, founding: Option<Founding>) -> Result<NextRoo
     }
     Ok(NextRoot {
         number: old.root + 1,
+        image_number: old.image_root + 1,
         version: old.image_version + 1,
         hashed,
         before: Some(old.keys),
     })
+}
+
+/// Whether one of the repositories has as many root versions as it may have.
+fn are_roots_full(founding: &Founding) -> bool
+    ensures { result ≡ are_roots_full_of founding.now.root founding.now.image_root }
+{
+    founding.root >= MAX_ROOTS || founding.image_root >= MAX_ROOTS
 }

@@ -6,11 +6,12 @@ use up_metadata::hashed_keys::HashedKeySet;
 use up_metadata::keys::KeySet;
 use up_metadata::role_files::RoleTexts;
 
-/// A root version that is due: its number, the image repository's version with it, its keys, hashed, and the keys
-/// of the version before, none at a founding.
+/// A root version that is due: its number in the Director's repository and in the image repository, that one's version with
+/// it, its keys, hashed, and the keys of the version before, none at a founding.
 #[derive(Drop)]
 pub struct NextRoot {
     pub number: u64,
+    pub image_number: u64,
     pub version: u64,
     pub hashed: HashedKeySet,
     pub before: Option<KeySet>,

@@ -50,6 +50,7 @@ pub fn root_rows<K: Scheme>(
         alloc,
         scheme,
         new.number,
+        new.image_number,
         keys,
         &new.hashed,
         at,
@@ -59,12 +60,13 @@ pub fn root_rows<K: Scheme>(
     )
 }
 
-/// The same of this number, with keys that are hashed already, these keys before and this version of the image repository.
+/// The same of these numbers, with keys that are hashed already, these keys before and this version of the image repository.
 #[tactic(auto, using(crate::proofs::NewFiles::both_fit, crate::proofs::NewFiles::no_ecus))]
 fn rows_of_root<K: Scheme>(
     alloc: Global,
     scheme: &K,
     number: u64,
+    image_number: u64,
     keys: &KeySet,
     hashed: &HashedKeySet,
     at: Moment,
@@ -76,13 +78,21 @@ fn rows_of_root<K: Scheme>(
     requires hashed { hashed.now ≡ hashed_key_set (K.rules scheme.now) keys.now }
     requires before { MatchOption before ⊤ (λ b. IsTrue (all_can_sign (K.rules scheme.now) b.now)) }
     requires number { IsTrue (version_fits number) }
+    requires image_number { IsTrue (version_fits image_number) }
     requires version { IsTrue (version_fits version) }
     requires moment { at ≤ last_command_moment }
     ensures { IfOk result (λ rows. rows ≡ record {
-      founding = record { root = number; keys = keys.now; image_version = version; stamp = at };
+      founding = record {
+        root = number;
+        image_root = image_number;
+        keys = keys.now;
+        image_version = version;
+        targets_version = version;
+        stamp = at;
+      };
       director = root_text_of (K.rules scheme.now) Director number (record { keys = keys.now; at = at })
           (option_copied before.entry);
-      image = root_text_of (K.rules scheme.now) ImageRepository number (record { keys = keys.now; at = at })
+      image = root_text_of (K.rules scheme.now) ImageRepository image_number (record { keys = keys.now; at = at })
           (option_copied before.entry);
       files = role_texts_of (K.rules scheme.now)
           (metadata_set ImageRepository keys.now None version at (map (target_of None) images.now));
@@ -103,7 +113,7 @@ fn rows_of_root<K: Scheme>(
         alloc,
         scheme,
         Repository::Image,
-        number,
+        image_number,
         keys,
         &hashed.image,
         at,
@@ -121,27 +131,37 @@ fn rows_of_root<K: Scheme>(
         targets,
     )?;
     Ok(RootRows {
-        founding: founding_with(alloc, number, keys, version, at)?,
+        founding: founding_with(alloc, number, image_number, keys, version, at)?,
         director,
         image,
         files,
     })
 }
 
+/// The founding's row with files that are all made with this version.
 fn founding_with(
     alloc: Global,
     root: u64,
+    image_root: u64,
     keys: &KeySet,
-    image_version: u64,
+    version: u64,
     stamp: Moment,
 ) -> Result<Founding, AllocError>
-    ensures { IfOk result
-        (λ founding. founding ≡ record { root = root; keys = keys.now; image_version = image_version; stamp = stamp }) }
+    ensures { IfOk result (λ founding. founding ≡ record {
+      root = root;
+      image_root = image_root;
+      keys = keys.now;
+      image_version = version;
+      targets_version = version;
+      stamp = stamp;
+    }) }
 {
     Ok(Founding {
         root,
+        image_root,
         keys: keys.copy(alloc)?,
-        image_version,
+        image_version: version,
+        targets_version: version,
         stamp,
     })
 }

@@ -11,13 +11,15 @@ use up_manifest::report::Installed;
 use up_metadata::keys::KeySet;
 use up_plan::assigned::Plan;
 
-/// The founded repositories: the last root version and its keys, the image repository's version, and the moment of the command
-/// that made the image repository's files.
+/// The founded repositories: the Director's last root version and the image repository's, the keys of both, the versions of the
+/// image repository's Snapshot and Timestamp and of its Targets, and the moment of the command that made these files.
 #[derive(Drop)]
 pub struct Founding {
     pub root: u64,
+    pub image_root: u64,
     pub keys: KeySet,
     pub image_version: u64,
+    pub targets_version: u64,
     pub stamp: Moment,
 }
 
@@ -25,8 +27,10 @@ impl Duplicate for Founding {
     fn copy(&self, alloc: Global) -> Result<Founding, AllocError> {
         Ok(Founding {
             root: self.root,
+            image_root: self.image_root,
             keys: self.keys.copy(alloc)?,
             image_version: self.image_version,
+            targets_version: self.targets_version,
             stamp: self.stamp,
         })
     }

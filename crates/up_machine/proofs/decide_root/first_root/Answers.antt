@@ -1,6 +1,6 @@
 use Rattle.std.proofs.Common.{◌≡◌, None, length, refl, sym, ap, ◌∙◌, arith}
 use Rattle.std.specs.Prelude.{option_map}
-use Rattle.up_machine.specs.State.{Chain, root_number, key_set}
+use Rattle.up_machine.specs.State.{Chain, root_number, image_root_number, key_set}
 use Rattle.up_machine.specs.Rows.{founding_row}
 use Rattle.up_machine.proofs.Decided.{keys_passed}
 use Rattle.up_machine.proofs.Keeping.{there}
@@ -17,8 +17,9 @@ pub returns-clause-decided : goal.returns-clause-decided
 returns-clause-decided c = λ k at keys moment good s sound founded.
     let none = unfounded s (sym (none_there (founding_row s) (sym founded ∙ c.if-is_founded.false))) in
     let first : root_number s ≡ 0 = ap (λ (chain : Chain). length chain.texts) (sound.repositories.unfounded none).director_is in
-    (found_done k s at keys moment good none, root_is_due k s at keys 1 1 c.args.hashed None (omega (arith, first)) sound.repositories.same_number (sym (ap (option_map (λ files. key_set s)) none)))
+    let image_first : image_root_number s ≡ 0 = ap (λ (chain : Chain). length chain.texts) (sound.repositories.unfounded none).image_is in
+    (found_done k s at keys moment good none, root_is_due k s at keys 1 1 1 c.args.hashed None (omega (arith, first)) (omega (arith, image_first)) (sym (ap (option_map (λ files. key_set s)) none)))
 
 pub returns-clause-fits : goal.returns-clause-fits
 returns-clause-fits c = λ k at keys moment good hashed.
-    record { keys_fit = keys_passed k keys _ good; hashed = hashed; before = tt; number = refl; version = refl; moment = moment }
+    record { keys_fit = keys_passed k keys _ good; hashed = hashed; before = tt; number = refl; image_number = refl; version = refl; moment = moment }

@@ -19,7 +19,7 @@ root_text-requires-clause-before g c = both_sign_before (g.K.Scheme.rules c.args
 pub root_text-requires-2-clause-root : goal.root_text-requires-2-clause-root
 root_text-requires-2-clause-root g c = record {
   keys = (both_fit (g.K.Scheme.rules c.args.scheme.now) c.args.keys.now c.requires.keys).1;
-  number = c.requires.number;
+  number = c.requires.image_number;
   moment = c.requires.moment;
 }
 
