@@ -1,5 +1,5 @@
 -- The rows of a sound state tell the state, and the empty state has none.
-use Rattle.std.proofs.Common.{◌≡◌, ℕ, ◌+◌, List, [], ◌∷◌, Option, Some, None, map, refl, sym, ap, ◌∙◌}
+use Rattle.std.proofs.Common.{◌≡◌, ◌≤◌, ℕ, ◌+◌, List, [], ◌∷◌, Option, Some, None, map, refl, sym, ap, ◌∙◌, arith}
 use Rattle.std.specs.Prelude.{option_map, unwrap_or, is_some}
 use Rattle.std.specs.List.{enumerate_from}
 use Rattle.std.specs.FinMap as table
@@ -59,6 +59,9 @@ founded_part : {A : Type 0} (s : State) (f : Founding → A) (value none : A) (o
 founded_part s f value none None some before = sym (before refl)
 founded_part s f value none (Some files) some before = some
 
+at_most_zero : (a b : ℕ) → a ≤ b → b ≡ 0 → a ≡ 0
+at_most_zero a b most none = omega (arith, most, none)
+
 -- ---- the state
 
 pub told : RowsTellTheState
@@ -70,10 +73,12 @@ told k s sound =
     ap {B = Chain} (λ keys. record { texts = s.image.texts; keys = keys }) (founded_part s (λ (row : Founding). row.keys.image) s.image.keys no_keys s.files refl (λ none. ap (λ (c : Chain). c.keys) (unfounded none).image_is)) in
     let image_version : unwrap_or (option_map (λ (row : Founding). row.image_version) (founding_row s)) 0 ≡ s.image_version =
     founded_part s (λ (row : Founding). row.image_version) s.image_version 0 s.files refl (λ none. (unfounded none).version) in
+    let targets_version : unwrap_or (option_map (λ (row : Founding). row.targets_version) (founding_row s)) 0 ≡ s.targets_version =
+    founded_part s (λ (row : Founding). row.targets_version) s.targets_version 0 s.files refl (λ none. at_most_zero s.targets_version s.image_version sound.repositories.targets_limit (unfounded none).version) in
     let stamp : unwrap_or (option_map (λ (row : Founding). row.stamp) (founding_row s)) 0 ≡ s.stamp =
     founded_part s (λ (row : Founding). row.stamp) s.stamp 0 s.files refl (λ none. (unfounded none).moment) in
     let vehicles = vehicles_back s in
-    λ i. record { director = director i; image = image i; files = s.files; images = s.images; image_version = image_version i; stamp = stamp i; campaigns = s.campaigns; vehicles = vehicles i }
+    λ i. record { director = director i; image = image i; files = s.files; images = s.images; image_version = image_version i; targets_version = targets_version i; stamp = stamp i; campaigns = s.campaigns; vehicles = vehicles i }
 
 -- ---- nothing is founded
 

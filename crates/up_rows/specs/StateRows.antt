@@ -81,6 +81,7 @@ state_of_rows rows = record {
   files = rows.files;
   images = rows.images;
   image_version = unwrap_or (option_map (λ row. row.image_version) rows.founding) 0;
+  targets_version = unwrap_or (option_map (λ row. row.targets_version) rows.founding) 0;
   stamp = unwrap_or (option_map (λ row. row.stamp) rows.founding) 0;
   campaigns = rows.campaigns;
   vehicles = each_value (vehicle_of_rows rows.kept rows.retired) rows.vehicles;

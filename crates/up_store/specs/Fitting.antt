@@ -17,17 +17,18 @@ use Rattle.up_rows.specs.SecondHashes.{TellsItsHash}
 use Rattle.up_rows.specs.StateRows.{StateRows, ecu_of}
 use Rattle.up_store.specs.Typed.{EachHasKeys}
 
--- the root version is the next one, and each of its roles has a key
+-- the root version of each repository is the next one, and each of its roles has a key
 pub record IsNextRoot (new : RootRows) (rows : StateRows) : Type 0 where
   pub director : new.founding.root ≡ length rows.director + 1
-  pub image : new.founding.root ≡ length rows.image + 1
+  pub image : new.founding.image_root ≡ length rows.image + 1
   pub keys : EachHasKeys new.founding.keys
 
--- of the same root version as the one before, and of the same keys
+-- of the same root versions as the one before, and of the same keys
 pub record IsOfSameRoot (new : Founding) (founding : Option Founding) : Type 0 where
   pub before : Founding
   pub there : founding ≡ Some before
   pub root : new.root ≡ before.root
+  pub image_root : new.image_root ≡ before.image_root
   pub keys : new.keys ≡ before.keys
 
 -- the root version is the last one still

@@ -54,10 +54,10 @@ repository_lines root repository keys =
     role_lines root repository (codes "root") keys.root ++ role_lines root repository (codes "targets") keys.targets
     ++ role_lines root repository (codes "snapshot") keys.snapshot ++ role_lines root repository (codes "timestamp") keys.timestamp
 
--- of the last root version, the director's first; none before founding
+-- of the last root version of each repository, the director's first; none before founding
 abbrev pub founding_lines : Option Founding → List Row
 founding_lines None = []
-founding_lines (Some f) = repository_lines f.root Director f.keys.director ++ repository_lines f.root Image f.keys.image
+founding_lines (Some f) = repository_lines f.root Director f.keys.director ++ repository_lines f.image_root Image f.keys.image
 
 -- ---- repo_file: a file that is served
 
@@ -80,7 +80,7 @@ set_lines (f ∷ fs) rows_of = set_lines fs (with_only_at f.repository f.name (f
 abbrev pub root_file_lines : RootRows → List ServedFile
 root_file_lines new =
     file_line Director (numbered_root_name new.founding.root) new.director ∷ file_line Director (codes "root.json") new.director
-    ∷ file_line Image (numbered_root_name new.founding.root) new.image ∷ file_line Image (codes "root.json") new.image ∷ []
+    ∷ file_line Image (numbered_root_name new.founding.image_root) new.image ∷ file_line Image (codes "root.json") new.image ∷ []
 
 -- the image repository's files that are made together
 abbrev pub role_file_lines : RoleTexts → List ServedFile

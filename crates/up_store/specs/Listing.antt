@@ -17,10 +17,10 @@ use Rattle.up_store.specs.Lines.{founding_number, repository_word, founding_line
 use Rattle.up_store.specs.Lines.{vehicle_lines, ecus_lines, kept_line, retired_lines, second_hash, sha512_lines}
 use Rattle.up_store.specs.Typed.{AreTyped}
 
--- the founding is of the last root version, of both repositories; before it there is none
+-- the founding is of the last root version of each repository; before it there is none
 abbrev pub IsOfLastRoot : Option Founding → List (List ℕ) → List (List ℕ) → Type 0
 IsOfLastRoot None director image = (director ≡ []) × (image ≡ [])
-IsOfLastRoot (Some f) director image = (0 < f.root) × (f.root ≡ length director) × (f.root ≡ length image)
+IsOfLastRoot (Some f) director image = (0 < f.root) × (f.root ≡ length director) × (0 < f.image_root) × (f.image_root ≡ length image)
 
 -- the text of a repository's file, if that is served
 abbrev pub files_lines : StateRows → List ℕ → Name → List Row

@@ -56,14 +56,16 @@ pub record AreTypedKeys (keys : RepoKeys) : Type 0 where
 
 -- ---- the founding, root versions, files
 
--- its versions are numbers that a column holds
+-- its numbers are such as a column holds
 pub record IsTypedFounding (founding : Founding) : Type 0 where
   pub director : AreTypedKeys founding.keys.director
   pub image : AreTypedKeys founding.keys.image
   pub keys : EachHasKeys founding.keys
   pub stamp : founding.stamp ≤ last_moment
   pub root : founding.root < 2 ^ 63
+  pub image_root : founding.image_root < 2 ^ 63
   pub image_version : founding.image_version < 2 ^ 63
+  pub targets_version : founding.targets_version < 2 ^ 63
 
 pub record AreTypedTexts (texts : RoleTexts) : Type 0 where
   pub targets : IsUtf8 texts.targets
