@@ -26,10 +26,10 @@ use Rattle.up_machine.specs.declared.command.Command.{Command}
 use Rattle.up_machine.specs.declared.command.Command.TheVariants.{Found, Rotate, AddImage, Refresh, AddVehicle, ReplaceEcu, OpenCampaign, CloseCampaign, Deliver, Fetch}
 use Rattle.up_machine.specs.declared.answer.Answer.TheVariants.{Refused}
 use Rattle.up_machine.specs.Vehicles.{NewVehicleData, has_ecu, ecu_names}
-use Rattle.up_machine.specs.State.{Vehicle, State, is_founded, root_number, added, is_taken_in, is_taken}
+use Rattle.up_machine.specs.State.{Vehicle, State, is_founded, root_number, image_root_number, added, is_taken_in, is_taken}
 use Rattle.up_machine.specs.Files.{files, file}
 use Rattle.up_machine.specs.Deciding.{Outcome, done, already, where_new, check_moment, check_founded, check_version}
-use Rattle.up_machine.specs.Repositories.{same_image, decide_found, decide_rotate, decide_new_image, decide_image, decide_refresh, decide_fetch}
+use Rattle.up_machine.specs.Repositories.{same_image, are_roots_full, decide_found, decide_rotate, decide_new_image, decide_image, decide_refresh, decide_fetch}
 use Rattle.up_machine.specs.Inventory.{same_vehicle, same_campaign, reach_is_known, has_its_image, has_its_hardware, closed, with_campaign, decide_new_vehicle, decide_vehicle, with_replaced, decide_replacement, decide_replace, decide_new_campaign, decide_open, decide_close}
 use Rattle.up_machine.specs.Deliveries.{receive, receive_manifest}
 use Rattle.up_machine.specs.Machine.{decide, outcome_of, step}
@@ -118,7 +118,7 @@ rotate_alike : (k : Rules) (s : State) (vehicles : Table Vehicle) (at : ℕ) (ke
 unfolding decide_rotate
 rotate_alike k s vehicles at keys name h =
     bind_alike name (check_moment at) _ _ (λ a. bind_alike name (check_keys k keys) _ _ (λ b. bind_alike name (check_founded s) _ _ (λ c.
-    bind_alike name (refuse_if (nat_le 64 (root_number s)) RootFull) _ _ (λ d. bind_alike name (check_version s) _ _ (λ e.
+    bind_alike name (refuse_if (are_roots_full (root_number s) (image_root_number s)) RootFull) _ _ (λ d. bind_alike name (check_version s) _ _ (λ e.
     (refl, record { vehicles = vehicles; rest = refl; alike = h }))))))
 
 image_alike : (k : Rules) (s : State) (vehicles : Table Vehicle) (at : ℕ) (image : ImageData) (name : Name) → AlikeTables name s.vehicles vehicles
