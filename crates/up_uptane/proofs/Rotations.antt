@@ -112,15 +112,16 @@ before_out roots repository n i secret left high None there = refl
 before_out roots repository n i secret left high (Some root) there = (out_at roots repository n i secret root left high there).root
 
 -- of both repositories as many
-same_size : (k : Rules) (s : State) (repository : Repository) → IsSound k s → length (chain_of repository s).texts ≡ root_number s
-same_size k s Director sound = refl
-same_size k s Image sound = sound.repositories.same_number
+same_size : (k : Rules) (s : State) (roots : List Root) (repository : Repository) → IsMade k s roots → length (chain_of repository s).texts ≡ root_number s
+same_size k s roots repository made = chain_size k s roots repository made ∙ sym (chain_size k s roots Director made)
 
 abbrev Else : Rules → State → Repository → List ℕ → List ℕ → List ℕ → Type 0
 Else k s repository next secret bytes = IsPublished s repository bytes ⊎ ((bytes ≡ next) ⊎ IsSealedWithout k secret bytes)
 
 -- a later state, whose root versions are these, behind one that was there
 record Behind (k : Rules) (s t : State) (roots : List Root) : Type 0 where
+  earlier : List Root
+  made_before : IsMade k s earlier
   sound : IsSound k s
   sound_later : IsSound k t
   later : IsLater s t
@@ -151,7 +152,7 @@ root_else k s t roots repository next secret bytes fetched behind published left
     by_number : (a : Bool) → nat_le of.0 (root_number s) ≡ a → (b : Bool) → nat_le of.0 (root_number s + 1) ≡ b → Else k s repository next secret bytes
     by_number true h b g =
         let high : of.0 ≤ root_number s = leb-true _ _ h in
-        let size = same_size k s repository behind.sound in
+        let size = same_size k s behind.earlier repository behind.made_before in
         let grown = chain_later s t repository behind.later in
         let there : nth (chain_of repository s).texts of.0 ≡ Some bytes =
         sym (ap (λ (texts : List (List ℕ)). nth texts of.0) grown.1 ∙ nth-append (chain_of repository s).texts grown.0 of.0 (omega (arith, high, size))) ∙ of.1 in
@@ -211,13 +212,13 @@ held s None h = cc
 held s (Some files) h = refl
 
 -- the text that a rotation adds
-next_text : (k : Rules) (s t : State) (at : ℕ) (keys : KeySet) (repository : Repository) → IsSound k s → IsLater (stamped k (with_root k s at keys) at (s.image_version + 1)) t
+next_text : (k : Rules) (s t : State) (earlier : List Root) (at : ℕ) (keys : KeySet) (repository : Repository) → IsMade k s earlier → IsLater (stamped k (with_root k s at keys) at (s.image_version + 1)) t
     → nth (chain_of repository t).texts (root_number s + 1) ≡ Some (root_text k repository (length (chain_of repository s).texts + 1) (record { keys = keys; at = at }) (keys_before s))
-next_text k s t at keys repository sound later =
+next_text k s t earlier at keys repository made later =
     let after = stamped k (with_root k s at keys) at (s.image_version + 1) in
     let texts = (chain_of repository s).texts in
     let next = root_text k repository (length texts + 1) (record { keys = keys; at = at }) (keys_before s) in
-    let size = same_size k s repository sound in
+    let size = same_size k s earlier repository made in
     let both = length-append texts (next ∷ []) in
     let number : root_number s + 1 ≡ length (texts ++ next ∷ []) = omega (arith, size, both) in
     let last : nth (texts ++ next ∷ []) (root_number s + 1) ≡ Some next = ap (nth (texts ++ next ∷ [])) number ∙ nth_last texts next in
@@ -231,9 +232,9 @@ rotated k s t roots at keys o repository known fetched behind is later =
     let follows = subst (λ (x : State). IsLater x t) (ap (λ (o : Outcome). o.next) (sym is.is)) later in
     let new : Root = record { keys = keys; at = at } in
     let number = length (chain_of repository s).texts + 1 in
-    let there = next_text k s t at keys repository behind.sound follows in
+    let there = next_text k s t behind.earlier at keys repository behind.made_before follows in
     let high = number_within (chain_of repository t).texts (root_number s + 1) (root_text k repository number new (keys_before s)) there in
-    let size = same_size k t repository behind.sound_later in
+    let size = same_size k t roots repository behind.made in
     record {
       next = root_text k repository number new (keys_before s);
       published = fetched k t repository (root_number s + 1) (root_text k repository number new (keys_before s)) behind.sound_later there;
@@ -250,17 +251,17 @@ left_out empty none_made stay make known fetched k ts us at keys repository give
     let item : Timed = record { at = at; command = Rotate keys } in
     let all : AreCommands (ts ++ item ∷ us) = each_of_both (λ (t : Timed). IsTrue (is_command t.command)) ts (item ∷ us) given (refl, more) in
     let made = subst (λ (t : State). IsMade k t (roots_of k empty_state (ts ++ item ∷ us))) (run-append k empty_state ts (item ∷ us)) (make k empty_state (ts ++ item ∷ us) [] all (empty k) (none_made k)) in
-    by_decision s (roots_of k empty_state (ts ++ item ∷ us)) (stay k empty_state ts given (empty k)) (decide k s at (Rotate keys)) refl made done
+    by_decision s (roots_of k empty_state ts) (roots_of k empty_state (ts ++ item ∷ us)) (make k empty_state ts [] given (empty k) (none_made k)) (stay k empty_state ts given (empty k)) (decide k s at (Rotate keys)) refl made done
   where
-    by_decision : (s : State) (roots : List Root) → IsSound k s → (d : Result Outcome Refusal) → decide k s at (Rotate keys) ≡ d → IsMade k (run k (outcome_of s d).next us) roots → (outcome_of s d).answer ≡ Done
+    by_decision : (s : State) (earlier roots : List Root) → IsMade k s earlier → IsSound k s → (d : Result Outcome Refusal) → decide k s at (Rotate keys) ≡ d → IsMade k (run k (outcome_of s d).next us) roots → (outcome_of s d).answer ≡ Done
         → IsRotated k s (run k (outcome_of s d).next us) roots repository keys
-    by_decision s roots sound (Err e) h made done = cc
-    by_decision s roots sound (Ok o) h made done =
+    by_decision s earlier roots before sound (Err e) h made done = cc
+    by_decision s earlier roots before sound (Ok o) h made done =
         let next_sound : IsSound k o.next = subst (λ (d : Result Outcome Refusal). IsSound k (outcome_of s d).next) h (stay k s (record { at = at; command = Rotate keys } ∷ []) (refl, tt) sound) in
         let first : IsLater s o.next = subst (λ (d : Result Outcome Refusal). IsLater s (outcome_of s d).next) h (grow k s at (Rotate keys)) in
         let further : IsLater o.next (run k o.next us) = grow_on k o.next us in
         rotated k s (run k o.next us) roots at keys o repository known fetched
-        (record { sound = sound; sound_later = stay k o.next us more next_sound; later = onward s o.next (run k o.next us) first further; made = made }) (rotate_ok k s at keys o h) further
+        (record { earlier = earlier; made_before = before; sound = sound; sound_later = stay k o.next us more next_sound; later = onward s o.next (run k o.next us) first further; made = made }) (rotate_ok k s at keys o h) further
 
 -- ---- a new reply
 
