@@ -26,7 +26,7 @@ use Rattle.up_machine.specs.declared.rows.VehicleRows.{VehicleRows}
 use Rattle.up_machine.specs.declared.vehicle.Replacement.{Replacement}
 use Rattle.up_machine.specs.declared.vehicle.NewEcu.{NewEcu}
 use Rattle.up_machine.specs.Vehicles.{NewVehicleData, has_ecu, new_vehicle_fault}
-use Rattle.up_machine.specs.State.{Chain, Entry, Vehicle, State, is_founded, root_number, key_set, added, version}
+use Rattle.up_machine.specs.State.{Chain, Entry, Vehicle, State, is_founded, root_number, image_root_number, key_set, added, version}
 use Rattle.up_machine.specs.Sound.{IsGrounded, IsSound}
 use Rattle.up_machine.specs.Deciding.{Outcome, done}
 use Rattle.up_machine.specs.Decisions.{IsDone, HasRootRows, HasRegisterRows, HasAcceptedRows}
@@ -86,7 +86,7 @@ opening_fits k s at row written new it = record {
 
 -- what is told of the founding where there is one
 abbrev founding_told : State → Founding
-founding_told s = record { root = root_number s; keys = key_set s; image_version = s.image_version; stamp = s.stamp }
+founding_told s = record { root = root_number s; image_root = image_root_number s; keys = key_set s; image_version = s.image_version; targets_version = s.targets_version; stamp = s.stamp }
 
 pair : Chain → Chain → KeySet
 pair director image = record { director = director.keys; image = image.keys }
@@ -101,6 +101,7 @@ same_root s next new founded director image h =
       before = founding_told s;
       there = ap (option_map (λ (files : RoleTexts). founding_told s)) files.1;
       root = sym (ap (λ (f : Founding). f.root) same) ∙ ap (λ (c : Chain). length c.texts) director;
+      image_root = sym (ap (λ (f : Founding). f.image_root) same) ∙ ap (λ (c : Chain). length c.texts) image;
       keys = sym (ap (λ (f : Founding). f.keys) same) ∙ ap₂ (λ (d i : Chain). pair d i) director image;
     }
 
@@ -113,7 +114,7 @@ founding_numbers k next f sound h = by_files next.files h
     by_files None h = cc
     by_files (Some files) h =
         let same : founding_told next ≡ f = same_Some (founding_told next) f h in
-        subst FitsFounding same (record { root = omega (arith, sound.repositories.root_limit); image_version = omega (arith, sound.repositories.version_limit) })
+        subst FitsFounding same (record { root = omega (arith, sound.repositories.director_limit); image_version = omega (arith, sound.repositories.version_limit) })
 
 ecu_count : (v : Vehicle) (ecus : List NewEcu) → length (map (ecu_row v) ecus) ≡ length ecus
 ecu_count v [] = refl
@@ -195,11 +196,9 @@ next_root : (k : Rules) (s : State) (at version : ℕ) (keys : KeySet) (new : Ro
 next_root k s at version keys new sound fits has =
     let next = stamped k (with_root k s at keys) at version in
     let same : founding_told next ≡ new.founding = same_Some (founding_told next) new.founding has.founding in
-    let number : new.founding.root ≡ length s.director.texts + 1 = sym (ap (λ (f : Founding). f.root) same) ∙ length-append s.director.texts _ in
-    let both = sound.repositories.same_number in
     record {
-      director = number;
-      image = omega (arith, number, both);
+      director = sym (ap (λ (f : Founding). f.root) same) ∙ length-append s.director.texts _;
+      image = sym (ap (λ (f : Founding). f.image_root) same) ∙ length-append s.image.texts _;
       keys = subst EachHasKeys (ap (λ (f : Founding). f.keys) same) (each_has_keys k keys fits);
     }
 
