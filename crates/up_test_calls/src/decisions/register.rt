@@ -99,10 +99,12 @@ pub(crate) fn put_vehicle(
     vehicles.insert(name, rows)
 }
 
-/// Sets the founding's root version and the image repository's version.
+/// Sets the founding's root versions and the image repository's versions.
 pub(crate) fn set_versions(founding: &mut Option<Founding>, root: u64, image_version: u64) {
     if let Some(row) = founding {
         row.root = root;
+        row.image_root = root;
         row.image_version = image_version;
+        row.targets_version = image_version;
     }
 }

@@ -87,7 +87,9 @@ fn role_texts(alloc: Global, given: &str) -> Result<RoleTexts, AllocError> {
 fn founding(alloc: Global, given: &str) -> Result<Founding, Fault> {
     Ok(Founding {
         root: number(word(given, 0))?,
+        image_root: number(word(given, 0))?,
         image_version: number(word(given, 1))?,
+        targets_version: number(word(given, 1))?,
         stamp: moment(word(given, 2))?,
         keys: key_set(alloc, given)?,
     })
