@@ -47,6 +47,7 @@ empty_made k = record {
   director = refl;
   image = refl;
   keys = refl;
+  targets = refl;
   files = λ files h. cc;
   replies = λ vehicle v number e h i. let none = get-empty {X = Vehicle} (slice_cmp nat_cmp) vehicle in cc;
 }
@@ -95,6 +96,7 @@ record StaysMade (k : Rules) (s next : State) (roots : List Root) : Type 0 where
   director : next.director ≡ s.director
   image : next.image ≡ s.image
   founded : is_some next.files ≡ is_some s.files
+  targets : next.targets_version ≡ next.image_version
   files : (files : RoleTexts) → next.files ≡ Some files → files ≡ role_texts k (image_metadata next)
   replies : (vehicle : Name) (v : Vehicle) → table.get next.vehicles vehicle ≡ Some v → RepliesAre k next (roots ++ []) vehicle v
 
@@ -114,6 +116,7 @@ made_still k s next roots made stays = with_roots (roots ++ []) (append-nil root
       director = ap (λ (c : Chain). c.texts) stays.director ∙ made.director ∙ ap (root_texts k Director 1 None) (sym same);
       image = ap (λ (c : Chain). c.texts) stays.image ∙ made.image ∙ ap (root_texts k Image 1 None) (sym same);
       keys = same_keys s next next.files s.files stays.director stays.image stays.founded ∙ made.keys ∙ ap (λ (xs : List Root). keys_at xs (length xs)) (sym same);
+      targets = stays.targets;
       files = stays.files;
       replies = λ vehicle v number e found h. replies vehicle v found number e h;
     }
@@ -138,6 +141,7 @@ one_more_made k s roots at version keys sound made fits moment later =
       director = texts_grow k Director s roots at keys made.director made.keys;
       image = texts_grow k Image s roots at keys made.image made.keys;
       keys = sym (ap (option_map (λ (r : Root). r.keys)) (nth_last roots root));
+      targets = refl;
       files = λ files h. sym (same_Some (role_texts k (image_metadata next)) files h);
       replies = λ vehicle v number e found h. replies_of_old k s next roots (root ∷ []) sound made later vehicle v found number e h;
     }
@@ -180,11 +184,12 @@ Leaves k at c roots o = IsMade k o.next (roots ++ new_roots at c o.answer)
 
 -- where nothing of what is published changes
 bystander : (k : Rules) (s next : State) (roots : List Root) → IsSound k s → IsMade k s roots → next.director ≡ s.director → next.image ≡ s.image → next.files ≡ s.files
-    → image_metadata next ≡ image_metadata s → ((vehicle : Name) (v : Vehicle) → table.get next.vehicles vehicle ≡ Some v → RepliesAre k next (roots ++ []) vehicle v) → IsMade k next (roots ++ [])
-bystander k s next roots sound made director image files same replies = made_still k s next roots made (record {
+    → next.targets_version ≡ s.targets_version → next.image_version ≡ s.image_version → image_metadata next ≡ image_metadata s → ((vehicle : Name) (v : Vehicle) → table.get next.vehicles vehicle ≡ Some v → RepliesAre k next (roots ++ []) vehicle v) → IsMade k next (roots ++ [])
+bystander k s next roots sound made director image files targets version same replies = made_still k s next roots made (record {
   director = director;
   image = image;
   founded = ap is_some files;
+  targets = targets ∙ made.targets ∙ sym version;
   files = λ texts h. made.files texts (sym files ∙ h) ∙ ap (role_texts k) (sym same);
   replies = replies;
 })
@@ -196,6 +201,7 @@ restamped k s next roots at version sound made founded later director image vehi
   director = director;
   image = image;
   founded = sym founded;
+  targets = refl;
   files = λ texts h. sym (same_Some (role_texts k (image_metadata (stamped k next at version))) texts h);
   replies = λ vehicle v found. replies_of_old k s (stamped k next at version) roots [] sound made later vehicle v (ap (λ (t : Table Vehicle). table.get t vehicle) (sym vehicles) ∙ found);
 })
@@ -216,26 +222,26 @@ acted k s at (Refresh version) roots o sound made h later =
     subst (λ (o : Outcome). IsLater s o.next → Leaves k at (Refresh version) roots o) is.is (λ later. restamped k s s roots at version sound made is.founded later refl refl refl) later
 acted k s at (AddVehicle new) roots o sound made h later = elim (vehicle_ok k s at new o h) [
   | inl same ↦ subst (Leaves k at (AddVehicle new) roots) same (unchanged k s roots made)
-  | inr is ↦ subst (λ (o : Outcome). IsLater s o.next → Leaves k at (AddVehicle new) roots o) is.is (λ later. bystander k s _ roots sound made refl refl refl refl (λ vehicle v found.
+  | inr is ↦ subst (λ (o : Outcome). IsLater s o.next → Leaves k at (AddVehicle new) roots o) is.is (λ later. bystander k s _ roots sound made refl refl refl refl refl refl (λ vehicle v found.
       get_after-insert (RepliesAre k _ (roots ++ [])) s.vehicles new.vehicle vehicle v _ found (λ number e h. absurd (nth_none number e h)) (λ old. replies_of_old k s _ roots [] sound made later vehicle v old))) later
 ]
 acted k s at (ReplaceEcu r) roots o sound made h later =
     let is = replace_ok k s at r o h in
-    subst (λ (o : Outcome). IsLater s o.next → Leaves k at (ReplaceEcu r) roots o) is.is (λ later. bystander k s _ roots sound made refl refl refl refl (λ vehicle v found.
+    subst (λ (o : Outcome). IsLater s o.next → Leaves k at (ReplaceEcu r) roots o) is.is (λ later. bystander k s _ roots sound made refl refl refl refl refl refl (λ vehicle v found.
     get_after-insert (RepliesAre k _ (roots ++ [])) s.vehicles r.vehicle vehicle v _ found (replies_of_old k s _ roots [] sound made later r.vehicle is.vehicle is.there) (λ old. replies_of_old k s _ roots [] sound made later vehicle v old))) later
 acted k s at (OpenCampaign campaign) roots o sound made h later = elim (open_ok s at campaign o h) [
   | inl same ↦ subst (Leaves k at (OpenCampaign campaign) roots) same (unchanged k s roots made)
-  | inr is ↦ subst (λ (o : Outcome). IsLater s o.next → Leaves k at (OpenCampaign campaign) roots o) is.is (λ later. bystander k s _ roots sound made refl refl refl refl (λ vehicle v found. replies_of_old k s _ roots [] sound made later vehicle v found)) later
+  | inr is ↦ subst (λ (o : Outcome). IsLater s o.next → Leaves k at (OpenCampaign campaign) roots o) is.is (λ later. bystander k s _ roots sound made refl refl refl refl refl refl (λ vehicle v found. replies_of_old k s _ roots [] sound made later vehicle v found)) later
 ]
 acted k s at (CloseCampaign name) roots o sound made h later = elim (close_ok s at name o h) [
   | inl same ↦ subst (Leaves k at (CloseCampaign name) roots) same (unchanged k s roots made)
-  | inr is ↦ subst (λ (o : Outcome). IsLater s o.next → Leaves k at (CloseCampaign name) roots o) is.is (λ later. bystander k s _ roots sound made refl refl refl refl (λ vehicle v found. replies_of_old k s _ roots [] sound made later vehicle v found)) later
+  | inr is ↦ subst (λ (o : Outcome). IsLater s o.next → Leaves k at (CloseCampaign name) roots o) is.is (λ later. bystander k s _ roots sound made refl refl refl refl refl refl (λ vehicle v found. replies_of_old k s _ roots [] sound made later vehicle v found)) later
 ]
 acted k s at (Deliver body) roots o sound made h later =
     let is = delivery_ok k s at body o h in
     let r = is.received in
     let there = received k s at body r is.receives in
-    subst (λ (o : Outcome). IsLater s o.next → Leaves k at (Deliver body) roots o) is.is (λ later. bystander k s _ roots sound made refl refl refl refl (λ vehicle v found.
+    subst (λ (o : Outcome). IsLater s o.next → Leaves k at (Deliver body) roots o) is.is (λ later. bystander k s _ roots sound made refl refl refl refl refl refl (λ vehicle v found.
     get_after-insert (RepliesAre k _ (roots ++ [])) s.vehicles r.incoming.manifest.vehicle vehicle v _ found (replies_of_new k s roots at r sound made there.founded there.vehicle later)
     (λ old. replies_of_old k s _ roots [] sound made later vehicle v old))) later
 acted k s at (Fetch repository name) roots o sound made h later = subst (Leaves k at (Fetch repository name) roots) (fetch_ok s at repository name o h).2 (unchanged k s roots made)

@@ -47,12 +47,13 @@ pub record IsReplyMade (k : Rules) (s : State) (roots : List Root) (vehicle : Na
   pub there : nth roots e.root ≡ Some root
   pub made : e.reply ≡ reply_json vehicle number e.root (role_texts k (reply_metadata s root.keys vehicle number e.at e.plan))
 
--- the Roots of these root versions, whose last keys are held, the image repository's files by these, and the replies
+-- the Roots of these root versions, whose last keys are held, the image repository's files by these, of one version, and the replies
 pub record IsMade (k : Rules) (s : State) (roots : List Root) : Type 0 where
   pub each_root : AllByRecursion (IsSoundRoot k) roots
   pub director : s.director.texts ≡ root_texts k Director 1 None roots
   pub image : s.image.texts ≡ root_texts k Image 1 None roots
   pub keys : keys_before s ≡ keys_at roots (length roots)
+  pub targets : s.targets_version ≡ s.image_version
   pub files : (files : RoleTexts) → s.files ≡ Some files → files ≡ role_texts k (image_metadata s)
   pub replies : (vehicle : Name) (v : Vehicle) (number : ℕ) (e : Entry) → table.get s.vehicles vehicle ≡ Some v → nth v.entries number ≡ Some e
       → IsReplyMade k s roots vehicle number e
