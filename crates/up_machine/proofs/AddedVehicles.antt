@@ -1,19 +1,31 @@
 -- What the rows of a vehicle say of it where a vehicle is added.
-use Rattle.std.proofs.Common.{◌≡◌, List, [], ◌∷◌, Bool, true, false, cond, Option, Some, None, Result, Ok, Err, refl, ap, ◌∙◌}
-use Rattle.std.specs.Prelude.{◌&&◌, map, find, option_map, bytes_eq}
-use Rattle.std.specs.List.{zip}
+use Rattle.std.proofs.Common.{◌≡◌, ℕ, ◌≤◌, List, [], ◌∷◌, Bool, true, false, cond, Option, Some, None, Result, Ok, Err, refl, ap, ◌∙◌}
+use Rattle.std.specs.Prelude.{◌&&◌, map, find, option_map, bytes_eq, codes}
+use Rattle.std.specs.List.{list_all, zip}
 use Rattle.std.specs.Cmp.Lexicographic.{pointwise}
 use Rattle.std.specs.FinMap as table
+use Rattle.up_canon.specs.Moments.{last_command_moment}
 use Rattle.up_canon.specs.Names.{Name}
+use Rattle.up_canon.specs.Steps.{and_then, unless}
 use Rattle.up_canon.specs.declared.refusal.Refusal.{Refusal}
-use Rattle.up_canon.specs.declared.refusal.Refusal.TheVariants.{VehicleTaken}
+use Rattle.up_canon.specs.declared.refusal.Refusal.TheVariants.{BadShape, VehicleTaken}
 use Rattle.up_machine.specs.declared.rows.VehicleRows.{VehicleRows}
 use Rattle.up_machine.specs.declared.vehicle.NewEcu.{NewEcu}
-use Rattle.up_machine.specs.Vehicles.{NewVehicleData, ecu_names, first_marked}
+use Rattle.up_machine.specs.Vehicles.{NewVehicleData, ecu_names, first_marked, public_fits}
 use Rattle.up_machine.specs.State.{Vehicle, State, added, last_report}
-use Rattle.up_machine.specs.Deciding.{Outcome, already, where_new}
-use Rattle.up_machine.specs.Inventory.{same_ecu, same_vehicle}
+use Rattle.up_machine.specs.Deciding.{Outcome, already, where_new, check_founded}
+use Rattle.up_machine.specs.Inventory.{same_ecu, same_vehicle, decide_new_vehicle, decide_vehicle}
+use Rattle.up_sign.specs.Schemes.{Rules}
+use Rattle.up_canon.proofs.Steps.{bind-ok}
+use Rattle.up_machine.proofs.Fetched.{in_time}
 use Rattle.up_machine.specs.Rows.{ecu_row, new_row, new_rows, rows_of, same_ecu_row, same_rows, vehicle_rows}
+
+-- ---- a vehicle whose public parts fit
+
+pub of_fitting : (k : Rules) (s : State) (at : ℕ) (new : NewVehicleData) → at ≤ last_command_moment → list_all (λ (e : NewEcu). public_fits k e.public) new.ecus ≡ true
+    → decide_vehicle k s at new ≡ and_then (check_founded s) (λ x. where_new s (same_vehicle new) VehicleTaken (table.get s.vehicles new.vehicle) (decide_new_vehicle s new))
+unfolding decide_vehicle
+of_fitting k s at new moment fit = bind-ok _ _ tt (in_time at moment) ∙ bind-ok _ _ tt (ap (λ b. unless b (BadShape (codes "key"))) fit)
 
 -- ---- a vehicle that is there
 

@@ -21,6 +21,7 @@ keys_of_place before (suc i) (root ∷ roots) = keys_of_place (Some root.keys) i
 
 text_at : (k : Rules) (repository : Repository) (n : ℕ) (before : Option KeySet) (roots : List Root) (i : ℕ) (root : Root) → slice_get roots i ≡ Some root
     → slice_get (root_texts k repository n before roots) i ≡ Some (root_text k repository (n + i) root (keys_of_place before i roots))
+unfolding keys_of_place
 text_at k repository n before [] i root h = cc
 text_at k repository n before (x ∷ roots) zero root h =
     let same : x ≡ root = cc in
@@ -43,12 +44,14 @@ nth_suc roots i =
 
 -- they are those of the number before it
 place_keys : (before : Option KeySet) (roots : List Root) (i : ℕ) → keys_of_place before (suc i) roots ≡ option_map (λ (root : Root). root.keys) (slice_get roots i)
+unfolding keys_of_place
 place_keys before [] zero = refl
 place_keys before [] (suc i) = refl
 place_keys before (root ∷ roots) zero = refl
 place_keys before (root ∷ roots) (suc i) = place_keys (Some root.keys) roots i
 
 before_first : (roots : List Root) (i : ℕ) → keys_of_place None i roots ≡ keys_at roots i
+unfolding keys_of_place
 before_first roots zero = refl
 before_first roots (suc i) = place_keys None roots i ∙ ap (option_map (λ (root : Root). root.keys)) (sym (nth_suc roots i))
 
@@ -91,6 +94,7 @@ last_of before (root ∷ roots) = last_of (Some root.keys) roots
 
 one_more : (k : Rules) (repository : Repository) (n : ℕ) (before : Option KeySet) (roots : List Root) (root : Root)
     → root_texts k repository n before (roots ++ root ∷ []) ≡ root_texts k repository n before roots ++ root_text k repository (n + length roots) root (last_of before roots) ∷ []
+unfolding last_of
 one_more k repository n before [] root = ap (λ (m : ℕ). root_text k repository m root before ∷ []) (plain n)
   where
     plain : (n : ℕ) → n ≡ n + 0
@@ -103,6 +107,7 @@ one_more k repository n before (x ∷ roots) root =
     later n i = omega arith
 
 last_keys : (before : Option KeySet) (roots : List Root) → last_of before roots ≡ keys_of_place before (length roots) roots
+unfolding keys_of_place last_of
 last_keys before [] = refl
 last_keys before (root ∷ roots) = last_keys (Some root.keys) roots
 

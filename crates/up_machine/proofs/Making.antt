@@ -1,5 +1,5 @@
 -- Every run leaves what is made of the keys and moments of its foundings and rotations.
-use Rattle.std.proofs.Common.{◌≡◌, ℕ, ◌+◌, List, [], ◌∷◌, ◌++◌, true, Some, Ok, Err, Result, inl, inr, refl, sym, ap, ap₂, ◌∙◌, subst, append-nil, append_assoc, Option, ◌≤◌}
+use Rattle.std.proofs.Common.{◌≡◌, ℕ, ◌+◌, List, [], ◌∷◌, ◌++◌, true, Some, None, Ok, Err, Result, inl, inr, refl, sym, ap, ap₂, ◌∙◌, subst, append-nil, append_assoc, Option, ◌≤◌}
 use Rattle.std.specs.Prelude.{length, option_map, filter_map, is_some, IsTrue}
 use Rattle.std.specs.List.{AllByRecursion}
 use Rattle.std.specs.Ordering.{nat_cmp}
