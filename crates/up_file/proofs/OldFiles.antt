@@ -16,7 +16,7 @@ use Rattle.up_roles.specs.declared.repository.Repository.TheVariants.{Director}
 use Rattle.up_rows.specs.Lookups.{text_held}
 use Rattle.up_rows.specs.StateRows.{StateRows}
 use Rattle.up_tables.specs.declared.open.SchemaVersion.{SchemaVersion}
-use Rattle.up_tables.specs.declared.open.SchemaVersion.TheVariants.{One, Two, Three}
+use Rattle.up_tables.specs.declared.open.SchemaVersion.TheVariants.{One, Two, Three, Four}
 use Rattle.up_tables.specs.Forms.{file_places}
 use Rattle.up_tables.specs.Listed.{TableRows}
 use Rattle.up_tables.specs.Rows.{bare, columns_at, has_text, has_texts}
@@ -48,6 +48,7 @@ unfolding understood everything
 asks One = (refl, refl, (refl, refl), refl)
 asks Two = (refl, refl, (refl, refl), refl)
 asks Three = (refl, refl, (refl, refl), refl)
+asks Four = (refl, refl, (refl, refl), refl)
 
 abbrev its : List ℕ → List ℕ → Row → Bool
 its repository name x = has_text 0 repository x && has_text 1 name x
@@ -71,7 +72,8 @@ shown_as version repository name old new rows_of rows has lists h =
 listed : (version : SchemaVersion) (rows : TableRows) (trees : Trees) → ListsAs version rows trees → ListsPairs rows.files (trees repo_file_table.tree)
 listed One rows trees lists = lists.0.files
 listed Two rows trees lists = lists.0.files
-listed Three rows trees lists = lists.files
+listed Three rows trees lists = lists.0.files
+listed Four rows trees lists = lists.files
 
 -- the text that a row says is the one that stands there
 said : (text found : Option (List ℕ)) → EachSays SaysBody (map (columns_at file_places) (file_lines Director (codes "root.json") text)) (option_to_list found) → found ≡ text

@@ -9,7 +9,7 @@ use Rattle.up_tables.specs.Tables.{no_schema}
 use Rattle.up_tables.specs.declared.open.OpenFault.{OpenFault}
 use Rattle.up_tables.specs.declared.open.OpenFault.TheVariants.{NotOurs, Store}
 use Rattle.up_tables.specs.declared.open.SchemaVersion.{SchemaVersion}
-use Rattle.up_tables.specs.declared.open.SchemaVersion.TheVariants.{One, Two, Three}
+use Rattle.up_tables.specs.declared.open.SchemaVersion.TheVariants.{One, Two, Three, Four}
 use Rattle.up_tables.specs.Versions.{schema_of}
 use Rattle.up_tables.specs.Making.{FailsToMake}
 use Rattle.up_tables.specs.Stands.{IfClean, IsAsCommitted, HasNoTables}
@@ -36,6 +36,7 @@ has_tables : (version : SchemaVersion) → length (schema_of version).tables ≡
 has_tables One same = cc
 has_tables Two same = cc
 has_tables Three same = cc
+has_tables Four same = cc
 
 -- tables that list rows aren't none
 never_none : (old mid : State) (version : SchemaVersion) (rows : StateRows) → IsAsCommitted old mid → HasNoTables mid → KeepsAs version rows old → ⊥

@@ -10,7 +10,7 @@ use up_program::unopened::Unopened;
 use up_tables::open::OpenFault;
 
 /// The latest schema that this program knows.
-const LATEST: i64 = 3;
+const LATEST: i64 = 4;
 
 /// Why a database isn't taken that `take_for` handed back with this fault. After `OpenFault::Store` its `meta` is asked: it is
 /// another product's unless one row names this product, and of a newer schema where that row names one above the latest; else

@@ -114,7 +114,12 @@ founding_numbers k next f sound h = by_files next.files h
     by_files None h = cc
     by_files (Some files) h =
         let same : founding_told next ≡ f = same_Some (founding_told next) f h in
-        subst FitsFounding same (record { root = omega (arith, sound.repositories.director_limit); image_version = omega (arith, sound.repositories.version_limit) })
+        subst FitsFounding same (record {
+          root = omega (arith, sound.repositories.director_limit);
+          image_root = omega (arith, sound.repositories.image_limit_of_roots);
+          image_version = omega (arith, sound.repositories.version_limit);
+          targets_version = omega (arith, sound.repositories.targets_limit, sound.repositories.version_limit);
+        })
 
 ecu_count : (v : Vehicle) (ecus : List NewEcu) → length (map (ecu_row v) ecus) ≡ length ecus
 ecu_count v [] = refl
@@ -175,7 +180,7 @@ has_keys : (k : Rules) (role : RoleSecrets) → role_fits k role ≡ true → Ha
 has_keys k role h =
     let fit : keys_fit k role ≡ true = and_left (keys_fit k role) (threshold_fits role) h in
     let number : is_from_to 1 4 (length role.keys) ≡ true = and_left (is_from_to 1 4 (length role.keys)) (list_all (secret_fits k) role.keys) (and_left _ (is_none (first_repeated (map (identifier k) role.keys))) fit) in
-    leb-true _ _ (and_left (nat_le 1 (length role.keys)) (nat_le (length role.keys) 4) number)
+    inl (leb-true _ _ (and_left (nat_le 1 (length role.keys)) (nat_le (length role.keys) 4) number))
 
 have_keys : (k : Rules) (keys : RepoKeys) → repository_fits k keys ≡ true → HaveKeys keys
 have_keys k keys h =

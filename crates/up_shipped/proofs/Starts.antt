@@ -19,7 +19,7 @@ use Rattle.up_tables.specs.Stands.{HasNoTables, IsAsCommitted, IsWith}
 use Rattle.up_tables.specs.Tables.{no_schema}
 use Rattle.up_tables.specs.Versions.{schema_of}
 use Rattle.up_tables.specs.declared.open.SchemaVersion.{SchemaVersion}
-use Rattle.up_tables.specs.declared.open.SchemaVersion.TheVariants.{One, Two, Three}
+use Rattle.up_tables.specs.declared.open.SchemaVersion.TheVariants.{One, Two, Three, Four}
 use Rattle.up_store.specs.Connections.{KeepsAs, KeepsRows, KeepsState}
 use Rattle.up_store.specs.Listing.{ListsRowsAs}
 use Rattle.up_file.specs.Adopting.{IsAdopted}
@@ -51,6 +51,7 @@ has_tables : (version : SchemaVersion) → length (schema_of version).tables ≡
 has_tables One same = cc
 has_tables Two same = cc
 has_tables Three same = cc
+has_tables Four same = cc
 
 -- tables that list rows aren't none
 never_none : (mid : Connected) (version : SchemaVersion) (rows : StateRows) → HasNoTables mid → KeepsAs version rows mid → ⊥
@@ -72,7 +73,7 @@ never_named version mid none names =
     cc
 
 never_taken : (old mid new : Connected) → IsAsCommitted old mid → HasNoTables old → IsTaken mid new → IsTrue mid.is_open → ⊥
-never_taken old mid new kept none (inl latest) is_open = never_named Three mid (ap (λ (d : Database). d.schema) (kept.undone is_open).0 ∙ none.schema_is) latest.0
+never_taken old mid new kept none (inl latest) is_open = never_named Four mid (ap (λ (d : Database). d.schema) (kept.undone is_open).0 ∙ none.schema_is) latest.0
 never_taken old mid new kept none (inr older) is_open = never_named older.0 mid (ap (λ (d : Database). d.schema) (kept.undone is_open).0 ∙ none.schema_is) older.2
 
 -- ---- the law

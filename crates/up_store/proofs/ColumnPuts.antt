@@ -83,6 +83,8 @@ puts_no_sha512 image s is is_open rows within fits =
           kept = t.kept;
           retired = t.retired;
           sha512s = lists_as 1 rows.sha512s (changed_at image.file (λ were. were ++ sha512_lines image.file image.sha512) rows.sha512s) (s.now.trees image_sha512_table.tree) same t.sha512s;
+          image_repository = t.image_repository;
+          shut_out = t.shut_out;
         };
       };
     }
@@ -124,6 +126,8 @@ puts_image_rows (Ok done) image before mid after first second typed hash was_ope
         sha512s = lists_as 1 _ (λ n. sha512_lines n (second_hash (table.get next.images n))) (after.now.trees image_sha512_table.tree)
             (changed_inserted rows.images image.file image (λ m o. sha512_lines m (second_hash o)) (λ were. were ++ sha512_lines image.file image.sha512)
             (ap (λ o. sha512_lines image.file (second_hash o) ++ sha512_lines image.file image.sha512) new)) t.sha512s;
+        image_repository = t.image_repository;
+        shut_out = t.shut_out;
       };
     })
 

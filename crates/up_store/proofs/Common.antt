@@ -54,26 +54,27 @@ pub use Rattle.up_store.specs.Fitting.{IsClosing, IsNewCampaign, IsNewImage, IsN
 pub use Rattle.up_store.specs.Found.{ecus_found, values_where, vehicle_found}
 pub use Rattle.up_store.specs.Lines.{campaign_lines, campaign_shown_line, ecu_line, ecu_lines, ecu_shown, ecus_lines, file_line, file_lines, file_row, founding_lines, founding_number, hash_line, image_line, image_lines, image_shown_line, kept_line, key_row, line_of_campaign, repository_lines, repository_word, retired_lines, role_file_lines, role_lines, root_file_lines, row_of_vehicle, second_hash, set_lines, sha512_lines, vehicle_lines}
 pub use Rattle.up_store.specs.Listing.{files_lines, IsOfLastRoot, ListsRows, table_rows}
-pub use Rattle.up_store.specs.Puts.{HasFilesOnce, IsReported, MayAccept, MayReport, with_files, with_key_lines, with_numbers, with_reported, with_sha512_line}
-pub use Rattle.up_store.specs.ReadAs.{InTurn, IsRead, IsReadImage, IsTextOrNull, PutsCampaign, PutsImage, PutsSha512, ReadsFounding, ReadsSha512, RunOf, SaysCampaign, SaysEcu, SaysFile, SaysHash, SaysImage, SaysInstalled, SaysKept, SaysKey, SaysNumbers, SaysVehicle}
-pub use Rattle.up_store.specs.Shown.{AreKeysOf, campaign_made, file_read, image_made, is_key_of, IsFoundingOf, IsRoleOf, meta_told, reported_sha512, secrets_of, threshold_of, vehicle_read}
+pub use Rattle.up_store.specs.Puts.{FitNumbers, HasFilesOnce, IsReported, MayAccept, MayReport, with_files, with_key_lines, with_numbers, with_reported, with_sha512_line}
+pub use Rattle.up_store.specs.ReadAs.{InTurn, IsRead, IsReadImage, IsTextOrNull, PutsCampaign, PutsImage, PutsSha512, ReadsFounding, ReadsKeyed, ReadsSha512, RunOf, SaysCampaign, SaysEcu, SaysFile, SaysHash, SaysImage, SaysInstalled, SaysKept, SaysKey, SaysNumbers, SaysOwn, SaysVehicle}
+pub use Rattle.up_store.specs.Shown.{AreKeysOf, campaign_made, file_read, image_made, is_key_of, IsFoundingOf, IsRoleOf, meta_told, numbers_told, own_told, reported_sha512, secrets_of, threshold_of, vehicle_read}
 pub use Rattle.up_store.specs.Typed.{AreTyped, AreTypedTexts, EachHasKeys, HasKeys, HaveKeys, IsToldEcu, IsTypedCampaign, IsTypedCampaignRow, IsTypedEcu, IsTypedFile, IsTypedFounding, IsTypedHash, IsTypedImage, IsTypedImageRow, IsTypedInstalled, IsTypedKept, IsTypedKey, IsTypedVehicle, IsTypedVehicleRow}
 pub use Rattle.up_store.specs.Writes.{accept_writes, each_with, file_writes, FitsFounding, FitsVehicle, founding_writes, image_row_writes, key_writes, register_writes, reported_writes, root_writes, vehicle_writes}
 pub use Rattle.up_store.specs.declared.campaign_rows.CampaignShown.{CampaignShown}
 pub use Rattle.up_store.specs.declared.files.ServedFile.{ServedFile}
 pub use Rattle.up_store.specs.declared.image_rows.ImageShown.{ImageShown}
+pub use Rattle.up_store.specs.declared.numbers.Numbers.{Numbers}
 pub use Rattle.up_tables.proofs.ColumnLemmas.{handed_on, on_ok}
 pub use Rattle.up_tables.proofs.EachLemmas.{each_ends, each_fails, each_next, each_starts, KeepsWriting, statement_at}
 pub use Rattle.up_tables.proofs.EcuRows.{column_after, differs, same_text, text_is}
-pub use Rattle.up_tables.proofs.ListedLemmas.{goes_on, lists_campaigns, lists_ecus, lists_files, lists_images, lists_kept, lists_meta, lists_none, lists_retired, lists_role_keys, lists_sha512s, lists_vehicles}
+pub use Rattle.up_tables.proofs.ListedLemmas.{goes_on, lists_campaigns, lists_ecus, lists_files, lists_image_repository, lists_images, lists_kept, lists_meta, lists_none, lists_retired, lists_role_keys, lists_sha512s, lists_vehicles}
 pub use Rattle.up_tables.proofs.SaysLemmas.{each_said, lines_said, same_values, says_passing, values_there}
 pub use Rattle.up_tables.proofs.StateLemmas.{ok_then}
 pub use Rattle.up_tables.proofs.TriedLemmas.{blames_first, blames_only, blames_so, blames_then, ran_then, Went}
 pub use Rattle.up_tables.specs.Ecus.{line, owns}
-pub use Rattle.up_tables.specs.Forms.{campaign_places, campaign_row, file_places, file_row as shown_row, FitMeta, FitRoleKey, image_places, image_row, kept_places, kept_row, keys_shown, meta_values, role_key_places, role_key_row, running_shown, set_files, sha512_places, vehicle_places, vehicle_row}
-pub use Rattle.up_tables.specs.Found.{ecu_places, HoldsOfMeta, meta_shown, ReadsByPlace}
+pub use Rattle.up_tables.specs.Forms.{campaign_places, campaign_row, file_places, file_row as shown_row, FitImageRepository, FitMeta, FitRoleKey, image_places, image_repository_values, image_row, kept_places, kept_row, keys_shown, meta_values, role_key_places, role_key_row, running_shown, set_files, sha512_places, vehicle_places, vehicle_row}
+pub use Rattle.up_tables.specs.Found.{ecu_places, HoldsOfImageRepository, HoldsOfMeta, image_repository_shown, meta_shown, ReadsByPlace}
 pub use Rattle.up_tables.specs.Kinds.{HasOwner, IsWords}
-pub use Rattle.up_tables.specs.Lines.{AreDistinct, AreNew, AreRecorded, AreSameEcus, campaign_line, ecu_row, EcuLine, meta_row, retired_line, set_ecus, sha512_line, swapped, vehicle_line, yes_or_no}
+pub use Rattle.up_tables.specs.Lines.{AreDistinct, AreNew, AreRecorded, AreSameEcus, campaign_line, ecu_row, EcuLine, image_repository_row, meta_row, retired_line, set_ecus, sha512_line, swapped, vehicle_line, yes_or_no}
 pub use Rattle.up_tables.proofs.Parts.{AreInPlace, no_table_rows}
 pub use Rattle.up_tables.specs.Listed.{ListsTables, TableRows}
 pub use Rattle.up_tables.specs.Ours.{HasFailed, ListsUs, Raised}
@@ -81,9 +82,10 @@ pub use Rattle.up_tables.specs.Rows.{bare, changed_at, columns_at, has_number, h
 pub use Rattle.up_tables.specs.Stands.{Alters, AnyRows, AreWith, GoesOn, HasNoTables, HasTables, IfClean, IsAsCommitted, IsInside, IsOpen, IsWith, IsWithin, Lists, ListsAll, ListsPairs, Reads, Stands, Steps}
 pub use Rattle.up_tables.specs.Statements.{AltersRows, BlamesDisk, HasVehicle, HoldsBy, HoldsOfAll, HoldsOfFiles, IsOpenStep, SetsEcu, WhereInside}
 pub use Rattle.up_tables.specs.Stored.{AllWritten, AreLines, EachSays, IsLine, IsTold, IsWritten, Tells, Written}
-pub use Rattle.up_tables.specs.Tables.{campaign_table, ecu_table, image_sha512_table, image_table, kept_table, meta_table, repo_file_table, retired_table, role_key_table, up_schema, vehicle_table}
+pub use Rattle.up_tables.specs.Tables.{campaign_table, ecu_table, image_repository_table, image_sha512_table, image_table, kept_table, meta_table, repo_file_table, retired_table, role_key_table, up_schema, vehicle_table}
 pub use Rattle.up_tables.specs.Texts.{insert_campaign_text, insert_ecu_text, insert_image_text, insert_kept_text, insert_retired_text, insert_role_key_text, insert_sha512_text, insert_vehicle_text, replace_ecu_text, update_ecu_text, upsert_file_text, upsert_vehicle_text}
 pub use Rattle.up_tables.specs.Tried.{BlamesOne, Makes, Ran}
+pub use Rattle.up_tables.specs.declared.image_repository.ImageRepositoryRow.{ImageRepositoryRow}
 pub use Rattle.up_tables.specs.declared.meta.MetaRow.{MetaRow}
 pub use Rattle.up_tables.specs.declared.values.StoreFault.{StoreFault}
 pub use Rattle.up_tables.specs.declared.values.StoreFault.TheVariants.{Memory, Store}

@@ -3,8 +3,7 @@ use Rattle.std.proofs.Common.{◌≡◌, ℕ, pos, ◌+◌, ◌-◌, ◌<◌, �
 use Rattle.up_metadata.specs.declared.role_files.RoleTexts.{RoleTexts}
 use Rattle.up_store.specs.declared.keys.RoleKey.{RoleKey}
 use Rattle.up_machine.specs.State.{last_text}
-use Rattle.up_store.proofs.Common.{⊤, HasCleanDisk, BlamesWithin, Store, IsTrue, IfOk, IfErr, IfSome, OnOk, Result, find, slice_get, if◌then◌else◌, option_map, option_or, option_to_list, AllByRecursion, enumerate_from, Text, Row, Connected, Name, is_file_name, RepoKeys, Founding, File, texts_in, Repository, Director, Image, text_named, root_named, other_text, text_held, StateRows, MetaRow, StoreFault, Memory, FitMeta, file_places, keys_shown, meta_values, role_key_places, HoldsOfMeta, meta_shown, IsWords, columns_at, has_number, meta_row, HasTables, IsWithin, ListsAll, ListsPairs, Reads, HoldsOfAll, HoldsOfFiles, AreLines, EachSays, IsLine, IsTold, Tells, meta_table, repo_file_table, role_key_table, up_schema, ServedFile, key_row, repository_word, repository_lines, founding_lines, file_line, file_lines, file_row, ListsRows, files_lines, SaysFile, SaysKey, SaysNumbers, IsFoundingOf, meta_told, AreTyped, AreTypedTexts, IsTypedFile, IsTypedFounding, IsTypedKey, each_said, lines_said, numbered_root_name, numbered_roots, root_texts, ◌==◌}
-use Rattle.up_store.proofs.Blamed.{all_filtered}
+use Rattle.up_store.proofs.Common.{⊤, IsTrue, IfOk, IfErr, IfSome, OnOk, Result, find, slice_get, if◌then◌else◌, option_map, option_or, option_to_list, AllByRecursion, enumerate_from, Text, Row, Connected, Name, is_file_name, RepoKeys, Founding, File, texts_in, Repository, Director, Image, text_named, root_named, other_text, text_held, StateRows, MetaRow, StoreFault, Memory, FitImageRepository, FitMeta, file_places, image_repository_values, keys_shown, meta_values, role_key_places, HoldsOfImageRepository, HoldsOfMeta, image_repository_shown, meta_shown, IsWords, columns_at, image_repository_row, meta_row, HasTables, IsWithin, ListsAll, ListsPairs, Reads, HoldsOfAll, HoldsOfFiles, AreLines, EachSays, IsLine, IsTold, Tells, image_repository_table, meta_table, repo_file_table, role_key_table, up_schema, ServedFile, key_row, repository_word, repository_lines, founding_lines, file_line, file_lines, file_row, ListsRows, files_lines, SaysFile, SaysKey, SaysNumbers, SaysOwn, IsFoundingOf, ImageRepositoryRow, meta_told, own_told, AreTyped, AreTypedTexts, IsTypedFile, IsTypedFounding, IsTypedKey, each_said, lines_said, numbered_root_name, numbered_roots, root_texts, ◌==◌}
 use Rattle.up_store.proofs.ColumnFound.{has_tables, numbers_are}
 use Rattle.up_store.proofs.FoundingReads.{key_line}
 use Rattle.up_store.proofs.KindsOfTexts.{file_name, printed, utf8}
@@ -17,18 +16,6 @@ word Image = printed (codes "image") refl
 
 numbers_row : (root image_version stamp : ℕ) → meta_shown (meta_row root image_version stamp ∷ []) ≡ meta_values (record { root = root; image_version = image_version; stamp = stamp }) ∷ []
 numbers_row root image_version stamp = rw (numbers_are 1 1) refl
-
--- the root version of a row that says numbers is one that a column holds, so that no fault comes of it
-pub said_fits : (rows : List Row) (row : MetaRow) → EachSays SaysNumbers rows (row ∷ []) → row.root < 2 ^ 63
-said_fits [] row said = absurd said
-said_fits (r ∷ rows) row said = said.0.fit.root
-
-pub held_blames : {A : Type 0} (row : MetaRow) (old new : Connected) (r : Result A StoreFault) → IfErr r (λ fault. (fault ≡ Store) × (2 ^ 63 ≤ row.root)) → (HasCleanDisk new → HasTables old → row.root < 2 ^ 63) → BlamesWithin (λ _. ⊤) old new r
-held_blames row old new (Ok x) fault small clean = tt
-held_blames row old new (Err e) fault small clean = λ is is_open unlimited rows within fit.
-    let here = within.here is_open in
-    let low = small clean (λ _. record { schema_is = here.schema_is; sound = here.sound; rows = tt }) in
-    absurd (omega (arith, low, fault.1))
 
 -- what the row of `meta` shows, and that it fits
 numbers_shown : (rows : StateRows) (s : Connected) → ListsRows rows s.now.trees → meta_shown (s.now.trees meta_table.tree) ≡ meta_values (meta_told rows.founding) ∷ []
@@ -48,10 +35,31 @@ numbers_found found before after told is_open rows within =
     let here = within.here is_open in
     (told (has_tables rows before within)).same (Some (meta_told rows.founding)) (numbers_fit rows.founding here.rows.typed.founding, tt) (numbers_shown rows before here.rows)
 
+-- the image repository's own numbers, likewise
+own_row : (root targets : ℕ) → image_repository_shown (image_repository_row root targets ∷ []) ≡ image_repository_values (record { root = root; targets = targets }) ∷ []
+own_row root targets = rw (numbers_are 1 1) refl
+
+own_shown : (rows : StateRows) (s : Connected) → ListsRows rows s.now.trees → image_repository_shown (s.now.trees image_repository_table.tree) ≡ image_repository_values (own_told rows.founding) ∷ []
+own_shown rows s lists = ap image_repository_shown lists.tables.image_repository ∙ own_row (own_told rows.founding).root (own_told rows.founding).targets
+
+own_fit : (o : Option Founding) → IfSome o IsTypedFounding → FitImageRepository (own_told o)
+own_fit None typed = record { root = omega arith; targets = omega arith }
+own_fit (Some f) typed = record { root = typed.image_root; targets = typed.targets_version }
+
+pub holds_own : (s : Connected) (rows : StateRows) → ListsRows rows s.now.trees → HoldsOfImageRepository (AreLines FitImageRepository image_repository_values) s
+holds_own s rows lists = (Some (own_told rows.founding), (own_fit rows.founding lists.typed.founding, tt), own_shown rows s lists)
+
+pub own_found : (found : Option ImageRepositoryRow) (before after : Connected)
+    → (HasTables before → IsTold SaysOwn FitImageRepository image_repository_values (image_repository_shown (before.now.trees image_repository_table.tree)) found)
+    → IsTrue before.is_open → (rows : StateRows) → IsWithin up_schema (ListsRows rows) before → found ≡ Some (own_told rows.founding)
+own_found found before after told is_open rows within =
+    let here = within.here is_open in
+    (told (has_tables rows before within)).same (Some (own_told rows.founding)) (own_fit rows.founding here.rows.typed.founding, tt) (own_shown rows before here.rows)
+
 -- a founding that is typed is read again
-pub founded_fault : {A : Type 0} (row : MetaRow) (found : List RoleKey) (o : Option Founding) → IsFoundingOf row found o → (r : Result A StoreFault)
-    → ((told : Option Founding) (is : IsFoundingOf row found told) → IsTypedFounding is.founding → IfErr r (λ fault. fault ≡ Memory)) → IfSome o IsTypedFounding → IfErr r (λ fault. fault ≡ Memory)
-founded_fault row found o told r fault typed = fault o told (subst (λ x. IfSome x IsTypedFounding) told.is typed)
+pub founded_fault : {A : Type 0} (row : MetaRow) (own : ImageRepositoryRow) (found : List RoleKey) (o : Option Founding) → IsFoundingOf row own found o → (r : Result A StoreFault)
+    → ((told : Option Founding) (is : IsFoundingOf row own found told) → IsTypedFounding is.founding → IfErr r (λ fault. fault ≡ Memory)) → IfSome o IsTypedFounding → IfErr r (λ fault. fault ≡ Memory)
+founded_fault row own found o told r fault typed = fault o told (subst (λ x. IfSome x IsTypedFounding) told.is typed)
 
 -- ---- keys
 
@@ -79,23 +87,23 @@ repository_is m repository keys =
 
 founding_is : (o : Option Founding) → AllByRecursion line (founding_lines o)
 founding_is None = tt
-founding_is (Some f) = both_lines _ _ (repository_is f.root Director f.keys.director) (repository_is f.root Image f.keys.image)
+founding_is (Some f) = both_lines _ _ (repository_is f.root Director f.keys.director) (repository_is f.image_root Image f.keys.image)
 
 -- a line shows itself
 shown_lines : (xs : List Row) → AllByRecursion line xs → AllByRecursion line (map (columns_at role_key_places) xs)
 shown_lines [] all = tt
 shown_lines (x ∷ xs) all = ((all.0.0, all.0.1, ap (columns_at role_key_places) all.0.2), shown_lines xs all.1)
 
-pub holds_keys : (root : ℕ) (s : Connected) (rows : StateRows) → ListsRows rows s.now.trees → HoldsOfAll role_key_table (λ all. AllByRecursion line (keys_shown root all)) s
-holds_keys root s rows lists = (founding_lines rows.founding, lists.tables.role_keys, shown_lines _ (all_filtered line (has_number 0 (pos root)) (founding_lines rows.founding) (founding_is rows.founding)))
+pub holds_keys : (s : Connected) (rows : StateRows) → ListsRows rows s.now.trees → HoldsOfAll role_key_table (λ all. AllByRecursion line (keys_shown all)) s
+holds_keys s rows lists = (founding_lines rows.founding, lists.tables.role_keys, shown_lines _ (founding_is rows.founding))
 
 -- what a row says is its line
 key_said : (r : Row) (k : RoleKey) → SaysKey (columns_at role_key_places r) k → columns_at role_key_places r ≡ key_row k
 key_said r k said = rw (said.root, said.repository.0, said.role.0, said.place, said.secret, said.threshold) refl
 
-pub keys_said : (root : ℕ) (found : List RoleKey) (s : Connected) → ((all : List Row) → HasTables s → ListsAll all (s.now.trees role_key_table.tree) → EachSays (Tells SaysKey IsTypedKey key_row) (keys_shown root all) found)
-    → (all : List Row) → HasTables s → ListsAll all (s.now.trees role_key_table.tree) → keys_shown root all ≡ map key_row found
-keys_said root found s told all has lists =
+pub keys_said : (found : List RoleKey) (s : Connected) → ((all : List Row) → HasTables s → ListsAll all (s.now.trees role_key_table.tree) → EachSays (Tells SaysKey IsTypedKey key_row) (keys_shown all) found)
+    → (all : List Row) → HasTables s → ListsAll all (s.now.trees role_key_table.tree) → keys_shown all ≡ map key_row found
+keys_said found s told all has lists =
     lines_said SaysKey key_row (columns_at role_key_places) key_said _ found (each_said (Tells SaysKey IsTypedKey key_row) SaysKey (λ r k told. told.said) _ found (told all has lists))
 
 -- ---- files

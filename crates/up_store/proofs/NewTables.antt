@@ -56,5 +56,7 @@ new_lists trees new =
         kept = none.kept;
         retired = none.retired;
         sha512s = lists_as 1 _ _ (trees image_sha512_table.tree) (λ name. sym (ap (λ o. sha512_lines name (second_hash o)) (get-empty (slice_cmp nat_cmp) name))) none.sha512s;
+        image_repository = none.image_repository;
+        shut_out = none.shut_out;
       };
     }

@@ -1,5 +1,5 @@
 -- The rows of keys tell the keys.
-use Rattle.std.proofs.Common.{◌≡◌, ◌≤◌, ◌+◌, ℕ, List, [], ◌∷◌, ◌++◌, Bool, true, false, map, filter, length, refl, sym, ap, ap₂, ◌∙◌, arith, append-nil, codes, append_assoc}
+use Rattle.std.proofs.Common.{◌≡◌, ◌+◌, ℕ, List, [], ◌∷◌, ◌++◌, Bool, true, false, map, filter, inl, inr, refl, sym, ap, ap₂, ◌∙◌, arith, append-nil, codes, append_assoc}
 use Rattle.std.proofs.lemmas.List.Elements.{filter-append}
 use Rattle.up_metadata.specs.declared.keys.RoleSecrets.{RoleSecrets}
 use Rattle.up_store.proofs.Common.{enumerate_from, slice_cmp, is_eq, nat_cmp, Text, Row, column, value_cmp, Repository, Director, Image, KeySet, RepoKeys, has_text, repository_word, role_lines, repository_lines, HasKeys, HaveKeys, EachHasKeys, value_cmp-Text}
@@ -53,14 +53,18 @@ keys_of_lines m t u i word role (k ∷ ks) (l ∷ ls) h =
     let tail : map (key_line m word role t) (enumerate_from (i + 1) ks) ≡ map (key_line m word role u) (enumerate_from (i + 1) ls) = cc in
     ap₂ (λ (x : List ℕ) (xs : List (List ℕ)). x ∷ xs) head (keys_of_lines m t u (i + 1) word role ks ls tail)
 
-threshold_of_lines : (m t u : ℕ) (word role : List ℕ) (ks ls : List (List ℕ)) → 1 ≤ length ks → 1 ≤ length ls
-    → map (key_line m word role t) (enumerate_from 0 ks) ≡ map (key_line m word role u) (enumerate_from 0 ls) → t ≡ u
-threshold_of_lines m t u word role [] ls some more h = absurd (omega (arith, some))
-threshold_of_lines m t u word role (k ∷ ks) [] some more h = absurd (omega (arith, more))
-threshold_of_lines m t u word role (k ∷ ks) (l ∷ ls) some more h = cc
-
 abbrev the_role : List (List ℕ) → ℕ → RoleSecrets
 the_role ks t = record { keys = ks; threshold = t }
+
+-- of no rows nothing is held
+threshold_of_lines : (m t u : ℕ) (word role : List ℕ) (ks ls : List (List ℕ)) → HasKeys (the_role ks t) → HasKeys (the_role ls u)
+    → map (key_line m word role t) (enumerate_from 0 ks) ≡ map (key_line m word role u) (enumerate_from 0 ls) → t ≡ u
+threshold_of_lines m t u word role [] [] (inl some) held h = absurd (omega (arith, some))
+threshold_of_lines m t u word role [] [] (inr none) (inl some) h = absurd (omega (arith, some))
+threshold_of_lines m t u word role [] [] (inr none) (inr no) h = ap (λ (r : RoleSecrets). r.threshold) (none ∙ sym no)
+threshold_of_lines m t u word role [] (l ∷ ls) some more h = absurd (let e = h in cc)
+threshold_of_lines m t u word role (k ∷ ks) [] some more h = absurd (let e = h in cc)
+threshold_of_lines m t u word role (k ∷ ks) (l ∷ ls) some more h = cc
 
 one_role : (m : ℕ) (repository : Repository) (role : List ℕ) (a b : RoleSecrets) → HasKeys a → HasKeys b → role_lines m repository role a ≡ role_lines m repository role b → a ≡ b
 one_role m repository role a b some more h =
@@ -145,18 +149,18 @@ image_fails m keys =
     (lines_fail t m keys.snapshot.threshold w (codes "snapshot") (λ _. by_text (codes "image") (codes "director")) 0 keys.snapshot.keys))
     (lines_fail t m keys.timestamp.threshold w (codes "timestamp") (λ _. by_text (codes "image") (codes "director")) 0 keys.timestamp.keys)
 
-director_apart : (m : ℕ) (keys : KeySet) → Apart (is_of Director) (repository_lines m Director keys.director) (repository_lines m Image keys.image)
-director_apart m keys = record { front = director_passes m keys.director; behind = image_fails m keys.image }
+director_apart : (m n : ℕ) (keys : KeySet) → Apart (is_of Director) (repository_lines m Director keys.director) (repository_lines n Image keys.image)
+director_apart m n keys = record { front = director_passes m keys.director; behind = image_fails n keys.image }
 
 abbrev the_set : RepoKeys → RepoKeys → KeySet
 the_set x y = record { director = x; image = y }
 
 -- the same rows are of the same keys
-pub one_keys : (m : ℕ) (a b : KeySet) → EachHasKeys a → EachHasKeys b
-    → repository_lines m Director a.director ++ repository_lines m Image a.image ≡ repository_lines m Director b.director ++ repository_lines m Image b.image → a ≡ b
-one_keys m a b some more h =
+pub one_keys : (m n : ℕ) (a b : KeySet) → EachHasKeys a → EachHasKeys b
+    → repository_lines m Director a.director ++ repository_lines n Image a.image ≡ repository_lines m Director b.director ++ repository_lines n Image b.image → a ≡ b
+one_keys m n a b some more h =
     let director : a.director ≡ b.director =
-    one_repository m Director a.director b.director some.director more.director (fronts (is_of Director) _ _ _ _ (director_apart m a) (director_apart m b) h) in
+    one_repository m Director a.director b.director some.director more.director (fronts (is_of Director) _ _ _ _ (director_apart m n a) (director_apart m n b) h) in
     let image : a.image ≡ b.image =
-    one_repository m Image a.image b.image some.image more.image (behinds (is_of Director) _ _ _ _ (director_apart m a) (director_apart m b) h) in
+    one_repository n Image a.image b.image some.image more.image (behinds (is_of Director) _ _ _ _ (director_apart m n a) (director_apart m n b) h) in
     ap₂ (λ (x y : RepoKeys). the_set x y) director image

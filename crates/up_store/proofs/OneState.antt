@@ -12,7 +12,7 @@ use Rattle.up_machine.specs.Rows.{founding_row}
 use Rattle.up_machine.specs.State.{Entry, Vehicle, State}
 use Rattle.up_rows.specs.Laws.{RowsTellTheState}
 use Rattle.up_rows.proofs.Tables.{get_changed}
-use Rattle.up_store.proofs.Common.{option_map, AllByRecursion, list_all, IfSome, is_some, Row, Trees, Int, CanonIsRead, Name, Rules, Director, Image, CampaignData, ImageData, Item, Reach, Need, reach_column, reach_in, items_column, campaign_items_in, EcuRow, Founding, Kept, VehicleRows, NewEcu, StateRows, rows_of_state, chain_of_rows, ecu_of, entry_of, vehicle_of_rows, ecu_row, meta_row, yes_or_no, founding_lines, founding_number, repository_lines, image_lines, campaign_lines, vehicle_lines, ecu_lines, ecus_lines, kept_line, retired_lines, second_hash, sha512_lines, ListsRows, IsOfLastRoot, IsTypedFounding, IsTypedImage, IsTypedCampaign, IsTypedKept, image_made, campaign_made}
+use Rattle.up_store.proofs.Common.{option_map, AllByRecursion, list_all, IfSome, is_some, Row, Trees, Int, CanonIsRead, Name, Rules, Director, Image, CampaignData, ImageData, Item, Reach, Need, reach_column, reach_in, items_column, campaign_items_in, EcuRow, Founding, Kept, VehicleRows, NewEcu, StateRows, rows_of_state, chain_of_rows, ecu_of, entry_of, vehicle_of_rows, ecu_row, image_repository_row, meta_row, yes_or_no, founding_lines, founding_number, repository_lines, image_lines, campaign_lines, vehicle_lines, ecu_lines, ecus_lines, kept_line, retired_lines, second_hash, sha512_lines, ListsRows, IsOfLastRoot, IsTypedFounding, IsTypedImage, IsTypedCampaign, IsTypedKept, image_made, campaign_made}
 use Rattle.up_store.proofs.OneKeys.{one_keys}
 use Rattle.up_store.proofs.RootTexts.{AreListedAlike, one_texts, one_files as same_texts}
 use Rattle.up_store.proofs.WholeTables.{same_table}
@@ -157,17 +157,20 @@ one_vehicle n kept last gone left (Some v) (Some w) entries retired h k =
     let same : the_vehicle v.vehicle.primary (map ecu_of v.ecus) (gone n) (map entry_of (kept n)) ≡ the_vehicle w.vehicle.primary (map ecu_of w.ecus) (left n) (map entry_of (last n)) = rw (primary, ecus, retired, entries) refl in
     ap Some same
 
--- ---- the numbers of `meta`
+-- ---- the numbers of `meta` and `image_repository`
 
 abbrev number_of : (Founding → ℕ) → StateRows → ℕ
 number_of part rows = founding_number part rows.founding
 
-counted : (founding : Option Founding) (director image : List (List ℕ)) → IsOfLastRoot founding director image → (founding_number (λ f. f.root) founding ≡ length director) × (founding_number (λ f. f.root) founding ≡ length image)
+counted : (founding : Option Founding) (director image : List (List ℕ)) → IsOfLastRoot founding director image → (founding_number (λ f. f.root) founding ≡ length director) × (founding_number (λ f. f.image_root) founding ≡ length image)
 counted None director image h = (sym (ap length h.0), sym (ap length h.1))
-counted (Some f) director image h = (h.1, h.2)
+counted (Some f) director image h = (h.1, h.3)
 
 numbers_alike : (a b c x y z : ℕ) → meta_row a b c ∷ [] ≡ meta_row x y z ∷ [] → (a ≡ x) × (b ≡ y) × (c ≡ z)
 numbers_alike a b c x y z h = (cc, cc, cc)
+
+own_alike : (a b x y : ℕ) → image_repository_row a b ∷ [] ≡ image_repository_row x y ∷ [] → (a ≡ x) × (b ≡ y)
+own_alike a b x y h = (cc, cc)
 
 -- ---- a founding
 
@@ -180,14 +183,15 @@ founded s = some_mapped _ s.files
 
 -- of the same numbers and rows of keys there is one founding, or none
 one_founding : (a b : Option Founding) → is_some a ≡ is_some b → founding_number (λ f. f.root) a ≡ founding_number (λ f. f.root) b → founding_number (λ f. f.image_version) a ≡ founding_number (λ f. f.image_version) b
-    → founding_number (λ f. f.stamp) a ≡ founding_number (λ f. f.stamp) b → founding_lines a ≡ founding_lines b → IfSome a IsTypedFounding → IfSome b IsTypedFounding → a ≡ b
-one_founding None None there root version stamp lines ta tb = refl
-one_founding None (Some g) there root version stamp lines ta tb = absurd (cc)
-one_founding (Some f) None there root version stamp lines ta tb = absurd (cc)
-one_founding (Some f) (Some g) there root version stamp lines ta tb =
-    let keys : f.keys ≡ g.keys = one_keys f.root f.keys g.keys ta.keys tb.keys
-    (lines ∙ ap (λ (m : ℕ). repository_lines m Director g.keys.director ++ repository_lines m Image g.keys.image) (sym root)) in
-    let same : f ≡ g = λ i. record { root = root i; keys = keys i; image_version = version i; stamp = stamp i } in
+    → founding_number (λ f. f.stamp) a ≡ founding_number (λ f. f.stamp) b → founding_number (λ f. f.image_root) a ≡ founding_number (λ f. f.image_root) b
+    → founding_number (λ f. f.targets_version) a ≡ founding_number (λ f. f.targets_version) b → founding_lines a ≡ founding_lines b → IfSome a IsTypedFounding → IfSome b IsTypedFounding → a ≡ b
+one_founding None None there root version stamp image_root targets lines ta tb = refl
+one_founding None (Some g) there root version stamp image_root targets lines ta tb = absurd (cc)
+one_founding (Some f) None there root version stamp image_root targets lines ta tb = absurd (cc)
+one_founding (Some f) (Some g) there root version stamp image_root targets lines ta tb =
+    let keys : f.keys ≡ g.keys = one_keys f.root f.image_root f.keys g.keys ta.keys tb.keys
+    (lines ∙ ap₂ (λ (m n : ℕ). repository_lines m Director g.keys.director ++ repository_lines n Image g.keys.image) (sym root) (sym image_root)) in
+    let same : f ≡ g = λ i. record { root = root i; image_root = image_root i; keys = keys i; image_version = version i; targets_version = targets i; stamp = stamp i } in
     ap Some same
 
 -- ---- a state
@@ -202,6 +206,9 @@ module _ (law : CanonIsRead) (tell : RowsTellTheState) (k : Rules) (s t : State)
   numbers : (number_of (λ f. f.root) first ≡ number_of (λ f. f.root) second) × (number_of (λ f. f.image_version) first ≡ number_of (λ f. f.image_version) second) × (number_of (λ f. f.stamp) first ≡ number_of (λ f. f.stamp) second)
   numbers = numbers_alike _ _ _ _ _ _ (sym one.tables.meta ∙ two.tables.meta)
 
+  own : (number_of (λ f. f.image_root) first ≡ number_of (λ f. f.image_root) second) × (number_of (λ f. f.targets_version) first ≡ number_of (λ f. f.targets_version) second)
+  own = own_alike _ _ _ _ (sym one.tables.image_repository ∙ two.tables.image_repository)
+
   director_alike : AreListedAlike Director first second
   director_alike = λ name. sym (one.tables.files.parts (codes "director") name) ∙ two.tables.files.parts (codes "director") name
 
@@ -209,19 +216,17 @@ module _ (law : CanonIsRead) (tell : RowsTellTheState) (k : Rules) (s t : State)
   image_alike = λ name. sym (one.tables.files.parts (codes "image") name) ∙ two.tables.files.parts (codes "image") name
 
   director_texts : s.director.texts ≡ t.director.texts
-  director_texts = one_texts Director first second (sym (counted first.founding first.director first.image one.last).0 ∙ numbers.0 ∙ (counted second.founding second.director second.image two.last).0) sound.repositories.root_limit director_alike
+  director_texts = one_texts Director first second (sym (counted first.founding first.director first.image one.last).0 ∙ numbers.0 ∙ (counted second.founding second.director second.image two.last).0) sound.repositories.director_limit director_alike
 
   image_texts : s.image.texts ≡ t.image.texts
   image_texts =
-      let same = sound.repositories.same_number in
-      let limit = sound.repositories.root_limit in
-      one_texts Image first second (sym (counted first.founding first.director first.image one.last).1 ∙ numbers.0 ∙ (counted second.founding second.director second.image two.last).1) (omega (arith, same, limit)) image_alike
+      one_texts Image first second (sym (counted first.founding first.director first.image one.last).1 ∙ own.0 ∙ (counted second.founding second.director second.image two.last).1) sound.repositories.image_limit_of_roots image_alike
 
   files : s.files ≡ t.files
   files = same_texts first second image_alike
 
   founding : first.founding ≡ second.founding
-  founding = one_founding first.founding second.founding (founded s ∙ ap is_some files ∙ sym (founded t)) numbers.0 numbers.1 numbers.2 (sym one.tables.role_keys.every ∙ two.tables.role_keys.every) one.typed.founding two.typed.founding
+  founding = one_founding first.founding second.founding (founded s ∙ ap is_some files ∙ sym (founded t)) numbers.0 numbers.1 numbers.2 own.0 own.1 (sym one.tables.role_keys.every ∙ two.tables.role_keys.every) one.typed.founding two.typed.founding
 
   director : s.director ≡ t.director
   director = sym (ap (λ (x : State). x.director) (tell k s sound)) ∙ ap₂ (λ (f : Option Founding) (texts : List (List ℕ)). chain_of_rows (λ f. f.keys.director) f texts) founding director_texts ∙ ap (λ (x : State). x.director) (tell k t also)
@@ -251,8 +256,11 @@ module _ (law : CanonIsRead) (tell : RowsTellTheState) (k : Rules) (s t : State)
   image_version : s.image_version ≡ t.image_version
   image_version = sym (ap (λ (x : State). x.image_version) (tell k s sound)) ∙ numbers.1 ∙ ap (λ (x : State). x.image_version) (tell k t also)
 
+  targets_version : s.targets_version ≡ t.targets_version
+  targets_version = sym (ap (λ (x : State). x.targets_version) (tell k s sound)) ∙ own.1 ∙ ap (λ (x : State). x.targets_version) (tell k t also)
+
   stamp : s.stamp ≡ t.stamp
   stamp = sym (ap (λ (x : State). x.stamp) (tell k s sound)) ∙ numbers.2 ∙ ap (λ (x : State). x.stamp) (tell k t also)
 
   pub one_state : s ≡ t
-  one_state = λ i. record { director = director i; image = image i; files = files i; images = images i; image_version = image_version i; stamp = stamp i; campaigns = campaigns i; vehicles = vehicles i }
+  one_state = λ i. record { director = director i; image = image i; files = files i; images = images i; image_version = image_version i; targets_version = targets_version i; stamp = stamp i; campaigns = campaigns i; vehicles = vehicles i }

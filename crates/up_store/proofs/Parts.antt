@@ -9,7 +9,7 @@ use Rattle.up_roles.specs.declared.repository.Repository.TheVariants.{Director, 
 use Rattle.up_rows.specs.StateRows.{StateRows}
 use Rattle.up_store.specs.Lines.{image_lines, kept_line, repository_lines}
 use Rattle.up_store.specs.Puts.{with_key_lines, with_numbers}
-use Rattle.up_store.specs.Shown.{meta_told}
+use Rattle.up_store.specs.Shown.{numbers_told}
 use Rattle.up_tables.specs.Listed.{TableRows}
 use Rattle.up_tables.specs.Rows.{changed_at, with_row}
 
@@ -22,11 +22,11 @@ abbrev pub last_found : Name → StateRows → Option ℕ
 last_found vehicle rows = option_map (λ v. v.vehicle.last) (table.get rows.vehicles vehicle)
 
 abbrev pub with_founding : Founding → TableRows → TableRows
-with_founding f = with_numbers (meta_told (Some f))
+with_founding f = with_numbers (numbers_told (Some f))
 
--- those of the founding's root version
+-- those of the founding's root versions
 abbrev pub with_keys : Founding → TableRows → TableRows
-with_keys f = with_key_lines (repository_lines f.root Director f.keys.director ++ repository_lines f.root Image f.keys.image)
+with_keys f = with_key_lines (repository_lines f.root Director f.keys.director ++ repository_lines f.image_root Image f.keys.image)
 
 -- one more image
 abbrev pub with_image_line : ImageData → TableRows → TableRows

@@ -139,5 +139,7 @@ puts_replaced (Ok x) new before mid after first second typed was_open = λ rows 
         kept = t.kept;
         retired = t.retired;
         sha512s = t.sha512s;
+        image_repository = t.image_repository;
+        shut_out = t.shut_out;
       };
     })

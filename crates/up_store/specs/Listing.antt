@@ -10,7 +10,7 @@ use Rattle.up_machine.specs.declared.rows.Founding.{Founding}
 use Rattle.up_rows.specs.StateRows.{StateRows, rows_of_state}
 use Rattle.up_rows.specs.Lookups.{text_held}
 use Rattle.up_tables.specs.declared.open.SchemaVersion.{SchemaVersion}
-use Rattle.up_tables.specs.declared.open.SchemaVersion.TheVariants.{Three}
+use Rattle.up_tables.specs.declared.open.SchemaVersion.TheVariants.{Four}
 use Rattle.up_tables.specs.Listed.{TableRows}
 use Rattle.up_tables.specs.Versions.{ListsAs}
 use Rattle.up_store.specs.Lines.{founding_number, repository_word, founding_lines, file_lines, image_lines, campaign_lines}
@@ -32,12 +32,14 @@ files_lines rows word name =
 -- of the founding, the numbers and the keys of the last root version, in order; of each repository and filename the text that is
 -- served, or none; of each image, campaign and vehicle by its name one row, or none; of each image's second hash one row, or none; of
 -- each vehicle its ECUs in inventory order, its accepted manifests in the order of acceptance, and its replaced ECUs in the order of
--- their replacement.
+-- their replacement. No vehicle is shut out.
 abbrev pub table_rows : StateRows → TableRows
 table_rows rows = record {
   root = founding_number (λ f. f.root) rows.founding;
   image_version = founding_number (λ f. f.image_version) rows.founding;
   stamp = founding_number (λ f. f.stamp) rows.founding;
+  image_root = founding_number (λ f. f.image_root) rows.founding;
+  targets_version = founding_number (λ f. f.targets_version) rows.founding;
   role_keys = founding_lines rows.founding;
   files = files_lines rows;
   images = λ name. image_lines (table.get rows.images name);
@@ -47,6 +49,7 @@ table_rows rows = record {
   kept = λ name. map kept_line (rows.kept name);
   retired = λ name. retired_lines name (rows.retired name);
   sha512s = λ name. sha512_lines name (second_hash (table.get rows.images name));
+  shut_out = λ name. [];
 }
 
 -- the tables of a version of the schema list the rows of a state
@@ -57,7 +60,7 @@ pub record ListsRowsAs (version : SchemaVersion) (rows : StateRows) (trees : Tre
 
 -- so do those of this product's
 abbrev pub ListsRows : StateRows → Trees → Type 0
-ListsRows rows trees = ListsRowsAs Three rows trees
+ListsRows rows trees = ListsRowsAs Four rows trees
 
 -- the tables show the state: they list its rows
 abbrev pub ShowsState : State → Trees → Type 0

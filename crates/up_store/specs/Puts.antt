@@ -12,9 +12,8 @@ use Rattle.up_machine.specs.declared.decision.RootRows.{RootRows}
 use Rattle.up_machine.specs.declared.rows.Kept.{Kept}
 use Rattle.up_machine.specs.declared.rows.VehicleRows.{VehicleRows}
 use Rattle.up_rows.specs.StateRows.{StateRows}
-use Rattle.up_tables.specs.declared.meta.MetaRow.{MetaRow}
 use Rattle.up_tables.specs.declared.role_key.RoleKeyRow.{RoleKeyRow}
-use Rattle.up_tables.specs.Forms.{FitMeta, FitRoleKey, role_key_row}
+use Rattle.up_tables.specs.Forms.{FitImageRepository, FitMeta, FitRoleKey, role_key_row}
 use Rattle.up_tables.specs.Lines.{EcuLine, ecu_row, vehicle_line, AreSameEcus, AreDistinct, set_ecus}
 use Rattle.up_tables.specs.Listed.{TableRows, ListsTables}
 use Rattle.up_tables.specs.Rows.{changed_at, with_only}
@@ -25,10 +24,11 @@ use Rattle.up_columns.specs.PlanColumns.{plan_column}
 use Rattle.up_columns.specs.Typed.{is_typed_item, is_typed_need, is_typed_plan, is_typed_reach}
 use Rattle.up_store.specs.declared.files.ServedFile.{ServedFile}
 use Rattle.up_store.specs.declared.image_rows.ImageColumns.{ImageColumns}
+use Rattle.up_store.specs.declared.numbers.Numbers.{Numbers}
 use Rattle.up_store.specs.Fitting.{IsRecorded}
 use Rattle.up_store.specs.Lines.{repository_lines, set_lines, sha512_lines, ecu_lines}
 use Rattle.up_store.specs.Listing.{ListsRows}
-use Rattle.up_store.specs.Shown.{meta_told}
+use Rattle.up_store.specs.Shown.{numbers_told}
 use Rattle.up_store.specs.Typed.{IsTypedFounding}
 use Rattle.up_store.specs.Writes.{FitsAccepted, FitsVehicle}
 
@@ -39,15 +39,21 @@ pub record IsMadeOfKept (new : Kept) (plan : List ℕ) : Type 0 where
   pub version : new.version < 2 ^ 63
   pub root : new.root < 2 ^ 63
 
--- the founding's numbers, rows of keys, and the name of the Root files, made of a root version
-pub record AreMadeOfRoot (new : RootRows) (numbers : MetaRow) (keys : List RoleKeyRow) (name : Name) : Type 0 where
-  pub numbers_are : numbers ≡ meta_told (Some new.founding)
-  pub fit_numbers : FitMeta numbers
+-- numbers that fit their columns
+pub record FitNumbers (numbers : Numbers) : Type 0 where
+  pub meta : FitMeta numbers.meta
+  pub own : FitImageRepository numbers.own
+
+-- the founding's numbers, rows of keys, and the names of the Root files of both repositories, made of a root version
+pub record AreMadeOfRoot (new : RootRows) (numbers : Numbers) (keys : List RoleKeyRow) (name image_name : Name) : Type 0 where
+  pub numbers_are : numbers ≡ numbers_told (Some new.founding)
+  pub fit_numbers : FitNumbers numbers
   pub typed : IsTypedFounding new.founding
   pub keys_are : map role_key_row keys ≡ repository_lines new.founding.root Director new.founding.keys.director
-      ++ repository_lines new.founding.root Image new.founding.keys.image
+      ++ repository_lines new.founding.image_root Image new.founding.keys.image
   pub fit : All FitRoleKey keys
   pub name_is : name ≡ numbered_root_name new.founding.root
+  pub image_name_is : image_name ≡ numbered_root_name new.founding.image_root
 
 -- the columns of an image's lists, and those of a campaign, of names and filenames
 pub record IsMadeOfImage (new : ImageData) (of_hardware of_needs of_conflicts : List ℕ) : Type 0 where
@@ -69,8 +75,15 @@ pub record IsMadeOfCampaign (new : CampaignData) (of_reach of_items : List ℕ) 
   pub typed_items : list_all is_typed_item new.items ≡ true
 
 -- the founding's numbers
-abbrev pub with_numbers : MetaRow → TableRows → TableRows
-with_numbers m rows = record rows { root = m.root; image_version = m.image_version; stamp = m.stamp }
+abbrev pub with_numbers : Numbers → TableRows → TableRows
+with_numbers n rows =
+    record rows {
+      root = n.meta.root;
+      image_version = n.meta.image_version;
+      stamp = n.meta.stamp;
+      image_root = n.own.root;
+      targets_version = n.own.targets;
+    }
 
 -- no other keys than these
 abbrev pub with_key_lines : List Row → TableRows → TableRows

@@ -25,18 +25,19 @@ use Rattle.up_store.specs.declared.campaign_rows.CampaignShown.{CampaignShown}
 use Rattle.up_store.specs.declared.image_rows.ImageShown.{ImageShown}
 use Rattle.up_store.specs.declared.files.ServedFile.{ServedFile}
 use Rattle.up_store.specs.declared.second_hashes.SecondHash.{SecondHash}
+use Rattle.up_tables.specs.declared.image_repository.ImageRepositoryRow.{ImageRepositoryRow}
 use Rattle.up_tables.specs.declared.meta.MetaRow.{MetaRow}
 use Rattle.up_store.specs.declared.keys.RoleKey.{RoleKey}
 use Rattle.up_tables.specs.Ecus.{owns}
-use Rattle.up_tables.specs.Forms.{FitMeta, campaign_places, file_places, image_places, keys_shown, kept_places, running_shown}
+use Rattle.up_tables.specs.Forms.{FitImageRepository, FitMeta, campaign_places, file_places, image_places, keys_shown, kept_places, running_shown}
 use Rattle.up_tables.specs.Forms.{sha512_places, vehicle_places}
-use Rattle.up_tables.specs.Found.{ReadsByPlace, meta_shown}
+use Rattle.up_tables.specs.Found.{ReadsByPlace, image_repository_shown, meta_shown}
 use Rattle.up_tables.specs.Kinds.{IsText}
 use Rattle.up_tables.specs.Rows.{columns_at, has_number, has_text}
 use Rattle.up_tables.specs.Lines.{yes_or_no}
 use Rattle.up_tables.specs.Stands.{HasTables, Lists, ListsAll}
 use Rattle.up_tables.specs.Stored.{EachSays}
-use Rattle.up_tables.specs.Tables.{meta_table, role_key_table}
+use Rattle.up_tables.specs.Tables.{image_repository_table, meta_table, role_key_table}
 use Rattle.up_store.specs.Shown.{IsFoundingOf, reported_sha512}
 
 -- ---- one row
@@ -142,6 +143,12 @@ pub record SaysNumbers (row : Row) (read : MetaRow) : Type 0 where
   pub image_version : column row 1 ≡ Int (pos read.image_version)
   pub stamp : column row 2 ≡ Int (pos read.stamp)
   pub fit : FitMeta read
+
+-- the row says these numbers of the image repository, likewise
+pub record SaysOwn (row : Row) (read : ImageRepositoryRow) : Type 0 where
+  pub root : column row 0 ≡ Int (pos read.root)
+  pub targets : column row 1 ≡ Int (pos read.targets)
+  pub fit : FitImageRepository read
 
 -- ---- rows of a table, one after another
 
@@ -269,16 +276,33 @@ FindsNumbers told old new result =
     HasCleanDisk new → IfOk result (λ found. HasTables old
     → (row : MetaRow) × EachSays SaysNumbers (meta_shown (old.now.trees meta_table.tree)) (row ∷ []) × told row found)
 
--- none where its root version is 0, else the founding of these numbers and of the keys of that version
-abbrev pub ReadsFounding : MetaRow → List Row → Option Founding → Type 0
-ReadsFounding row all read =
-    MatchOption read (row.root ≡ 0) (λ founding. (row.root ≢ 0) × (keys : List RoleKey)
-    × EachSays SaysKey (keys_shown row.root all) keys × IsFoundingOf row keys (Some founding))
+-- the row of `image_repository` is there, and says these numbers
+abbrev pub FindsOwn : {E : Type 0} → Connected → Connected → Result ImageRepositoryRow E → Type 0
+FindsOwn old new result =
+    HasCleanDisk new
+    → IfOk result (λ found. HasTables old → EachSays SaysOwn (image_repository_shown (old.now.trees image_repository_table.tree)) (found ∷ []))
+
+-- none where its root version is 0, else the founding of these numbers, of the image repository's own, and of all keys
+abbrev pub ReadsKeyed : MetaRow → ImageRepositoryRow → List Row → Option Founding → Type 0
+ReadsKeyed row own all read =
+    MatchOption read ⊥ (λ founding. (keys : List RoleKey) × EachSays SaysKey (keys_shown all) keys × IsFoundingOf row own keys (Some founding))
+
+abbrev pub ReadsFounding : MetaRow → List Row → List Row → Option Founding → Type 0
+ReadsFounding row own_rows all read =
+    MatchOption read (row.root ≡ 0) (λ founding. (row.root ≢ 0) × (own : ImageRepositoryRow)
+    × EachSays SaysOwn own_rows (own ∷ []) × ReadsKeyed row own all (Some founding))
+
+-- of a row of `meta` it is told by the row of `image_repository`, and by the rows of keys
+abbrev pub FindsFounded : {E : Type 0} → MetaRow → Connected → Connected → Result (Option Founding) E → Type 0
+FindsFounded row old new result =
+    HasCleanDisk new → IfOk result (λ read. (all : List Row) → HasTables old → ListsAll all (old.now.trees role_key_table.tree)
+    → ReadsFounding row (image_repository_shown (old.now.trees image_repository_table.tree)) all read)
 
 -- it is told by its numbers, and by the rows of keys
 abbrev pub FindsFounding : {E : Type 0} → Connected → Connected → Result (Option Founding) E → Type 0
 FindsFounding old =
-    FindsNumbers (λ row read. (all : List Row) → ListsAll all (old.now.trees role_key_table.tree) → ReadsFounding row all read) old
+    FindsNumbers (λ row read. (all : List Row) → ListsAll all (old.now.trees role_key_table.tree)
+    → ReadsFounding row (image_repository_shown (old.now.trees image_repository_table.tree)) all read) old
 
 -- the text of the file of this name is what its row says
 abbrev pub ReadsFile : Name → Name → (List ℕ → List ℕ → List Row) → Option (List ℕ) → Type 0

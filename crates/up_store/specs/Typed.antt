@@ -1,7 +1,7 @@
 -- What the types of rows say of them: each stands under its own name, its names, counts, moments and hashes are such, its members are within
 -- their limits and its texts in UTF-8, what is kept as JSON can be read again, the text of an ECU's last report has the second hash of the
 -- installed image, and an ECU was replaced in a vehicle that is there.
-use Rattle.std.specs.Prelude.{◌≡◌, ◌≤◌, ◌<◌, ◌^◌, [], Some, None, IfSome, IsUtf8, true, length}
+use Rattle.std.specs.Prelude.{◌≡◌, ◌⊎◌, ◌≤◌, ◌<◌, ◌^◌, [], Some, None, IfSome, IsUtf8, true, length}
 use Rattle.std.specs.List.{AllByRecursion, list_all}
 use Rattle.std.specs.FinMap as table
 use Rattle.up_canon.specs.Canon.{max_count}
@@ -14,6 +14,7 @@ use Rattle.up_metadata.specs.declared.keys.RoleSecrets.{RoleSecrets}
 use Rattle.up_metadata.specs.declared.keys.RepoKeys.{RepoKeys}
 use Rattle.up_metadata.specs.declared.keys.KeySet.{KeySet}
 use Rattle.up_metadata.specs.declared.role_files.RoleTexts.{RoleTexts}
+use Rattle.up_machine.specs.State.{no_role}
 use Rattle.up_machine.specs.declared.rows.VehicleRow.{VehicleRow}
 use Rattle.up_machine.specs.declared.rows.VehicleRows.{VehicleRows}
 use Rattle.up_machine.specs.declared.rows.EcuRow.{EcuRow}
@@ -30,9 +31,9 @@ use Rattle.up_columns.specs.Typed.{is_typed_need, is_typed_item, is_typed_reach,
 
 -- ---- keys
 
--- each role has a key: a threshold stands in the rows of keys alone
+-- a role has a key, or nothing at all is held of it: a threshold stands in the rows of keys alone
 abbrev pub HasKeys : RoleSecrets → Type 0
-HasKeys role = 1 ≤ length role.keys
+HasKeys role = (1 ≤ length role.keys) ⊎ (role ≡ no_role)
 
 pub record HaveKeys (keys : RepoKeys) : Type 0 where
   pub root : HasKeys keys.root

@@ -16,7 +16,7 @@ use Rattle.up_rows.specs.Changes.{with_root_rows, with_register_rows, with_image
 use Rattle.up_rows.specs.Changes.{with_campaign_row, with_accepted_rows}
 use Rattle.up_rows.specs.StateRows.{StateRows}
 use Rattle.up_tables.specs.Lines.{retired_line}
-use Rattle.up_tables.specs.Texts.{insert_image_text, insert_sha512_text, insert_campaign_text, close_campaign_text, insert_vehicle_text}
+use Rattle.up_tables.specs.Texts.{update_image_repository_text, insert_image_text, insert_sha512_text, insert_campaign_text, close_campaign_text, insert_vehicle_text}
 use Rattle.up_tables.specs.Texts.{insert_retired_text, insert_kept_text, update_meta_text, replace_ecu_text, insert_ecu_text, update_ecu_text}
 use Rattle.up_tables.specs.Texts.{delete_role_keys_text, insert_role_key_text, upsert_file_text, upsert_vehicle_text}
 use Rattle.up_tables.specs.Tried.{Makes, RefusesOne}
@@ -32,14 +32,16 @@ abbrev pub each_with : List ℕ → List Row → List (List ℕ × Row)
 each_with text rows = map (λ values. (text, values)) rows
 
 abbrev pub founding_writes : Founding → List (List ℕ × Row)
-founding_writes f = each_with update_meta_text ((Int (pos f.root) ∷ Int (pos f.image_version) ∷ Int (pos f.stamp) ∷ []) ∷ [])
+founding_writes f =
+    (update_meta_text, Int (pos f.root) ∷ Int (pos f.image_version) ∷ Int (pos f.stamp) ∷ [])
+    ∷ (update_image_repository_text, Int (pos f.image_root) ∷ Int (pos f.targets_version) ∷ []) ∷ []
 
 -- all keys that were there go, and these come
 abbrev pub key_line_writes : List Row → List (List ℕ × Row)
 key_line_writes lines = (delete_role_keys_text, []) ∷ each_with insert_role_key_text lines
 
 abbrev pub key_writes : Founding → List (List ℕ × Row)
-key_writes f = key_line_writes (repository_lines f.root Director f.keys.director ++ repository_lines f.root Image f.keys.image)
+key_writes f = key_line_writes (repository_lines f.root Director f.keys.director ++ repository_lines f.image_root Image f.keys.image)
 
 abbrev pub file_writes : List ServedFile → List (List ℕ × Row)
 file_writes files = each_with upsert_file_text (map file_row files)
@@ -90,7 +92,9 @@ replace_writes new =
 
 pub record FitsFounding (new : Founding) : Type 0 where
   pub root : new.root < 2 ^ 63
+  pub image_root : new.image_root < 2 ^ 63
   pub image_version : new.image_version < 2 ^ 63
+  pub targets_version : new.targets_version < 2 ^ 63
 
 -- the version, and the places of the ECUs
 pub record FitsVehicle (new : VehicleRows) : Type 0 where

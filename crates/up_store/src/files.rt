@@ -81,16 +81,21 @@ pub fn root_name(alloc: Global, number: u64) -> Result<String, AllocError>
     format!(in alloc; "{number}.root.json")
 }
 
-/// The rows of the Root files of a new version, which is the latest, too; the name is that of its number.
-pub fn root_files<'a>(new: &'a RootRows, name: &'a str) -> [FileRow<'a>; 4]
+/// The rows of the Root files of a new version, which is the latest, too; the names are those of each repository's number.
+pub fn root_files<'a>(
+    new: &'a RootRows,
+    name: &'a str,
+    image_name: &'a str,
+) -> [FileRow<'a>; 4]
     requires name { name.now ≡ numbered_root_name new.now.founding.root }
+    requires image_name { image_name.now ≡ numbered_root_name new.now.founding.image_root }
     ensures same { map file_read result ≡ root_file_lines new.now }
     ensures typed { IsUtf8 new.now.director × IsUtf8 new.now.image }
 {
     [
         file_of(Repository::Director, name, &new.director),
         file_of(Repository::Director, "root.json", &new.director),
-        file_of(Repository::Image, name, &new.image),
+        file_of(Repository::Image, image_name, &new.image),
         file_of(Repository::Image, "root.json", &new.image),
     ]
 }

@@ -2,7 +2,7 @@
 ghost use Rattle.std.specs.Prelude.{◌≡◌, ◌<◌, ◌^◌, ◌++◌, ◌∷◌, [], pos, All, Some, OnOk, IfOk, map, codes};
 ghost use Rattle.sqlite.specs.declared.types.Value.TheVariants as Value;
 ghost use Rattle.up_roles.specs.declared.repository.Repository.TheVariants.{Director, Image};
-ghost use Rattle.std.specs.Prelude.{◌≤◌, ℕ, IfErr};
+ghost use Rattle.std.specs.Prelude.{◌≤◌, IfErr, unwrap_or};
 ghost use Rattle.up_tables.specs.declared.values.StoreFault.TheVariants.{Memory, Store};
 ghost use Rattle.up_tables.specs.Forms.{FitRoleKey, role_key_row};
 ghost use Rattle.up_metadata.specs.declared.keys.KeySet.{KeySet as Keys};
@@ -77,17 +77,22 @@ pub fn repository_word(repository: Repository) -> &'static str
 
 // ---- read
 
-/// The keys of both repositories among the rows of a root version; where the rows are of such keys, `Memory` is the one fault.
-pub fn read_keys(alloc: Global, rows: &[RoleKey]) -> Result<KeySet, StoreFault>
-    ensures director { IfOk result (λ keys. AreKeysOf (codes "director") rows.now keys.director) }
-    ensures image { IfOk result (λ keys. AreKeysOf (codes "image") rows.now keys.image) }
-    ensures fault { (keys : Keys) → AreKeysOf (codes "director") rows.now keys.director → AreKeysOf
-        (codes "image") rows.now keys.image → AreTypedKeys keys.director → AreTypedKeys keys.image → IfErr result
-        (λ fault. fault ≡ Memory) }
+/// The keys of both repositories among these rows, of these root versions; where the rows are of such keys, `Memory` is the one fault.
+pub fn read_keys(
+    alloc: Global,
+    rows: &[RoleKey],
+    root: u64,
+    image_root: u64,
+) -> Result<KeySet, StoreFault>
+    ensures director { IfOk result (λ keys. AreKeysOf root (codes "director") rows.now keys.director) }
+    ensures image { IfOk result (λ keys. AreKeysOf image_root (codes "image") rows.now keys.image) }
+    ensures fault { (keys : Keys) → AreKeysOf root (codes "director") rows.now keys.director → AreKeysOf
+        image_root (codes "image") rows.now keys.image → AreTypedKeys keys.director → AreTypedKeys keys.image → IfErr
+        result (λ fault. fault ≡ Memory) }
 {
     Ok(KeySet {
-        director: read_repository(alloc, rows, "director")?,
-        image: read_repository(alloc, rows, "image")?,
+        director: read_repository(alloc, rows, root, "director")?,
+        image: read_repository(alloc, rows, image_root, "image")?,
     })
 }
 
@@ -95,74 +100,82 @@ pub fn read_keys(alloc: Global, rows: &[RoleKey]) -> Result<KeySet, StoreFault>
 fn read_repository(
     alloc: Global,
     rows: &[RoleKey],
+    root: u64,
     repository: &str,
 ) -> Result<RepoKeys, StoreFault>
-    ensures ok { IfOk result (λ keys. AreKeysOf repository.now rows.now keys) }
-    ensures fault { (keys : Repo) → AreKeysOf repository.now rows.now keys → AreTypedKeys keys → IfErr result
+    ensures ok { IfOk result (λ keys. AreKeysOf root repository.now rows.now keys) }
+    ensures fault { (keys : Repo) → AreKeysOf root repository.now rows.now keys → AreTypedKeys keys → IfErr result
         (λ fault. fault ≡ Memory) }
 {
     Ok(RepoKeys {
-        root: read_role(alloc, rows, repository, "root")?,
-        targets: read_role(alloc, rows, repository, "targets")?,
-        snapshot: read_role(alloc, rows, repository, "snapshot")?,
-        timestamp: read_role(alloc, rows, repository, "timestamp")?,
+        root: read_role(alloc, rows, root, repository, "root")?,
+        targets: read_role(alloc, rows, root, repository, "targets")?,
+        snapshot: read_role(alloc, rows, root, repository, "snapshot")?,
+        timestamp: read_role(alloc, rows, root, repository, "timestamp")?,
     })
 }
 
-/// The keys of a role among these rows; `Store` where it has none, else `Memory` is the one fault.
+/// The keys of a role among these rows; `Memory` is the one fault where its threshold is a number of 32 bits.
 fn read_role(
     alloc: Global,
     rows: &[RoleKey],
+    root: u64,
     repository: &str,
     role: &str,
 ) -> Result<RoleSecrets, StoreFault>
-    ensures ok { IfOk result (λ keys. IsRoleOf repository.now role.now rows.now keys) }
-    ensures fault { (keys : Role) → IsRoleOf repository.now role.now rows.now keys → IsTypedRole keys → IfErr result
-        (λ fault. fault ≡ Memory) }
+    ensures ok { IfOk result (λ keys. IsRoleOf root repository.now role.now rows.now keys) }
+    ensures fault { (keys : Role) → IsRoleOf root repository.now role.now rows.now keys → IsTypedRole keys → IfErr
+        result (λ fault. fault ≡ Memory) }
 {
     Ok(RoleSecrets {
-        keys: read_secrets(alloc, rows, repository, role)?,
-        threshold: read_threshold(rows, repository, role)?,
+        keys: read_secrets(alloc, rows, root, repository, role)?,
+        threshold: read_threshold(rows, root, repository, role)?,
     })
 }
 
-/// Whether the row is of this role.
-fn is_key(row: &RoleKey, repository: &str, role: &str) -> bool
-    ensures { result ≡ is_key_of repository.now role.now row.now }
+/// Whether the row is of this role, in this root version.
+fn is_key(row: &RoleKey, root: u64, repository: &str, role: &str) -> bool
+    ensures { result ≡ is_key_of root repository.now role.now row.now }
 {
-    row.repository.as_str() == repository && row.role.as_str() == role
+    row.repository.as_str() == repository && row.role.as_str() == role && row.root == root
 }
 
 /// The secrets of a role, in the order of the rows.
 fn read_secrets(
     alloc: Global,
     rows: &[RoleKey],
+    root: u64,
     repository: &str,
     role: &str,
 ) -> Result<Listed<Bytes>, AllocError>
-    ensures { IfOk result (λ keys. keys ≡ secrets_of repository.now role.now rows.now) }
+    ensures { IfOk result (λ keys. keys ≡ secrets_of root repository.now role.now rows.now) }
 {
     let mut keys = Vec::new(alloc);
     for row in rows {
-        if is_key(row, repository, role) {
+        if is_key(row, root, repository, role) {
             keys.push(Bytes::new(row.secret.as_slice().to_vec(alloc)?))?;
         }
     }
     Ok(Listed::new(keys))
 }
 
-/// The threshold of a role, as its first row has it.
-fn read_threshold(rows: &[RoleKey], repository: &str, role: &str) -> Result<u32, StoreFault>
-    ensures ok { IfOk result (λ n. threshold_of repository.now role.now rows.now ≡ Some n) }
+/// The threshold of a role, as its first row has it; 0 of a role that has none.
+fn read_threshold(
+    rows: &[RoleKey],
+    root: u64,
+    repository: &str,
+    role: &str,
+) -> Result<u32, StoreFault>
+    ensures ok { IfOk result (λ n. unwrap_or (threshold_of root repository.now role.now rows.now) 0 ≡ n) }
     ensures fault { IfErr result (λ fault. (fault ≡ Store) ×
-        ((n : ℕ) → threshold_of repository.now role.now rows.now ≡ Some n → 2 ^ 32 ≤ n)) }
+        (2 ^ 32 ≤ unwrap_or (threshold_of root repository.now role.now rows.now) 0)) }
 {
     for row in rows {
-        if is_key(row, repository, role) {
+        if is_key(row, root, repository, role) {
             return threshold_in(row.threshold);
         }
     }
-    Err(StoreFault::Store)
+    Ok(0)
 }
 
 // ---- made
@@ -183,20 +196,22 @@ fn keeps_threshold(role: &RoleSecrets) -> u32
     role.threshold
 }
 
-/// The rows of the keys of a root version.
+/// The rows of the keys of a root version of each repository, the Director's first.
 pub fn make_keys<'a>(
     alloc: Global,
     root: u64,
+    image_root: u64,
     keys: &'a KeySet,
 ) -> Result<Vec<RoleKeyRow<'a>>, AllocError>
     requires root { root < 2 ^ 63 }
+    requires image_root { image_root < 2 ^ 63 }
     ensures rows { IfOk result (λ made. map role_key_row made.items
-        ≡ repository_lines root Director keys.now.director ++ repository_lines root Image keys.now.image) }
+        ≡ repository_lines root Director keys.now.director ++ repository_lines image_root Image keys.now.image) }
     ensures fit { IfOk result (λ made. All FitRoleKey made.items) }
 {
     let mut made = Vec::new(alloc);
     make_repository(root, Repository::Director, &keys.director, &mut made)?;
-    make_repository(root, Repository::Image, &keys.image, &mut made)?;
+    make_repository(image_root, Repository::Image, &keys.image, &mut made)?;
     Ok(made)
 }
 

@@ -1,5 +1,5 @@
 //! Root versions and the files that are served.
-ghost use Rattle.std.specs.Prelude.{◌≡◌, ◌==◌, ◌<◌, ◌^◌, ⊤, not, All, Option, Some, IfErr, IfOk, is_some, map, option_map};
+ghost use Rattle.std.specs.Prelude.{◌≡◌, ◌≢◌, ◌==◌, ◌<◌, ◌^◌, ⊤, not, All, Option, Some, IfErr, IfOk, is_some, map, option_map};
 ghost use Rattle.up_machine.specs.declared.rows.Founding.{Founding as FoundingData};
 ghost use Rattle.up_rows.specs.Changes.{with_root_rows, with_register_rows};
 ghost use Rattle.up_rows.specs.Lookups.{text_held};
@@ -11,8 +11,8 @@ ghost use Rattle.up_store.specs.Connections.{PutsRows, PutsTables};
 ghost use Rattle.up_store.specs.Fitting.{IsNextRoot, IsSameRoot};
 ghost use Rattle.up_store.specs.Lines.{repository_word as word_of};
 ghost use Rattle.up_store.specs.Puts.{AreMadeOfRoot, HasFilesOnce, with_files, with_key_lines};
-ghost use Rattle.up_store.specs.ReadAs.{FindsFounding, FindsNumbers, ReadsFile, ReadsFounding};
-ghost use Rattle.up_store.specs.Shown.{file_read, meta_told, IsFoundingOf};
+ghost use Rattle.up_store.specs.ReadAs.{FindsFounded, FindsFounding, FindsNumbers, ReadsFile, ReadsKeyed};
+ghost use Rattle.up_store.specs.Shown.{file_read, meta_told, own_told, IsFoundingOf};
 ghost use Rattle.up_store.specs.Typed.{IsTypedFounding};
 ghost use Rattle.up_store.specs.Within.{FindsWithin, MakesAndPuts, PutsWithin};
 ghost use Rattle.up_store.specs.Writes.{FitsFounding, file_writes, key_line_writes, register_writes, root_writes};
@@ -20,7 +20,7 @@ ghost use Rattle.up_store.specs.Writes.{FitsFounding, file_writes, key_line_writ
 use crate::column_values::moment_in;
 use crate::files::{FileReading, ServedFile, role_files, root_files, root_name};
 use crate::keys::{KeyReading, RoleKey, make_keys, read_keys, repository_word};
-use crate::numbers::{find_numbers, make_numbers, put_numbers};
+use crate::numbers::{Numbers, find_numbers, find_own_numbers, make_numbers, put_numbers};
 use crate::store::StoreFault;
 use sqlite::{Alter, Transaction};
 use std::alloc::Global;
@@ -29,9 +29,10 @@ use up_canon::text::Text;
 use up_machine::decision::{RegisterRows, RootRows};
 use up_machine::rows::Founding;
 use up_roles::repository::Repository;
+use up_tables::image_repository::ImageRepositoryRow;
 use up_tables::meta::MetaRow;
 use up_tables::repo_file::{FileRow, file, upsert_files};
-use up_tables::role_key::{RoleKeyRow, replace_role_keys, role_keys_of};
+use up_tables::role_key::{RoleKeyRow, replace_role_keys, role_keys};
 
 /// The founding.
 pub fn find_founding<D: Alter>(
@@ -67,16 +68,33 @@ fn find_founded<D: Alter>(
     alloc: Global,
     row: MetaRow,
 ) -> Result<Option<Founding>, StoreFault>
-    requires root { row.root < 2 ^ 63 }
     ensures { WhereOpen D.Store tx.old.conn (FindsWithin D.Store (λ rows found. row ≡ meta_told rows.founding
-        → found ≡ rows.founding) (FindsAll role_key_table (ReadsFounding row)) (λ rows. row ≡ meta_told rows.founding)
+        → found ≡ rows.founding) (FindsFounded row) (λ rows. row ≡ meta_told rows.founding)
         tx.old.conn tx.new.conn result) }
 {
     if row.root == 0 {
         return Ok(None);
     }
-    match role_keys_of::<D, KeyReading>(tx, alloc, row.root) {
-        Ok(keys) => read_founding(alloc, row, keys.as_slice()),
+    match find_own_numbers(tx, alloc) {
+        Ok(own) => find_keyed(tx, alloc, row, own),
+        Err(fault) => Err(fault),
+    }
+}
+
+/// The founding whose numbers these are, and the Image repository's own.
+fn find_keyed<D: Alter>(
+    tx: &mut Transaction<'_, D>,
+    alloc: Global,
+    row: MetaRow,
+    own: ImageRepositoryRow,
+) -> Result<Option<Founding>, StoreFault>
+    requires founded { row.root ≢ 0 }
+    ensures { WhereOpen D.Store tx.old.conn (FindsWithin D.Store (λ rows found. row ≡ meta_told rows.founding
+        → own ≡ own_told rows.founding → found ≡ rows.founding) (FindsAll role_key_table (ReadsKeyed row own))
+        (λ rows. (row ≡ meta_told rows.founding) × (own ≡ own_told rows.founding)) tx.old.conn tx.new.conn result) }
+{
+    match role_keys::<D, KeyReading>(tx, alloc) {
+        Ok(keys) => read_founding(alloc, row, own, keys.as_slice()),
         Err(fault) => Err(fault),
     }
 }
@@ -85,17 +103,20 @@ fn find_founded<D: Alter>(
 fn read_founding(
     alloc: Global,
     row: MetaRow,
+    own: ImageRepositoryRow,
     keys: &[RoleKey],
 ) -> Result<Option<Founding>, StoreFault>
-    ensures found { IfOk result (λ read. IsFoundingOf row keys.now read) }
-    ensures fault { (told : Option FoundingData) (is : IsFoundingOf row keys.now told) → IsTypedFounding is.founding
-        → IfErr result (λ fault. fault ≡ StoreFault.Memory) }
+    ensures found { IfOk result (λ read. IsFoundingOf row own keys.now read) }
+    ensures fault { (told : Option FoundingData) (is : IsFoundingOf row own keys.now told) → IsTypedFounding
+        is.founding → IfErr result (λ fault. fault ≡ StoreFault.Memory) }
 {
     Ok(Some(Founding {
         stamp: moment_in(row.stamp)?,
         root: row.root,
-        keys: read_keys(alloc, keys)?,
+        image_root: own.root,
+        keys: read_keys(alloc, keys, row.root, own.root)?,
         image_version: row.image_version,
+        targets_version: own.targets,
     }))
 }
 
@@ -135,26 +156,35 @@ pub fn put_root<D: Alter>(
         (root_writes new.now) (λ _. FitsFounding new.now.founding) tx.old.conn tx.new.conn result }
 {
     let numbers = make_numbers(&new.founding)?;
-    let keys = make_keys(alloc, numbers.root, &new.founding.keys)?;
-    let name = root_name(alloc, numbers.root)?;
-    put_root_made(tx, new, &numbers, keys.as_slice(), name.as_str())
+    let keys = make_keys(alloc, numbers.meta.root, numbers.own.root, &new.founding.keys)?;
+    let name = root_name(alloc, numbers.meta.root)?;
+    let image_name = root_name(alloc, numbers.own.root)?;
+    put_root_made(
+        tx,
+        new,
+        &numbers,
+        keys.as_slice(),
+        name.as_str(),
+        image_name.as_str(),
+    )
 }
 
 /// The same with what was made of it, which takes no memory but the database's own.
 fn put_root_made<D: Alter>(
     tx: &mut Transaction<'_, D>,
     new: &RootRows,
-    numbers: &MetaRow,
+    numbers: &Numbers,
     keys: &[RoleKeyRow<'_>],
     name: &str,
+    image_name: &str,
 ) -> Result<(), StoreFault>
-    requires made { AreMadeOfRoot new.now numbers.now keys.now name.now }
+    requires made { AreMadeOfRoot new.now numbers.now keys.now name.now image_name.now }
     ensures { PutsWithin D.Store (PutsRows (IsNextRoot new.now) (λ rows. with_root_rows rows new.now))
         (root_writes new.now) (λ _. ⊤) tx.old.conn tx.new.conn result }
 {
     put_numbers(tx, numbers)?;
     put_keys(tx, keys)?;
-    put_files(tx, &root_files(new, name))?;
+    put_files(tx, &root_files(new, name, image_name))?;
     put_files(tx, &role_files(&new.files))
 }
 

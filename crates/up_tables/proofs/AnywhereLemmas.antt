@@ -1,4 +1,4 @@
--- Statements that make a table or set rows whatever tables there are, if they are statements there at all.
+-- Statements that make a table, or write rows, whatever tables there are, if they are statements there at all.
 use Rattle.std.proofs.Common.{◌≡◌, inl, inr, ℕ, List, [], ◌∷◌, ◌++◌, Bool, true, false, not, if◌then◌else◌, length, ◌==◌, ◌&&◌, Option, None, Ok, Err, Result, IsTrue, refl, sym, ap, subst, arith}
 use Rattle.std.proofs.Math.Dec.{leb}
 use Rattle.std.proofs.lemmas.Bool.{leb-true}
@@ -11,33 +11,32 @@ use Rattle.sqlite.specs.Order.{Row}
 use Rattle.sqlite.specs.Schema.{Schema}
 use Rattle.sqlite.specs.State.{State, HasCleanDisk, Survives, ExecutesInside, IsNoStatement, IsStatement}
 use Rattle.sqlite_ast.specs.declared.CreateTable.{CreateTable}
+use Rattle.sqlite_ast.specs.declared.Conflict.TheVariants as conflict
 use Rattle.sqlite_ast.specs.declared.Expr.{Expr}
+use Rattle.sqlite_ast.specs.declared.Rows.{Rows}
 use Rattle.sqlite_ast.specs.declared.Statement.{Statement}
 use Rattle.sqlite_ast.specs.declared.Statement.TheVariants as written
-use Rattle.sqlite_draft.specs.declared.query.Draft.{Draft}
-use Rattle.sqlite_resolve.specs.Compile.{first, compiled, planned, meaning, returning, command, timed, shows, update, create_table, creates, is_reserved, is_attached, target, with_command}
+use Rattle.sqlite_resolve.specs.Compile.{first, compiled, planned, meaning, returning, command, shows, update, delete, insert, insert_or_abort, new_rows, create_table, creates, is_reserved, is_attached, target, with_command}
 use Rattle.sqlite_resolve.specs.Define as define
 use Rattle.sqlite_resolve.specs.Body.{table_at}
 use Rattle.sqlite_resolve.specs.Program.{program}
-use Rattle.sqlite_resolve.specs.Write.{updated}
+use Rattle.sqlite_resolve.specs.Write.{updated, deleted}
 use Rattle.sqlite_resolve.specs.Lowering.{Checked, and_then}
 use Rattle.sqlite_resolve.specs.Scope.{Name}
 use Rattle.sqlite_resolve.specs.declared.compiled.Compiled.{Compiled}
 use Rattle.sqlite_resolve.specs.declared.error.CompileError.{CompileError}
 use Rattle.sqlite_resolve.specs.declared.error.CompileError.TheVariants.{Exists, Misuse, Unsupported}
 use Rattle.sqlite_schema.specs.declared.command.Command.{Command}
-use Rattle.sqlite_schema.specs.declared.command.Command.TheVariants.{CreateTable as MakeTable, Insert, Update, Nothing}
+use Rattle.sqlite_schema.specs.declared.command.Command.TheVariants.{CreateTable as MakeTable, Insert, Update, Delete, Nothing}
 use Rattle.sqlite_schema.specs.declared.command.Returning.{Returning}
-use Rattle.sqlite_schema.specs.declared.program.Program.{Program}
 use Rattle.sqlite_schema.specs.declared.schema.Table.{Table}
 use Rattle.sqlite_schema.specs.Names.{index_named, table_named, view_named}
 use Rattle.sqlite_syntax.specs.declared.statement.Parsed.{Parsed}
 use Rattle.sqlite_tied.specs.Compute.{everything}
-use Rattle.up_tables.specs.Making.{IsNotTaken, StopsAtOne, TriesAnywhere, alone, set_schema_text}
+use Rattle.up_tables.specs.Making.{IsNotTaken, StopsAtOne, TriesAnywhere, alone, drop_keys_text, same_numbers_text, set_schema_text}
 use Rattle.up_tables.specs.Stands.{IfClean, IsInside}
-use Rattle.up_tables.specs.Tables.{retired_text, image_sha512_text}
+use Rattle.up_tables.specs.Tables.{retired_text, image_sha512_text, image_repository_text, retired_vehicle_text}
 use Rattle.up_tables.specs.Tried.{Makes}
-use Rattle.up_tables.proofs.BlameLemmas.{none_of}
 use Rattle.up_tables.proofs.MakingLemmas.{is_making, tries_on, tries_till, tries_to}
 
 -- ---- the command
@@ -46,26 +45,24 @@ abbrev MakesAlone : Checked Command → Type 0
 MakesAlone (Ok c) = is_making c ≡ true
 MakesAlone (Err e) = Unit {0}
 
-set_by : (at : ℕ) (found : Checked Program) → MakesAlone (and_then found (λ p. Ok (Update at p)))
-set_by at (Ok p) = refl
-set_by at (Err e) = tt
-
-set_from : (at : ℕ) (drafted : Checked Draft) (f : Draft → Checked Program) → MakesAlone (and_then drafted (λ d. and_then (f d) (λ p. Ok (Update at p))))
-set_from at (Ok d) f = set_by at (f d)
-set_from at (Err e) f = tt
-
-set_in : (at : ℕ) (table : Checked Table) (f : Table → Checked Draft) (g : Draft → Checked Program) → MakesAlone (and_then table (λ t. and_then (f t) (λ d. and_then (g d) (λ p. Ok (Update at p)))))
-set_in at (Ok t) f g = set_from at (f t) g
-set_in at (Err e) f g = tt
-
-set_on : (place : Checked ℕ) (table : ℕ → Checked Table) (f : ℕ → Table → Checked Draft) (g : Draft → Checked Program)
-    → MakesAlone (and_then place (λ at. and_then (table at) (λ t. and_then (f at t) (λ d. and_then (g d) (λ p. Ok (Update at p))))))
-set_on (Ok at) table f g = set_in at (table at) (f at) g
-set_on (Err e) table f g = tt
+alone_then : {A : Type 0} (r : Checked A) (f : A → Checked Command) → ((x : A) → MakesAlone (f x)) → MakesAlone (and_then r f)
+alone_then (Ok x) f h = h x
+alone_then (Err e) f h = tt
 
 sets : (schema : Schema) (name : Name) (to : List (Name × Expr)) (test : Option Expr) → MakesAlone (update schema name to test)
 unfolding update
-sets schema name to test = set_on (target schema name) (table_at schema) (λ at table. updated schema at table to test) (program schema [])
+sets schema name to test =
+    alone_then (target schema name) _ (λ at. alone_then (table_at schema at) _ (λ table. alone_then (updated schema at table to test) _ (λ d. alone_then (program schema [] d) (λ p. Ok (Update at p)) (λ p. refl))))
+
+removes : (schema : Schema) (name : Name) (test : Option Expr) → MakesAlone (delete schema name test)
+unfolding delete
+removes schema name test =
+    alone_then (target schema name) _ (λ at. alone_then (table_at schema at) _ (λ table. alone_then (deleted schema at table test) _ (λ d. alone_then (program schema [] d) (λ p. Ok (Delete at p)) (λ p. refl))))
+
+inserts : (schema : Schema) (base : ℕ) (name : Name) (columns : List Name) (rows : Rows) → MakesAlone (insert_or_abort schema base name columns rows [])
+unfolding insert_or_abort insert
+inserts schema base name columns rows =
+    alone_then (target schema name) _ (λ at. alone_then (table_at schema at) _ (λ table. alone_then (new_rows schema table base columns rows) (λ s. Ok (Insert at s)) (λ s. refl)))
 
 abbrev IsNew : Checked Bool → Type 0
 IsNew (Ok b) = b ≡ true
@@ -107,9 +104,11 @@ makes schema formats def is =
 
 -- ---- the statement
 
--- it makes a table, whatever is there, or sets rows, and shows none
+-- it makes a table, whatever is there, puts in rows, sets some, or takes some away, and shows none
 abbrev is_alone : Statement → Bool
+is_alone (written.Insert conflict.Abort name columns rows [] []) = true
 is_alone (written.Update name to test []) = true
+is_alone (written.Delete name test []) = true
 is_alone (written.CreateTable def) = not def.if_missing
 is_alone _ = false
 
@@ -117,48 +116,51 @@ abbrev Plan : Type 0
 Plan = List Name × (Command × Option Returning)
 
 abbrev PlansAlone : Checked Plan → Type 0
-PlansAlone (Ok plan) = (plan.0 ≡ []) × (is_making plan.1.0 ≡ true) × (plan.1.1 ≡ None)
+PlansAlone (Ok plan) = (is_making plan.1.0 ≡ true) × (plan.1.1 ≡ None)
 PlansAlone (Err e) = Unit {0}
 
-planned_by : (formats : List Name) (r : Checked Command) → formats ≡ [] → MakesAlone r → PlansAlone (and_then (and_then r (λ c. Ok (c, None))) (λ found. Ok (formats, found)))
-planned_by formats (Ok c) none h = (none, h, refl)
-planned_by formats (Err e) none h = tt
+planned_by : (formats : List Name) (r : Checked Command) → MakesAlone r → PlansAlone (and_then (and_then r (λ c. Ok (c, None))) (λ found. Ok (formats, found)))
+planned_by formats (Ok c) h = (h, refl)
+planned_by formats (Err e) h = tt
 
-plans : (schema : Schema) (formats : List Name) (base : ℕ) (statement : Statement) → is_alone statement ≡ true → formats ≡ []
-    → PlansAlone (and_then (and_then (returning schema base statement) (λ shown. and_then (command schema formats base statement) (λ c. Ok (c, shown)))) (λ found. Ok (timed schema formats statement, found)))
-unfolding returning command timed shows
-plans schema formats base (written.Update name to test []) is none = planned_by formats (update schema name to test) none (sets schema name to test)
-plans schema formats base (written.CreateTable def) is none = planned_by [] (create_table schema formats def) refl (makes schema formats def (missing def.if_missing is))
+plans : (schema : Schema) (times formats : List Name) (base : ℕ) (statement : Statement) → is_alone statement ≡ true
+    → PlansAlone (and_then (and_then (returning schema base statement) (λ shown. and_then (command schema formats base statement) (λ c. Ok (c, shown)))) (λ found. Ok (times, found)))
+unfolding returning command shows
+plans schema times formats base (written.Insert conflict.Abort name columns rows [] []) is = planned_by times (insert_or_abort schema base name columns rows []) (inserts schema base name columns rows)
+plans schema times formats base (written.Update name to test []) is = planned_by times (update schema name to test) (sets schema name to test)
+plans schema times formats base (written.Delete name test []) is = planned_by times (delete schema name test) (removes schema name test)
+plans schema times formats base (written.CreateTable def) is = planned_by times (create_table schema formats def) (makes schema formats def (missing def.if_missing is))
   where
     missing : (b : Bool) → not b ≡ true → b ≡ false
     missing false e = refl
     missing true e = absurd (let no = e in cc)
-plans schema formats base _ is none = absurd (let e = is in cc)
+plans schema times formats base _ is = absurd (let e = is in cc)
 
 -- ---- the text
 
--- it makes a table or sets rows, shows none, reads no time, wants no value, and is the whole text
+-- it makes a table, puts in rows, sets some or takes some away, shows none, wants no value, and is the whole text
 abbrev pub IsAlone : List ℕ → Checked Compiled → Type 0
-IsAlone text (Ok c) = (is_making c.command ≡ true) × (c.returning ≡ None) × (c.formats ≡ []) × (c.names ≡ []) × (leb (length text) c.tail ≡ true)
+IsAlone text (Ok c) = (is_making c.command ≡ true) × (c.returning ≡ None) × (c.names ≡ []) × (leb (length text) c.tail ≡ true)
 IsAlone text (Err e) = Unit {0}
 
 abbrev pub IsReadAlone : List ℕ → Checked Parsed → Type 0
-IsReadAlone text (Ok p) = (is_alone p.statement ≡ true) × (p.formats ≡ []) × (p.names ≡ []) × (leb (length text) p.tail ≡ true)
+IsReadAlone text (Ok p) = (is_alone p.statement ≡ true) × (p.names ≡ []) × (leb (length text) p.tail ≡ true)
 IsReadAlone text (Err e) = Unit {0}
 
 by_plan : (text : List ℕ) (p : Parsed) (r : Checked Plan) → PlansAlone r → IsReadAlone text (Ok p) → IsAlone text (and_then r (λ plan. Ok (with_command p plan)))
-by_plan text p (Ok plan) h read = (h.1, h.2, h.0, read.2, read.3)
+by_plan text p (Ok plan) h read = (h.0, h.1, read.1, read.2)
 by_plan text p (Err e) h read = tt
 
 by_reading : (schema : Schema) (text : List ℕ) (r : Checked Parsed) → IsReadAlone text r → IsAlone text (and_then r (λ p. and_then (planned schema p) (λ plan. Ok (with_command p plan))))
 unfolding planned meaning
-by_reading schema text (Ok p) read = by_plan text p _ (plans schema p.formats _ p.statement read.0 read.1) read
+by_reading schema text (Ok p) read = by_plan text p _ (plans schema _ p.formats _ p.statement read.0) read
 by_reading schema text (Err e) read = tt
 
 not_select : (k : Command) → is_making k ≡ true → is_select k ≡ false
 not_select MakeTable h = refl
 not_select (Insert at from) h = refl
 not_select (Update at q) h = refl
+not_select (Delete at q) h = refl
 not_select _ h = absurd (let e = h in cc)
 
 by_listing : (text : List ℕ) (b : Bool) (r s : Checked Compiled) → IsAlone text r → IsAlone text s → IsAlone text (if b then if_select r else s)
@@ -175,9 +177,10 @@ unfolding understood
 alone_anywhere text read schema = by_listing text (reads_listing schema text) _ _ (alone_by text read listing_schema) (alone_by text read schema)
 
 -- those that raise the tables
-pub raising_read : IsReadAlone retired_text (first retired_text) × IsReadAlone image_sha512_text (first image_sha512_text) × IsReadAlone set_schema_text (first set_schema_text)
+pub raising_read : IsReadAlone retired_text (first retired_text) × IsReadAlone image_sha512_text (first image_sha512_text) × IsReadAlone image_repository_text (first image_repository_text)
+    × IsReadAlone retired_vehicle_text (first retired_vehicle_text) × IsReadAlone same_numbers_text (first same_numbers_text) × IsReadAlone drop_keys_text (first drop_keys_text) × IsReadAlone set_schema_text (first set_schema_text)
 unfolding first everything
-raising_read = ((refl, refl, refl, refl), (refl, refl, refl, refl), (refl, refl, refl, refl))
+raising_read = ((refl, refl, refl), (refl, refl, refl), (refl, refl, refl), (refl, refl, refl), (refl, refl, refl), (refl, refl, refl), (refl, refl, refl))
 
 -- ---- calls
 
@@ -191,10 +194,10 @@ tries_anywhere text it old new r inside survives ran clean =
     told c statement = subst (IsAlone text) statement.is (it old.now.schema)
 
     taken : (e : Error) → IsNoStatement old text [] e → IsNotTaken text old.now
-    taken e (inl h) = (h.0, h.1)
-    taken e (inr (c, is, why)) =
-        let h = subst (IsAlone text) is (it old.now.schema) in
-        absurd (none_of (λ cut. cut (leb-true (length text) c.tail h.4)) (λ more. more (sym (ap length h.3))) (λ timed. timed h.2) why)
+    taken e (inl h) = inl (h.0, h.1)
+    taken e (inr (c, is, inl cut)) = let h = subst (IsAlone text) is (it old.now.schema) in absurd (cut.0 (leb-true (length text) c.tail h.3))
+    taken e (inr (c, is, inr (inl more))) = let h = subst (IsAlone text) is (it old.now.schema) in absurd (more.0 (sym (ap length h.2)))
+    taken e (inr (c, is, inr (inr timed))) = inr (c, is, timed.0)
 
 -- ---- several, one after another
 

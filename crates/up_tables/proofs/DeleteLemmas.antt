@@ -1,4 +1,4 @@
--- What a DELETE of all rows does.
+-- What a DELETE does.
 use Rattle.std.proofs.Common.{◌≡◌, ◌≢◌, ℕ, ℤ, List, [], ◌∷◌, map, Bool, true, false, None, Some, slice_get, Ok, IsTrue, refl, sym, ap, subst, ◌∙◌}
 use Rattle.std.specs.List.{AllByRecursion, list_any}
 use Rattle.std.specs.List.Sorted.{IsPermutation}
@@ -28,6 +28,15 @@ use Rattle.up_tables.proofs.CreateLemmas.{went, same_value}
 use Rattle.up_tables.proofs.InsertLemmas.{concluded}
 use Rattle.up_tables.proofs.PlaceLemmas.{itself}
 
+-- The rows whose rowids the query of the deletion shows are gone; the other tables are as they were.
+pub record TakesAway (schema : Schema) (table : Table) (program : Program) (params : Row) (old new : Database) : Type 0 where
+  pub schema_is : new.schema ≡ schema
+  pub sound : IsDatabase new
+  pub shown : List Row
+  pub answered : Answers (record { schema = schema; trees = old.trees }) program params shown
+  pub rows : new.trees table.tree ≡ without_all (old.trees table.tree) (ids_of shown)
+  pub others : AllByRecursion (λ t. t.tree ≢ table.tree → new.trees t.tree ≡ old.trees t.tree) schema.tables
+
 -- the table has no row; the other tables are as they were
 pub record Empties (schema : Schema) (table : Table) (old new : Database) : Type 0 where
   pub schema_is : new.schema ≡ schema
@@ -45,10 +54,10 @@ abbrev pub HaveRowids : List Row → Type 0
 HaveRowids rows = AllByRecursion (λ r. IsTrue (is_int (rowid r))) rows
 
 -- one of the rowids is the row's
-abbrev is_gone : List ℤ → Row → Bool
+abbrev pub is_gone : List ℤ → Row → Bool
 is_gone ids r = list_any (λ id. has_rowid id r) ids
 
-abbrev AreGone : List ℤ → List Row → Type 0
+abbrev pub AreGone : List ℤ → List Row → Type 0
 AreGone ids rows = AllByRecursion (λ r. is_gone ids r ≡ true) rows
 
 -- one rowid less, of the rows that don't have it
@@ -62,7 +71,7 @@ rest_gone id ids (r ∷ rows) all = by_test (has_rowid id r) refl (rest_gone id 
         let later : is_gone ids r ≡ true = rw same at all.0 in
         rw same (later, rest)
 
-none_left : (ids : List ℤ) (rows : List Row) → AreGone ids rows → without_all rows ids ≡ []
+pub none_left : (ids : List ℤ) (rows : List Row) → AreGone ids rows → without_all rows ids ≡ []
 none_left [] [] all = refl
 none_left [] (r ∷ rows) all = absurd (let no = all.0 in cc)
 none_left (id ∷ ids) rows all = none_left ids (without_rowid id rows) (rest_gone id ids rows all)
@@ -97,7 +106,7 @@ own_gone (r ∷ rows) ints = (
 )
 
 -- in whatever order they are shown
-all_gone : (rows shown : List Row) → IsPermutation (map id_row rows) shown → HaveRowids rows → AreGone (ids_of shown) rows
+pub all_gone : (rows shown : List Row) → IsPermutation (map id_row rows) shown → HaveRowids rows → AreGone (ids_of shown) rows
 all_gone rows shown same ints =
     let ids = IsPermutation-map (λ (r : Row). id_in (rowid r)) (map id_row rows) shown same in
     all_weaker (λ x. is_gone (ids_of (map id_row rows)) x ≡ true) (λ x. is_gone (ids_of shown) x ≡ true)
@@ -113,21 +122,18 @@ deleted task q db one h =
     let is = same_value edits.2 in
     (answer.0, answer.1, subst (λ t. Edited task.schema task.keys db (edit_of db task.table (ids_of answer.0) Given 0 []) (Ok t)) (sym (ap (λ (w : Written). w.trees) is)) edits.1)
 
-emptied_by : (schema : Schema) (table : Table) (idle : (olds news : List Row) → works schema Enforced 0 table.tree olds news ≡ []) (db trees : Trees) (rows : List Row)
-    → IsPermutation (map id_row (db table.tree)) rows → HaveRowids (db table.tree) → Edited schema Enforced db (edit_of db table (ids_of rows) Given 0 []) (Ok trees)
-    → (trees table.tree ≡ []) × AllByRecursion (λ t. t.tree ≢ table.tree → trees t.tree ≡ db t.tree) schema.tables
-emptied_by schema table idle db trees rows same ints h =
+taken_away : (schema : Schema) (table : Table) (idle : (olds news : List Row) → works schema Enforced 0 table.tree olds news ≡ []) (db trees : Trees) (rows : List Row)
+    → Edited schema Enforced db (edit_of db table (ids_of rows) Given 0 []) (Ok trees)
+    → (trees table.tree ≡ without_all (db table.tree) (ids_of rows)) × AllByRecursion (λ t. t.tree ≢ table.tree → trees t.tree ≡ db t.tree) schema.tables
+taken_away schema table idle db trees rows h =
     let edit = edit_of db table (ids_of rows) Given 0 [] in
     let step = one_step schema Enforced db trees edit (idle (taken_by db edit) edit.news) h in
-    (step.rows ∙ none_left (ids_of rows) (db table.tree) (all_gone (db table.tree) rows same ints), step.tables)
+    (step.rows, step.tables)
 
 module _ (schema : Schema) (text : List ℕ) (at : ℕ) (table : Table) (program : Program) (params : Row) (is : command_of (understood schema text) ≡ Delete at program) (plain : IsPlain (understood schema text))
     (place : slice_get schema.tables at ≡ Some table) (idle : (olds news : List Row) → works schema Enforced 0 table.tree olds news ≡ []) where
-  -- the query of the deletion shows the rowid of each row
-  pub empties : (old new : State) (count : ℕ) → old.now.schema ≡ schema → HaveRowids (old.now.trees table.tree)
-      → ((rows : List Row) → Answers (record { schema = schema; trees = old.now.trees }) program params rows → IsPermutation (map id_row (old.now.trees table.tree)) rows)
-      → Executes text params old new (Ok count) → Empties schema table old.now new.now
-  empties old new count has ints answers h =
+  pub takes_away : (old new : State) (count : ℕ) → old.now.schema ≡ schema → Executes text params old new (Ok count) → TakesAway schema table program params old.now new.now
+  takes_away old new count has h =
       let db = old.now.trees in
       let command = Delete at program in
       let task : Task = record { limit = old.step_limit; keys = Enforced; schema = schema; table = table; params = params } in
@@ -137,10 +143,26 @@ module _ (schema : Schema) (text : List ℕ) (at : ℕ) (table : Table) (program
       let done = went on in
       let now = concluded task (mode_of old) done.0 w.tally new.now done.2 in
       let gone = deleted task program db done.0 done.1 in
-      let none = emptied_by schema table idle db done.0.trees gone.0 (answers gone.0 gone.1) ints gone.2 in
+      let rest = taken_away schema table idle db done.0.trees gone.0 gone.2 in
       record {
         schema_is = ap (λ (d : Database). d.schema) now;
         sound = w.sound;
-        rows = ap (λ (d : Database). d.trees table.tree) now ∙ none.0;
-        others = subst (λ (d : Database). AllByRecursion (λ t. t.tree ≢ table.tree → d.trees t.tree ≡ db t.tree) schema.tables) (sym now) none.1;
+        shown = gone.0;
+        answered = gone.1;
+        rows = ap (λ (d : Database). d.trees table.tree) now ∙ rest.0;
+        others = subst (λ (d : Database). AllByRecursion (λ t. t.tree ≢ table.tree → d.trees t.tree ≡ db t.tree) schema.tables) (sym now) rest.1;
+      }
+
+  -- the query of the deletion shows the rowid of each row
+  pub empties : (old new : State) (count : ℕ) → old.now.schema ≡ schema → HaveRowids (old.now.trees table.tree)
+      → ((rows : List Row) → Answers (record { schema = schema; trees = old.now.trees }) program params rows → IsPermutation (map id_row (old.now.trees table.tree)) rows)
+      → Executes text params old new (Ok count) → Empties schema table old.now new.now
+  empties old new count has ints answers h =
+      let away = takes_away old new count has h in
+      let rows = old.now.trees table.tree in
+      record {
+        schema_is = away.schema_is;
+        sound = away.sound;
+        rows = away.rows ∙ none_left (ids_of away.shown) rows (all_gone rows away.shown (answers away.shown away.answered) ints);
+        others = away.others;
       }

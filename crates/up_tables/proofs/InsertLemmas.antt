@@ -38,7 +38,7 @@ pub uncounts : (task : Task) (db : Trees) (counter : Option Row) (top : ℤ) (ou
 uncounts task db counter top out uncounted h = same_value (rw uncounted at h)
 
 -- the rows of VALUES, numbered from the last rowid on
-inserted : (task : Task) (from : Source) (db : Trees) (w : Written) → task.table.is_counted ≡ false → WritesInserted task from db (Ok w)
+pub inserted : (task : Task) (from : Source) (db : Trees) (w : Written) → task.table.is_counted ≡ false → WritesInserted task from db (Ok w)
     → (rows : List Row) × Sourced task.limit (record { schema = task.schema; trees = db }) (stamped task.table task.params) from (Ok rows) × Edited task.schema task.keys db (edit_of db task.table [] Chosen 0 rows) (Ok w.trees)
 inserted task from db w uncounted h =
     let source = went h in

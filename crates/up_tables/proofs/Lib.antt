@@ -18,6 +18,7 @@ pub mod CallLemmas
 pub mod ByNameLemmas
 pub mod ImageLemmas
 pub mod Sha512Lemmas
+pub mod ShutOutLemmas
 pub mod VehicleLemmas
 pub mod ReturnLemmas
 pub mod KeyLemmas
@@ -28,6 +29,7 @@ pub mod EcuSteps
 pub mod EcuSets
 pub mod EcuLines
 pub mod MetaLemmas
+pub mod NumberLemmas
 pub mod TransactionLemmas
 pub mod OursLemmas
 pub mod OursReads
@@ -49,6 +51,7 @@ pub mod FileLemmas
 pub mod MetaReads
 pub mod NamedLemmas
 pub mod DeleteLemmas
+pub mod DropLemmas
 pub mod RoleKeyLemmas
 pub mod ListedLemmas
 pub mod RaiseLemmas

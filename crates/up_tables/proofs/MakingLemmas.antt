@@ -1,4 +1,4 @@
--- Why a statement that makes a table, or puts in or sets the row of `meta`, is told as `Store`; and several of them, one after another.
+-- Why a statement that makes tables or raises them is told as `Store`; and several of them, one after another.
 use Rattle.std.proofs.Common.{◌≡◌, ◌⊎◌, inl, inr, ℕ, List, [], ◌++◌, Bool, true, false, Option, Some, None, Ok, Err, Result, IsTrue, refl, sym, ap, subst, ◌∙◌, arith}
 use Rattle.std.proofs.lemmas.Bool.{cases_Bool}
 use Rattle.std.specs.Result.{IsErrAnd}
@@ -17,7 +17,7 @@ use Rattle.sqlite.proofs.Callers.{IsPlain, command_of}
 use Rattle.sqlite.proofs.StateLemmas.{survives_then}
 use Rattle.sqlite_resolve.specs.declared.compiled.Compiled.{Compiled}
 use Rattle.sqlite_schema.specs.declared.command.Command.{Command}
-use Rattle.sqlite_schema.specs.declared.command.Command.TheVariants.{CreateTable, Insert, Update}
+use Rattle.sqlite_schema.specs.declared.command.Command.TheVariants.{CreateTable, Insert, Update, Delete}
 use Rattle.sqlite_schema.specs.declared.command.Returning.{Returning}
 use Rattle.sqlite_trees.specs.declared.error.StoreError.{StoreError}
 use Rattle.sqlite_trees.specs.declared.error.StoreError.TheVariants.{OutOfMemory, Io, Corrupt, Full, Broken, Unstorable}
@@ -31,23 +31,26 @@ use Rattle.up_tables.specs.Tried.{IsGiven, IsRefused, Makes, MakesOf, RefusesOne
 use Rattle.up_tables.proofs.BlameLemmas.{is_whole, count_of, is_statement, plain_untimed}
 use Rattle.up_tables.proofs.TriedLemmas.{makes_then, refuses_first, refuses_then}
 
--- the command makes a table, puts in a row, or sets some
+-- the command makes a table, puts in rows, sets some, or takes some away
 abbrev pub is_making : Command → Bool
 is_making CreateTable = true
 is_making (Insert at from) = true
 is_making (Update at q) = true
+is_making (Delete at q) = true
 is_making _ = false
 
 not_query : (k : Command) → is_making k ≡ true → is_query k ≡ false
 not_query CreateTable h = refl
 not_query (Insert at from) h = refl
 not_query (Update at q) h = refl
+not_query (Delete at q) h = refl
 not_query _ h = absurd (let e = h in cc)
 
 not_pragma : (k : Command) → is_making k ≡ true → is_pragma k ≡ false
 not_pragma CreateTable h = refl
 not_pragma (Insert at from) h = refl
 not_pragma (Update at q) h = refl
+not_pragma (Delete at q) h = refl
 not_pragma _ h = absurd (let e = h in cc)
 
 other : {k other : Command} → is_making k ≡ true → k ≡ other → is_making other ≡ false → ⊥
@@ -71,6 +74,7 @@ does_of : (old new : State) (returning : Option Returning) (k : Command) (text :
 does_of old new returning CreateTable text params count h ran = (ran.tally, ran.changed)
 does_of old new returning (Insert at from) text params count h ran = (ran.tally, ran.changed)
 does_of old new returning (Update at q) text params count h ran = (ran.tally, ran.changed)
+does_of old new returning (Delete at q) text params count h ran = (ran.tally, ran.changed)
 does_of old new returning _ text params count h ran = absurd (let e = h in cc)
 
 pub by_cause : (old new : State) (e : Error) → open_fault e ≡ opening.Store → (too_big : Type 0) (cause : StoreError) → e ≡ store_error cause → HasCause old new too_big cause → HasFailed old new ⊎ too_big
@@ -122,7 +126,7 @@ tries_till Stops text old new makes none refuses (Err e) ran = λ told. elim (ca
   | inr shut ↦ inl (inl shut)
 ]
 
--- over a database of a schema, where the text is a statement without values, which makes a table, puts in a row, or sets some
+-- over a database of a schema, where the text is a statement without values, which makes a table, puts in rows, sets some, or takes some away
 pub record IsMaking (schema : Schema) (text : List ℕ) : Type 0 where
   pub plain : IsPlain (understood schema text)
   pub makes : is_making (command_of (understood schema text)) ≡ true
@@ -194,17 +198,3 @@ came_to a b old new e r is came clean = tries_to RefusesOne refuses_first a b ol
 -- of tables whatever their rows
 pub any_rows : (schema : Schema) (P : Trees → Type 0) (s : State) → IsWithin schema P s → IsWithin schema AnyRows s
 any_rows schema P s h = record { mode = h.mode; here = λ is_open. let it = h.here is_open in record { schema_is = it.schema_is; sound = it.sound; rows = tt } }
-
--- two statements, of which the first makes a table
-pub came_making : (first second : Schema) (table : Table) (a b : List ℕ) → created first table ≡ second → (old mid new : State) (count : ℕ) (r : Result ℕ Error) → IfClean (IsWithin first (AreEmpty first)) old
-    → Survives old mid (λ _. ⊥) → Survives mid new (λ _. ⊥) → (HasCleanDisk mid → IsWithin first AnyRows old → MakesIn first table old mid) → (HasCleanDisk mid → IsWithin first AnyRows old → Tries (alone a) old mid (Ok count))
-    → (HasCleanDisk new → IsWithin second AnyRows mid → Tries (alone b) mid new r) → HasCleanDisk new → Tries (alone a ++ alone b) old new r
-came_making first second table a b next old mid new count r was to_mid to_new made one two clean =
-    let within : HasCleanDisk mid → IsWithin first AnyRows old = λ now. any_rows first (AreEmpty first) old (was (omega (arith, now, to_mid.clean))) in
-    (came_on (alone a) (alone b) old mid new count r (record { survives = to_mid; tried = λ now. one now (within now) }) (record {
-      survives = to_new;
-      tried = λ later.
-          let now : HasCleanDisk mid = omega (arith, later, to_new.clean) in
-          let it = made now (within now) in
-          two later (record { mode = it.mode; here = λ _. record { schema_is = it.made.schema_is ∙ next; sound = it.made.sound; rows = tt } });
-    })).tried clean

@@ -7,7 +7,7 @@ use Rattle.sqlite.specs.State.{State, HasCleanDisk, Survives}
 use Rattle.sqlite_trees.specs.declared.store.Store.{Ghosts}
 use Rattle.up_tables.specs.declared.open.OpenFault.{OpenFault}
 use Rattle.up_tables.specs.declared.open.SchemaVersion.{SchemaVersion}
-use Rattle.up_tables.specs.declared.open.SchemaVersion.TheVariants.{One, Two, Three}
+use Rattle.up_tables.specs.declared.open.SchemaVersion.TheVariants.{One, Two, Three, Four}
 use Rattle.up_tables.specs.Listed.{TableRows, ListsTables}
 use Rattle.up_tables.specs.Making.{RaisesBy, RaisesTo}
 use Rattle.up_tables.specs.Ours.{IsOurs, IsOlder, ListsUs, NamesVersion, NamesOthers, Raised, RaisedFrom, TellsMeta, is_refused, older_of, ours_told}
@@ -52,7 +52,8 @@ told_rows items found x f is h k = subst (λ r. TellsMeta r items (Ok f)) (sym i
 pub older_is : (found : Result (Option SchemaVersion) OpenFault) (w : SchemaVersion) → older_of found ≡ Some w → (found ≡ Ok (Some w)) × IsOlder w
 older_is (Ok (Some One)) w is = let same : One ≡ w = cc in (ap (λ v. Ok (Some v)) same, subst IsOlder same tt)
 older_is (Ok (Some Two)) w is = let same : Two ≡ w = cc in (ap (λ v. Ok (Some v)) same, subst IsOlder same tt)
-older_is (Ok (Some Three)) w is = absurd (let no = is in cc)
+older_is (Ok (Some Three)) w is = let same : Three ≡ w = cc in (ap (λ v. Ok (Some v)) same, subst IsOlder same tt)
+older_is (Ok (Some Four)) w is = absurd (let no = is in cc)
 older_is (Ok None) w is = absurd (let no = is in cc)
 older_is (Err e) w is = absurd (let no = is in cc)
 
@@ -87,7 +88,8 @@ taken_of : (old new : State) (found : Result (Option SchemaVersion) OpenFault) �
 taken_of old new (Ok None) none tells before kept = λ is. absurd (let no = is in cc)
 taken_of old new (Ok (Some One)) none tells before kept = absurd (let no = none in cc)
 taken_of old new (Ok (Some Two)) none tells before kept = absurd (let no = none in cc)
-taken_of old new (Ok (Some Three)) none tells before kept = λ is clean version rows was. taken_as rows version old new (tells clean) before kept clean was
+taken_of old new (Ok (Some Three)) none tells before kept = absurd (let no = none in cc)
+taken_of old new (Ok (Some Four)) none tells before kept = λ is clean version rows was. taken_as rows version old new (tells clean) before kept clean was
 taken_of old new (Err e) none tells before kept = tt
 
 pub told_taken : (old new : State) (found : Result (Option SchemaVersion) OpenFault) (told : Result Bool OpenFault) → told ≡ ours_told found → older_of found ≡ None

@@ -25,7 +25,7 @@ use Rattle.sqlite_resolve.specs.declared.error.CompileError.{CompileError}
 use Rattle.sqlite_schema.specs.declared.program.Program.{Program}
 use Rattle.sqlite_tied.specs.Compute.{everything}
 use Rattle.up_tables.specs.declared.open.SchemaVersion.{SchemaVersion}
-use Rattle.up_tables.specs.declared.open.SchemaVersion.TheVariants.{One, Two, Three}
+use Rattle.up_tables.specs.declared.open.SchemaVersion.TheVariants.{One, Two, Three, Four}
 use Rattle.up_tables.specs.Rows.{has_number}
 use Rattle.up_tables.specs.Versions.{schema_of}
 use Rattle.up_tables.specs.Ours.{find_meta_text}
@@ -48,24 +48,28 @@ unfolding understood everything
 find_is One = (refl, refl)
 find_is Two = (refl, refl)
 find_is Three = (refl, refl)
+find_is Four = (refl, refl)
 
 pub find_plain : (version : SchemaVersion) → IsPlain (understood (schema_of version) find_meta_text)
 unfolding understood everything
 find_plain One = (refl, refl)
 find_plain Two = (refl, refl)
 find_plain Three = (refl, refl)
+find_plain Four = (refl, refl)
 
 find_whole : (version : SchemaVersion) → is_whole find_meta_text (understood (schema_of version) find_meta_text) ≡ true
 unfolding understood everything
 find_whole One = refl
 find_whole Two = refl
 find_whole Three = refl
+find_whole Four = refl
 
 find_count : (version : SchemaVersion) → count_of (understood (schema_of version) find_meta_text) ≡ Some 0
 unfolding understood everything
 find_count One = refl
 find_count Two = refl
 find_count Three = refl
+find_count Four = refl
 
 -- it is a statement
 pub is_statement : (version : SchemaVersion) (s : State) (e : Error) → s.now.schema ≡ schema_of version → IsNoStatement s find_meta_text [] e → ⊥
@@ -122,6 +126,7 @@ unfolding everything
 accepts One trees = record { typed = refl; answer = sure trees }
 accepts Two trees = record { typed = refl; answer = sure trees }
 accepts Three trees = record { typed = refl; answer = sure trees }
+accepts Four trees = record { typed = refl; answer = sure trees }
 
 answers : (made : SchemaVersion) (db : Database) → db.schema ≡ schema_of made → Answers db program [] (answer_of db.trees)
 answers made db has = let known = accepts made db.trees in record { typed = rw has known.typed; answer = known.answer }
@@ -163,6 +168,7 @@ unfolding everything
 find_typed One trees h = absurd (let e = h in cc)
 find_typed Two trees h = absurd (let e = h in cc)
 find_typed Three trees h = absurd (let e = h in cc)
+find_typed Four trees h = absurd (let e = h in cc)
 
 pub not_refused : (made : SchemaVersion) (s : State) (c : Compiled) (it : IsStatement s find_meta_text [] c) (db : Database) (e : Error) → s.now.schema ≡ schema_of made
     → IsSourceOf (reads_listing s.now.schema find_meta_text) s.now db → RefusesToRead None c.command db (timed [] c.formats it.now) e → ⊥

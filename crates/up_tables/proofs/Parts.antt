@@ -53,6 +53,9 @@ no_table_rows = record {
   kept = λ vehicle. [];
   retired = λ vehicle. [];
   sha512s = λ file. [];
+  image_root = 0;
+  targets_version = 0;
+  shut_out = λ vehicle. [];
 }
 
 -- the table has this row under the rowid; its other rows and the other tables are as they were

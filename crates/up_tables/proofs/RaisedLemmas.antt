@@ -10,7 +10,7 @@ use Rattle.sqlite.proofs.StateLemmas.{survives_then}
 use Rattle.sqlite.proofs.Callers.{survives_begin}
 use Rattle.sqlite_trees.specs.declared.store.Store.{Ghosts}
 use Rattle.up_tables.specs.declared.open.SchemaVersion.{SchemaVersion}
-use Rattle.up_tables.specs.declared.open.SchemaVersion.TheVariants.{One, Two, Three}
+use Rattle.up_tables.specs.declared.open.SchemaVersion.TheVariants.{One, Two, Three, Four}
 use Rattle.up_tables.specs.Listed.{TableRows, ListsTables}
 use Rattle.up_tables.specs.Making.{MakesTrees, RaisesBy, RaisesTo, raising}
 use Rattle.up_tables.specs.Ours.{find_meta_text, IsOurs, IsOlder, ListsUs, NamesVersion, Raised, RaisedFrom}
@@ -28,7 +28,8 @@ use Rattle.up_tables.proofs.TransactionLemmas.{as_held, stands_after, stands_kep
 pub lists_us : (version : SchemaVersion) (rows : TableRows) (s : State) → (IsTrue s.is_open → IsWith (schema_of version) (ListsAs version rows) s.now) → ListsUs version s
 lists_us One rows s h = record { tables = λ is_open. let it = h is_open in record { schema_is = it.schema_is; sound = it.sound; rows = tt }; root = rows.root; image_version = rows.image_version; stamp = rows.stamp; meta = λ is_open. (h is_open).rows.0.meta }
 lists_us Two rows s h = record { tables = λ is_open. let it = h is_open in record { schema_is = it.schema_is; sound = it.sound; rows = tt }; root = rows.root; image_version = rows.image_version; stamp = rows.stamp; meta = λ is_open. (h is_open).rows.0.meta }
-lists_us Three rows s h = record { tables = λ is_open. let it = h is_open in record { schema_is = it.schema_is; sound = it.sound; rows = tt }; root = rows.root; image_version = rows.image_version; stamp = rows.stamp; meta = λ is_open. (h is_open).rows.meta }
+lists_us Three rows s h = record { tables = λ is_open. let it = h is_open in record { schema_is = it.schema_is; sound = it.sound; rows = tt }; root = rows.root; image_version = rows.image_version; stamp = rows.stamp; meta = λ is_open. (h is_open).rows.0.meta }
+lists_us Four rows s h = record { tables = λ is_open. let it = h is_open in record { schema_is = it.schema_is; sound = it.sound; rows = tt }; root = rows.root; image_version = rows.image_version; stamp = rows.stamp; meta = λ is_open. (h is_open).rows.meta }
 
 number_in : {a b : ℕ} → Int (pos a) ≡ Int (pos b) → a ≡ b
 number_in p = cc
@@ -37,6 +38,13 @@ numbered : (v w : SchemaVersion) → number_of v ≡ number_of w → v ≡ w
 numbered One One h = refl
 numbered Two Two h = refl
 numbered Three Three h = refl
+numbered Four Four h = refl
+numbered One Four h = absurd (omega (arith, h))
+numbered Two Four h = absurd (omega (arith, h))
+numbered Three Four h = absurd (omega (arith, h))
+numbered Four One h = absurd (omega (arith, h))
+numbered Four Two h = absurd (omega (arith, h))
+numbered Four Three h = absurd (omega (arith, h))
 numbered One Two h = absurd (omega (arith, h))
 numbered One Three h = absurd (omega (arith, h))
 numbered Two One h = absurd (omega (arith, h))
@@ -95,9 +103,9 @@ as_told : (v w : SchemaVersion) (rows : TableRows) (old mid : State) → v ≡ w
 as_told v w rows old mid same before kept clean was = subst (λ u. StandsAs u rows mid) same (stands_kept (schema_of v) (ListsAs v rows) old mid (λ _. was) before kept clean)
 
 -- tables of the latest version are taken as they are
-pub taken_as : (rows : TableRows) (v : SchemaVersion) (old new : State) → ((u : SchemaVersion) → ListsUs u old → Some Three ≡ Some u) → (HasCleanDisk new → HasCleanDisk old) → IfClean (IsAsCommitted old) new → HasCleanDisk new
+pub taken_as : (rows : TableRows) (v : SchemaVersion) (old new : State) → ((u : SchemaVersion) → ListsUs u old → Some Four ≡ Some u) → (HasCleanDisk new → HasCleanDisk old) → IfClean (IsAsCommitted old) new → HasCleanDisk new
     → StandsAs v rows old → Stands up_schema (ListsTables rows) new
-taken_as rows v old new tells before kept clean was = as_told v Three rows old new (told v Three rows old tells was) before kept clean was
+taken_as rows v old new tells before kept clean was = as_told v Four rows old new (told v Four rows old tells was) before kept clean was
 
 module _ (w : SchemaVersion) (old mid new : State) (older : IsOlder w) (before : HasCleanDisk mid → HasCleanDisk old) (kept : IfClean (IsAsCommitted old) mid)
     (tells : HasCleanDisk mid → (u : SchemaVersion) → ListsUs u old → Some w ≡ Some u) where

@@ -9,7 +9,7 @@ use Rattle.sqlite.specs.Tree.{Trees}
 use Rattle.sqlite_trees.specs.declared.store.Store.{Ghosts}
 use Rattle.up_tables.specs.declared.open.OpenFault.{OpenFault}
 use Rattle.up_tables.specs.declared.open.SchemaVersion.{SchemaVersion}
-use Rattle.up_tables.specs.declared.open.SchemaVersion.TheVariants.{One, Two, Three}
+use Rattle.up_tables.specs.declared.open.SchemaVersion.TheVariants.{One, Two, Three, Four}
 use Rattle.up_tables.specs.Making.{IsTaken, ShowsRaised, TriesAnywhere, raising}
 use Rattle.up_tables.specs.Ours.{IsOlder, NamesVersion, older_of, ours_told}
 use Rattle.up_tables.specs.Stands.{IfClean, IsAsCommitted}
@@ -50,7 +50,8 @@ ran_of : (old new : State) (found : Result (Option SchemaVersion) OpenFault) →
 ran_of old new (Ok None) none named kept = λ is. absurd (let no = is in cc)
 ran_of old new (Ok (Some One)) none named kept = absurd (let no = none in cc)
 ran_of old new (Ok (Some Two)) none named kept = absurd (let no = none in cc)
-ran_of old new (Ok (Some Three)) none named kept = λ is clean. inl (named clean, kept clean)
+ran_of old new (Ok (Some Three)) none named kept = absurd (let no = none in cc)
+ran_of old new (Ok (Some Four)) none named kept = λ is clean. inl (named clean, kept clean)
 ran_of old new (Err e) none named kept = tt
 
 pub told_ran : (old new : State) (found : Result (Option SchemaVersion) OpenFault) (told : Result _ OpenFault) → told ≡ ours_told found → older_of found ≡ None → (HasCleanDisk new → IfOk found (λ f. IfSome f (λ version. NamesVersion version old)))

@@ -31,10 +31,10 @@ use Rattle.up_tables.proofs.DeleteLemmas.{empties, id_row}
 use Rattle.up_tables.proofs.InsertLemmas.{inserts_in}
 use Rattle.std.proofs.lemmas.List.{map-append, append_assoc}
 use Rattle.up_tables.specs.Tables.{up_schema, role_key_table}
-use Rattle.up_tables.specs.Texts.{delete_role_keys_text, insert_role_key_text, role_keys_of_text}
+use Rattle.up_tables.specs.Texts.{delete_role_keys_text, insert_role_key_text, all_role_keys_text}
 use Rattle.up_tables.specs.Forms.{keys_shown, role_key_row, role_key_places}
 use Rattle.up_tables.specs.declared.role_key.RoleKeyRow.{RoleKeyRow}
-use Rattle.up_tables.proofs.ByNameLemmas.{added_in}
+use Rattle.up_tables.proofs.ByNameLemmas.{added_in, filter_true}
 use Rattle.up_tables.proofs.EcuInserts.{take_next, take_whole}
 use Rattle.up_tables.proofs.OthersLemmas.{alters_to, alters_none, has_after, alters_then}
 use Rattle.up_tables.proofs.ReadLemmas.{Asks, answers_all, by_rowid}
@@ -78,10 +78,10 @@ role_keys_emptied r old new survives inside ran clean = then_ok r empty (run_in 
         run_alters delete_role_keys_text [] role_key_table _ old new run done.schema_is done.sound now done.others
 
 -- behind the deletion, what is put in is all
-pub role_keys_set : {A B : Type 0} (more : List Row) (old mid new : State) (x : A) (r : Result B StoreFault) → (HasCleanDisk new → HasCleanDisk mid) → SetsRows role_key_table [] old mid (Ok x) → AppendsRows role_key_table more mid new r
-    → SetsRows role_key_table more old new r
-role_keys_set more old mid new x (Err e) before first second clean = tt
-role_keys_set more old mid new x (Ok y) before first second clean = λ all has lists.
+pub role_keys_set : {B : Type 0} (more : List Row) (old mid new : State) (r : Result B StoreFault) → (HasCleanDisk new → HasCleanDisk mid)
+    → (HasCleanDisk mid → (all : List Row) → HasTables old → ListsAll all (old.now.trees role_key_table.tree) → Alters role_key_table (ListsAll []) old mid) → AppendsRows role_key_table more mid new r → SetsRows role_key_table more old new r
+role_keys_set more old mid new (Err e) before first second clean = tt
+role_keys_set more old mid new (Ok y) before first second clean = λ all has lists.
     let none = first (before clean) all has lists in
     let some = second clean [] (has_after role_key_table _ old mid none) none.rows in
     alters_then role_key_table _ _ old mid new none some
@@ -139,17 +139,16 @@ names = codes "root" ∷ codes "repository" ∷ codes "role" ∷ codes "place" �
 shows : (params r : Row) → Rattle.sqlite.specs.Term.eval_all (all_columns 6) (params ∷ r ∷ []) ≡ part (drop 1 r)
 shows params r = rw (column_after r 0, column_after r 1, column_after r 2, column_after r 3, column_after r 4, column_after r 5) refl
 
-keys_of_is : Asks up_schema role_keys_of_text (over role_key_table.tree (equals 1 0 ∷ []) (all_columns 6) by_rowid) names
+keys_are : Asks up_schema all_role_keys_text (over role_key_table.tree [] (all_columns 6) by_rowid) names
 unfolding understood everything
-keys_of_is = (refl, refl, (refl, refl), refl)
+keys_are = (refl, refl, (refl, refl), refl)
 
-pub keys_listed : (root : ℕ) → IsListingIn ListsAll role_keys_of_text (Int (pos root) ∷ []) role_key_table (keys_shown root) (equals 1 0 ∷ []) (all_columns 6) names
+pub keys_listed : IsListingIn ListsAll all_role_keys_text [] role_key_table keys_shown [] (all_columns 6) names
 unfolding understood everything
-keys_listed root = record {
-  asks = keys_of_is;
+keys_listed = record {
+  asks = keys_are;
   takes = (refl, refl, λ trees h. absurd (let e = h in cc));
   answers = λ old new all rows has lists h.
-      answers_all up_schema role_keys_of_text role_key_table.tree (equals 1 0 ∷ []) (all_columns 6) names (Int (pos root) ∷ []) (has_number 0 (pos root)) part
-      (λ x. and-true _ ∙ equals_int (column x 1) (pos root) ∙ ap (λ v. is_eq (value_cmp v (Int (pos root)))) (column_after x 0)) (shows (Int (pos root) ∷ [])) (λ db. refl) keys_of_is old new rows has lists.shaped.0 h
-      ∙ ap (keys_shown root) lists.every;
+      answers_all up_schema all_role_keys_text role_key_table.tree [] (all_columns 6) names [] (λ _. true) part (λ x. refl) (shows []) (λ db. refl) keys_are old new rows has lists.shaped.0 h
+      ∙ ap (map part) (filter_true _) ∙ ap keys_shown lists.every;
 }

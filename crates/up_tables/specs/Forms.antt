@@ -7,7 +7,8 @@ use Rattle.up_tables.specs.declared.kept.KeptRow.{KeptRow}
 use Rattle.up_tables.specs.declared.repo_file.FileRow.{FileRow}
 use Rattle.up_tables.specs.Rows.{columns_at, has_number, with_only_at}
 use Rattle.up_tables.specs.declared.vehicle.VehicleRow.{VehicleRow}
-use Rattle.up_tables.specs.Lines.{meta_row, campaign_line, vehicle_line, yes_or_no}
+use Rattle.up_tables.specs.Lines.{meta_row, image_repository_row, campaign_line, vehicle_line, yes_or_no}
+use Rattle.up_tables.specs.declared.image_repository.ImageRepositoryRow.{ImageRepositoryRow}
 use Rattle.up_tables.specs.declared.meta.MetaRow.{MetaRow}
 use Rattle.up_tables.specs.declared.role_key.RoleKeyRow.{RoleKeyRow}
 use Rattle.up_tables.specs.declared.campaign.CampaignRow.{CampaignRow}
@@ -87,6 +88,17 @@ pub record FitMeta (m : MetaRow) : Type 0 where
   pub image_version : m.image_version < 2 ^ 63
   pub stamp : m.stamp < 2 ^ 63
 
+-- the row of `image_repository` with these numbers
+abbrev pub image_repository_of : ImageRepositoryRow → Row
+image_repository_of r = image_repository_row r.root r.targets
+
+abbrev pub image_repository_values : ImageRepositoryRow → Row
+image_repository_values r = Int (pos r.root) ∷ Int (pos r.targets) ∷ []
+
+pub record FitImageRepository (r : ImageRepositoryRow) : Type 0 where
+  pub root : r.root < 2 ^ 63
+  pub targets : r.targets < 2 ^ 63
+
 -- a key of a role in a root version, at its place there, with the role's threshold
 abbrev pub role_key_row : RoleKeyRow → Row
 role_key_row k =
@@ -95,9 +107,9 @@ role_key_row k =
 abbrev pub role_key_places : List ℕ
 role_key_places = 0 ∷ 1 ∷ 2 ∷ 3 ∷ 4 ∷ 5 ∷ []
 
--- the rows of this root version
-abbrev pub keys_shown : ℕ → List Row → List Row
-keys_shown root all = map (columns_at role_key_places) (filter (has_number 0 (pos root)) all)
+-- what a read of keys shows of them
+abbrev pub keys_shown : List Row → List Row
+keys_shown all = map (columns_at role_key_places) all
 
 pub record FitRoleKey (k : RoleKeyRow) : Type 0 where
   pub root : k.root < 2 ^ 63

@@ -5,7 +5,7 @@ use Rattle.sqlite.specs.Order.{Row, column, value_cmp}
 use Rattle.sqlite.specs.State.{State, HasCleanDisk}
 use Rattle.up_tables.specs.Rows.{columns_at, has_number}
 use Rattle.up_tables.specs.Stands.{HasTables}
-use Rattle.up_tables.specs.Tables.{meta_table}
+use Rattle.up_tables.specs.Tables.{image_repository_table, meta_table}
 
 -- ---- the row of `meta`
 
@@ -20,6 +20,19 @@ FindsMeta told old new result = HasCleanDisk new → IfOk result (λ found. HasT
 -- P holds of them
 abbrev pub HoldsOfMeta : (List Row → Type 0) → State → Type 0
 HoldsOfMeta P s = P (meta_shown (s.now.trees meta_table.tree))
+
+-- ---- the row of `image_repository`
+
+-- its numbers in the rows whose rowid is 1
+abbrev pub image_repository_shown : List Row → List Row
+image_repository_shown rows = map (columns_at (2 ∷ 3 ∷ [])) (filter (has_number 0 (pos 1)) rows)
+
+abbrev pub FindsImageRepository : {A E : Type 0} → (List Row → A → Type 0) → State → State → Result A E → Type 0
+FindsImageRepository told old new result =
+    HasCleanDisk new → IfOk result (λ found. HasTables old → told (image_repository_shown (old.now.trees image_repository_table.tree)) found)
+
+abbrev pub HoldsOfImageRepository : (List Row → Type 0) → State → Type 0
+HoldsOfImageRepository P s = P (image_repository_shown (s.now.trees image_repository_table.tree))
 
 -- ---- the ECUs of a vehicle
 

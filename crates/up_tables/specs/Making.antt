@@ -1,19 +1,20 @@
 -- By which statements the tables are made, and those of an older version raised; what is then there; and why they are not.
-use Rattle.std.specs.Prelude.{◌≡◌, ◌++◌, ◌⊎◌, ℕ, false, List, [], ◌∷◌, Option, Result, Ok, Err, codes, IsTrue}
+use Rattle.std.specs.Prelude.{◌≡◌, ◌≢◌, ◌++◌, ◌⊎◌, ℕ, false, List, [], ◌∷◌, Option, Result, Ok, Err, codes, IsTrue}
 use Rattle.sqlite.specs.declared.error.Error.{Error}
 use Rattle.sqlite.specs.Effect.{Database}
 use Rattle.sqlite.specs.Listing.{understood}
 use Rattle.sqlite.specs.Order.{Row}
 use Rattle.sqlite.specs.State.{State}
 use Rattle.sqlite.specs.Tree.{Trees}
+use Rattle.sqlite_resolve.specs.declared.compiled.Compiled.{Compiled}
 use Rattle.sqlite_resolve.specs.declared.error.CompileError.{CompileError}
 use Rattle.up_tables.specs.declared.open.OpenFault.TheVariants.{Store}
 use Rattle.up_tables.specs.declared.open.SchemaVersion.{SchemaVersion}
-use Rattle.up_tables.specs.declared.open.SchemaVersion.TheVariants.{One, Two, Three}
+use Rattle.up_tables.specs.declared.open.SchemaVersion.TheVariants.{One, Two, Three, Four}
 use Rattle.up_tables.specs.Faults.{open_fault}
 use Rattle.up_tables.specs.Ours.{HasFailed, IsOlder, NamesVersion}
 use Rattle.up_tables.specs.Stands.{HasNoTables, IsAsCommitted, LeavesOnly}
-use Rattle.up_tables.specs.Tables.{meta_text, role_key_text, repo_file_text, image_text, campaign_text, vehicle_text, ecu_text, kept_text, retired_text, image_sha512_text}
+use Rattle.up_tables.specs.Tables.{meta_text, role_key_text, repo_file_text, image_text, campaign_text, vehicle_text, ecu_text, kept_text, retired_text, image_sha512_text, image_repository_text, retired_vehicle_text}
 use Rattle.up_tables.specs.Tried.{IsRefused, Makes, MakesOf, RefusesOne}
 
 -- ---- the statements, in their order
@@ -29,32 +30,50 @@ abbrev pub inventory_making : List (List ℕ × Row)
 inventory_making = (campaign_text, []) ∷ (vehicle_text, []) ∷ (ecu_text, []) ∷ (kept_text, []) ∷ []
 
 abbrev pub later_making : List (List ℕ × Row)
-later_making = (retired_text, []) ∷ (image_sha512_text, []) ∷ []
+later_making = (retired_text, []) ∷ (image_sha512_text, []) ∷ (image_repository_text, []) ∷ (retired_vehicle_text, []) ∷ []
 
 abbrev pub tables_making : List (List ℕ × Row)
 tables_making = repositories_making ++ (inventory_making ++ later_making)
 
 abbrev pub name_text : List ℕ
-name_text = codes "INSERT INTO meta (id, app, schema, root, image_version, stamp) VALUES (1, 'uptane_desk', 3, 0, 0, 0)"
+name_text = codes "INSERT INTO meta (id, app, schema, root, image_version, stamp) VALUES (1, 'uptane_desk', 4, 0, 0, 0)"
 
--- all tables, and the row that says whose they are
+abbrev pub first_numbers_text : List ℕ
+first_numbers_text = codes "INSERT INTO image_repository (id, root, targets) VALUES (1, 0, 0)"
+
+-- all tables, the row that says whose they are, and the image repository's numbers
 abbrev pub making : List (List ℕ × Row)
-making = tables_making ++ alone name_text
+making = tables_making ++ (alone name_text ++ alone first_numbers_text)
 
 abbrev pub set_schema_text : List ℕ
-set_schema_text = codes "UPDATE meta SET schema = 3 WHERE id = 1"
+set_schema_text = codes "UPDATE meta SET schema = 4 WHERE id = 1"
+
+-- both repositories had one number of root versions, and Targets the version of the rest
+abbrev pub same_numbers_text : List ℕ
+same_numbers_text = codes "INSERT INTO image_repository (id, root, targets) SELECT id, root, image_version FROM meta"
+
+-- secrets of earlier root versions sign nothing any more
+abbrev pub drop_keys_text : List ℕ
+drop_keys_text = codes "DELETE FROM role_key WHERE root < (SELECT root FROM meta)"
+
+-- what version 4 has and version 3 hasn't, and the number
+abbrev pub raising_third : List (List ℕ × Row)
+raising_third =
+    (image_repository_text, []) ∷ (retired_vehicle_text, []) ∷ (same_numbers_text, []) ∷ (drop_keys_text, []) ∷ (set_schema_text, []) ∷ []
 
 -- of tables of this version, those of the latest
 abbrev pub raising : SchemaVersion → List (List ℕ × Row)
-raising One = (retired_text, []) ∷ (image_sha512_text, []) ∷ (set_schema_text, []) ∷ []
-raising Two = (image_sha512_text, []) ∷ (set_schema_text, []) ∷ []
-raising Three = []
+raising One = (retired_text, []) ∷ (image_sha512_text, []) ∷ raising_third
+raising Two = (image_sha512_text, []) ∷ raising_third
+raising Three = raising_third
+raising Four = []
 
 -- ---- over any tables
 
--- the text is no statement over the database, as where a table that it makes is there already
+-- The text is no statement over the database, as where a table that it makes is there already. Or it reads the time, which isn't given: no
+-- database meets that behind the statement that makes the table, which has no default.
 abbrev pub IsNotTaken : List ℕ → Database → Type 0
-IsNotTaken text db = (why : CompileError) × (understood db.schema text ≡ Err why)
+IsNotTaken text db = ((why : CompileError) × (understood db.schema text ≡ Err why)) ⊎ ((c : Compiled) × (understood db.schema text ≡ Ok c) × (c.formats ≢ []))
 
 -- one of them is no statement, or is refused, behind those before it, which went through
 abbrev pub StopsAtOne : Option ℕ → List (List ℕ × Row) → Database → Type 0
@@ -105,7 +124,7 @@ pub record ShowsRaised (version : SchemaVersion) (limit : Option ℕ) (db : Data
 
 -- `meta` names the latest version, and what was committed is shown; or it names an older one, and what raises its tables makes of that is shown
 abbrev pub IsTaken : State → State → Type 0
-IsTaken old new = (NamesVersion Three old × IsAsCommitted old new)
+IsTaken old new = (NamesVersion Four old × IsAsCommitted old new)
     ⊎ ((version : SchemaVersion) × IsOlder version × NamesVersion version old × ShowsRaised version old.step_limit old.committed new)
 
 -- ---- what a crash may leave where tables are raised

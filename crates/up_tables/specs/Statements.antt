@@ -11,21 +11,23 @@ use Rattle.sqlite.specs.Order.{Row}
 use Rattle.sqlite.specs.Schema.{Schema}
 use Rattle.sqlite.specs.State.{State, HasCleanDisk}
 use Rattle.sqlite.specs.Table.{Table}
+use Rattle.sqlite.specs.Tree.{Trees}
+use Rattle.up_tables.specs.declared.image_repository.ImageRepositoryRow.{ImageRepositoryRow}
 use Rattle.up_tables.specs.declared.meta.MetaRow.{MetaRow}
 use Rattle.up_tables.specs.declared.open.SchemaVersion.{SchemaVersion}
 use Rattle.up_tables.specs.declared.repo_file.FileRow.{FileRow}
 use Rattle.up_tables.specs.declared.values.StoreFault.{StoreFault}
 use Rattle.up_tables.specs.declared.values.StoreFault.TheVariants.{Store}
 use Rattle.up_tables.specs.declared.vehicle.VehicleRow.{VehicleRow}
-use Rattle.up_tables.specs.Forms.{file_row, meta_of, set_files, vehicle_row}
-use Rattle.up_tables.specs.Lines.{EcuLine, AreRecorded, IsRecorded, campaign_line, ecu_row, meta_row, meta_row_of, set_ecu, set_ecus, vehicle_line}
+use Rattle.up_tables.specs.Forms.{image_repository_of, file_row, meta_of, set_files, vehicle_row}
+use Rattle.up_tables.specs.Lines.{EcuLine, AreRecorded, IsRecorded, campaign_line, ecu_row, image_repository_row, meta_row, meta_row_of, set_ecu, set_ecus, vehicle_line}
 use Rattle.up_tables.specs.Listed.{TableRows, ListsTables}
 use Rattle.up_tables.specs.Makes.{MakesIn}
 use Rattle.up_tables.specs.Replaced.{replaced_line, with_replaced}
 use Rattle.up_tables.specs.Rows.{with_only, with_only_at}
 use Rattle.up_tables.specs.Stands.{AnyRows, GoesOn, IfClean, IsInside, IsOpen, IsReadable, IsWithin, HasTables, Alters, Lists, ListsAll, ListsPairs, Reads, Steps}
-use Rattle.up_tables.specs.Tables.{campaign_table, ecu_table, meta_table, repo_file_table, up_schema, vehicle_table}
-use Rattle.up_tables.specs.Versions.{ListsAs, schema_of}
+use Rattle.up_tables.specs.Tables.{campaign_table, ecu_table, image_repository_table, meta_table, repo_file_table, role_key_table, up_schema, vehicle_table}
+use Rattle.up_tables.specs.Versions.{ListsKeys, ListsAs, schema_of}
 
 -- ---- any step
 
@@ -75,6 +77,13 @@ abbrev pub SetsMeta : {A E : Type 0} → MetaRow → State → State → Result 
 SetsMeta meta old new result =
     HasCleanDisk new → OnOk result ((root : ℕ) (image_version : ℕ) (stamp : ℕ) → HasTables old
     → old.now.trees meta_table.tree ≡ meta_row root image_version stamp ∷ [] → Alters meta_table (λ rows. rows ≡ meta_of meta ∷ []) old new)
+
+-- the one row of `image_repository` has these numbers
+abbrev pub SetsImageRepository : {A E : Type 0} → ImageRepositoryRow → State → State → Result A E → Type 0
+SetsImageRepository row old new result =
+    HasCleanDisk new → OnOk result ((root : ℕ) (targets : ℕ) → HasTables old
+    → old.now.trees image_repository_table.tree ≡ image_repository_row root targets ∷ []
+    → Alters image_repository_table (λ rows. rows ≡ image_repository_of row ∷ []) old new)
 
 -- a file that stood there once at most has this text
 abbrev pub SetsFile : {A E : Type 0} → FileRow → State → State → Result A E → Type 0
@@ -184,6 +193,25 @@ NamesLatest old new result =
     HasCleanDisk new → OnOk result ((number : ℕ) (root : ℕ) (image_version : ℕ) (stamp : ℕ) → HasTables old
     → old.now.trees meta_table.tree ≡ meta_row_of number root image_version stamp ∷ []
     → Alters meta_table (λ rows. rows ≡ meta_row root image_version stamp ∷ []) old new)
+
+-- the image repository gets the numbers of `meta`
+abbrev pub TakesNumbers : {A E : Type 0} → State → State → Result A E → Type 0
+TakesNumbers old new result =
+    HasCleanDisk new → OnOk result ((number : ℕ) (root : ℕ) (image_version : ℕ) (stamp : ℕ) → HasTables old
+    → old.now.trees meta_table.tree ≡ meta_row_of number root image_version stamp ∷ [] → old.now.trees image_repository_table.tree ≡ []
+    → Alters image_repository_table (λ rows. rows ≡ image_repository_row root image_version ∷ []) old new)
+
+-- of the keys those of the last root version stay
+abbrev pub DropsKeys : {A E : Type 0} → State → State → Result A E → Type 0
+DropsKeys old new result =
+    HasCleanDisk new → OnOk result ((number : ℕ) (root : ℕ) (image_version : ℕ) (stamp : ℕ) (keys : List Row) → HasTables old
+    → old.now.trees meta_table.tree ≡ meta_row_of number root image_version stamp ∷ [] → ListsKeys root keys (old.now.trees role_key_table.tree)
+    → Alters role_key_table (ListsAll keys) old new)
+
+-- tables of this schema are those of the latest, with the rows that were there, whatever number `meta` names
+abbrev pub RaisesAny : {A E : Type 0} → Schema → (ℕ → TableRows → Trees → Type 0) → State → State → Result A E → Type 0
+RaisesAny schema Lists old new result =
+    HasCleanDisk new → OnOk result ((number : ℕ) (rows : TableRows) → IsWithin schema (Lists number rows) old → GoesOn up_schema (ListsTables rows) new)
 
 -- tables of this version are those of the latest, with the rows that were there
 abbrev pub RaisesFrom : {A E : Type 0} → SchemaVersion → State → State → Result A E → Type 0

@@ -53,8 +53,8 @@ upsert_file_text = codes "INSERT INTO repo_file (repository, name, body) VALUES 
 abbrev pub find_founding_text : List ℕ
 find_founding_text = codes "SELECT root, image_version, stamp FROM meta WHERE id = 1"
 
-abbrev pub role_keys_of_text : List ℕ
-role_keys_of_text = codes "SELECT root, repository, role, place, secret, threshold FROM role_key WHERE root = ?1 ORDER BY rowid"
+abbrev pub all_role_keys_text : List ℕ
+all_role_keys_text = codes "SELECT root, repository, role, place, secret, threshold FROM role_key ORDER BY rowid"
 
 abbrev pub find_file_text : List ℕ
 find_file_text = codes "SELECT repository, name, body FROM repo_file WHERE repository = ?1 AND name = ?2"
@@ -91,3 +91,17 @@ find_retired_text = codes "SELECT vehicle FROM retired WHERE ecu = ?1"
 
 abbrev pub find_kept_text : List ℕ
 find_kept_text = codes "SELECT vehicle, counter, version, moment, root, signed, plan_text, reply FROM kept WHERE vehicle = ?1 AND counter = ?2"
+
+-- ---- the image repository's numbers, and vehicles that were shut out
+
+abbrev pub update_image_repository_text : List ℕ
+update_image_repository_text = codes "UPDATE image_repository SET root = ?1, targets = ?2 WHERE id = 1"
+
+abbrev pub find_image_repository_text : List ℕ
+find_image_repository_text = codes "SELECT root, targets FROM image_repository WHERE id = 1"
+
+abbrev pub insert_retired_vehicle_text : List ℕ
+insert_retired_vehicle_text = codes "INSERT INTO retired_vehicle (vehicle) VALUES (?1)"
+
+abbrev pub find_retired_vehicle_text : List ℕ
+find_retired_vehicle_text = codes "SELECT vehicle FROM retired_vehicle WHERE vehicle = ?1"

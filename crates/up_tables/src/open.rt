@@ -42,8 +42,11 @@ pub enum SchemaVersion {
     One,
     /// `retired`, too.
     Two,
-    /// `image_sha512`, too: the version that is made, and to which the others are raised.
+    /// `image_sha512`, too.
     Three,
+    /// `image_repository` and `retired_vehicle`, too, and the secrets of the last root version alone: the version that is made, and to which the
+    /// others are raised.
+    Four,
 }
 
 /// Whether the database has no table, index or view.
@@ -110,8 +113,8 @@ fn older(found: Result<Option<SchemaVersion>, OpenFault>) -> Option<SchemaVersio
 {
     match found {
         Ok(Some(version)) => match version {
-            SchemaVersion::One | SchemaVersion::Two => Some(version),
-            SchemaVersion::Three => None,
+            SchemaVersion::One | SchemaVersion::Two | SchemaVersion::Three => Some(version),
+            SchemaVersion::Four => None,
         },
         _ => None,
     }
@@ -231,6 +234,8 @@ fn version_numbered(number: i64) -> Option<SchemaVersion>
         Some(SchemaVersion::Two)
     } else if number == 3 {
         Some(SchemaVersion::Three)
+    } else if number == 4 {
+        Some(SchemaVersion::Four)
     } else {
         None
     }

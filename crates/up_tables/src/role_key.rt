@@ -7,7 +7,7 @@ ghost use Rattle.up_tables.specs.Forms.{FitRoleKey, keys_shown, role_key_row};
 ghost use Rattle.up_tables.specs.Statements.{AppendsRows, FindsAll, HoldsOfAll, SetsRows, WhereOpen};
 ghost use Rattle.up_tables.specs.Stored.{AreWritten, EachSays, IsLine, IsQueried, IsWritten, Tells};
 ghost use Rattle.up_tables.specs.Tables.{role_key_table};
-ghost use Rattle.up_tables.specs.Texts.{delete_role_keys_text, insert_role_key_text, role_keys_of_text};
+ghost use Rattle.up_tables.specs.Texts.{all_role_keys_text, delete_role_keys_text, insert_role_key_text};
 
 use crate::reading::RowReading;
 use crate::statement::{list_values, write};
@@ -86,23 +86,21 @@ pub fn insert_role_keys<S: Alter>(
     Ok(())
 }
 
-/// The keys of a root version, in the order in which they were put in.
-pub fn role_keys_of<S: Alter, R: RowReading>(
+/// All keys, in the order of the table.
+pub fn role_keys<S: Alter, R: RowReading>(
     tx: &mut Transaction<'_, S>,
     alloc: Global,
-    root: u64,
 ) -> Result<Vec<R::Item>, StoreFault>
-    requires root { root < 2 ^ 63 }
-    ensures { IsQueried S.Store role_keys_of_text (Int (pos root) ∷ [])
+    ensures { IsQueried S.Store all_role_keys_text []
         (λ rows found. EachSays (Tells R.says R.fits R.line) rows found.items)
-        (FindsAll role_key_table (λ all found. EachSays (Tells R.says R.fits R.line) (keys_shown root all) found.items))
-        (HoldsOfAll role_key_table (λ all. AllByRecursion (IsLine R.fits R.line) (keys_shown root all)))
+        (FindsAll role_key_table (λ all found. EachSays (Tells R.says R.fits R.line) (keys_shown all) found.items))
+        (HoldsOfAll role_key_table (λ all. AllByRecursion (IsLine R.fits R.line) (keys_shown all)))
         tx.old.conn tx.new.conn result }
 {
     list_values::<S, R>(
         tx,
         alloc,
-        "SELECT root, repository, role, place, secret, threshold FROM role_key WHERE root = ?1 ORDER BY rowid",
-        &[number(root)],
+        "SELECT root, repository, role, place, secret, threshold FROM role_key ORDER BY rowid",
+        &[],
     )
 }

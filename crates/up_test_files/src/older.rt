@@ -32,12 +32,13 @@ const ROWS: [&str; 5] = [
 ];
 
 /// Each finds one row where a file holds the rows above, in tables of this schema.
-const HELD: [&str; 5] = [
-    "SELECT id FROM meta WHERE app = 'uptane_desk' AND schema = 3 AND root = 1 AND image_version = 1 AND stamp = 1000",
+const HELD: [&str; 6] = [
+    "SELECT id FROM meta WHERE app = 'uptane_desk' AND schema = 4 AND root = 1 AND image_version = 1 AND stamp = 1000",
     "SELECT name FROM repo_file WHERE body = '{\"signed\":1}'",
     "SELECT vehicle FROM vehicle WHERE primary_ecu = 'P1' AND version = 1 AND last_counter = 7",
     "SELECT ecu FROM ecu WHERE file = 'a.bin' AND counter = 9 AND report = '{\"ecu\":\"P1\"}'",
     "SELECT vehicle FROM kept WHERE counter = 7 AND signed = '{\"counter\":7}' AND reply = '{\"reply\":7}'",
+    "SELECT id FROM image_repository WHERE root = 1 AND targets = 1",
 ];
 
 /// What makes schema 2 of it, with an ECU that was replaced.
@@ -45,6 +46,14 @@ const SECOND: [&str; 3] = [
     RETIRED_TABLE,
     "INSERT INTO retired VALUES ('S1', 'V1')",
     "UPDATE meta SET schema = 2",
+];
+
+/// What makes schema 3 of that, with the secrets of an earlier root version.
+const THIRD: [&str; 4] = [
+    "CREATE TABLE image_sha512 (file TEXT NOT NULL PRIMARY KEY REFERENCES image (file), sha512 BLOB NOT NULL) STRICT",
+    "INSERT INTO role_key VALUES (0, 'image', 'root', 0, x'01', 1)",
+    "INSERT INTO role_key VALUES (1, 'image', 'root', 0, x'02', 1)",
+    "UPDATE meta SET schema = 3",
 ];
 
 const TABLES: &str = "SELECT name FROM sqlite_schema WHERE type = 'table'";
@@ -108,7 +117,7 @@ fn close(conn: Connection<FileStore<FileFrom<Unknown>>>) -> io::Result<()> {
     }
 }
 
-/// Whether the file is taken, holds the rows in tables of this schema, and has all ten of these. It is closed again.
+/// Whether the file is taken, holds the rows in tables of this schema, and has all twelve of these. It is closed again.
 fn is_raised(rt: &HostRuntime, path: &str) -> io::Result<bool> {
     let Some(mut conn) = taken(found(rt, path)?) else {
         return Ok(false);
@@ -120,7 +129,7 @@ fn is_raised(rt: &HostRuntime, path: &str) -> io::Result<bool> {
     }
     let tables = count(&mut conn, TABLES)?;
     close(conn)?;
-    Ok(tables == 10)
+    Ok(tables == 12)
 }
 
 /// Whether the file is refused, and none of its bytes is changed by that.
@@ -166,15 +175,40 @@ fn a_file_of_schema_2_is_raised(rt: HostRuntime) -> Result<(), Fail> {
 
 // promise: file-adopted
 #[test]
+fn a_file_of_schema_3_keeps_its_last_secrets(rt: HostRuntime) -> Result<(), Fail> {
+    in_new_folder(&rt, "up_file_third")?;
+    make(&rt, "up_file_third/a.db", SECOND.as_slice())?;
+    let mut conn = found(&rt, "up_file_third/a.db")?;
+    carry_out(&mut conn, THIRD.as_slice())?;
+    close(conn)?;
+    assert!(rt; is_raised(&rt, "up_file_third/a.db")?);
+    let mut conn = found(&rt, "up_file_third/a.db")?;
+    assert_eq!(rt; count(&mut conn, "SELECT secret FROM role_key")?, 1);
+    assert_eq!(rt;
+        count(
+            &mut conn,
+            "SELECT secret FROM role_key WHERE root = 1 AND secret = x'02'"
+        )?,
+        1
+    );
+    drop(conn);
+    fs::remove_dir_all(&rt, "up_file_third")?;
+    Ok(())
+}
+
+// promise: file-adopted
+#[test]
 fn another_schema_is_refused(rt: HostRuntime) -> Result<(), Fail> {
     for (change, wanted) in [
-        ("UPDATE meta SET schema = 4", Unopened::NewerSchema),
+        ("UPDATE meta SET schema = 5", Unopened::NewerSchema),
         ("UPDATE meta SET schema = 0", Unopened::Damaged),
         ("UPDATE meta SET app = 'uptane'", Unopened::OtherProduct),
         ("UPDATE meta SET id = 2", Unopened::OtherProduct),
         ("DROP TABLE meta", Unopened::OtherProduct),
         ("CREATE TABLE retired (n INTEGER)", Unopened::Damaged),
         ("CREATE TABLE image_sha512 (n INTEGER)", Unopened::Damaged),
+        ("CREATE TABLE image_repository (n INTEGER)", Unopened::Damaged),
+        ("CREATE TABLE retired_vehicle (n INTEGER)", Unopened::Damaged),
     ] {
         in_new_folder(&rt, "up_file_other")?;
         make(&rt, "up_file_other/a.db", &[change])?;
@@ -193,11 +227,11 @@ fn a_new_file_gets_the_tables(rt: HostRuntime) -> Result<(), Fail> {
     let Some(mut conn) = taken(found(&rt, "up_file_made/a.db")?) else {
         return Err(Fail::from(io::Error::from(io::ErrorKind::Other)));
     };
-    assert_eq!(rt; count(&mut conn, TABLES)?, 10);
+    assert_eq!(rt; count(&mut conn, TABLES)?, 12);
     assert_eq!(rt;
         count(
             &mut conn,
-            "SELECT id FROM meta WHERE schema = 3 AND root = 0"
+            "SELECT id FROM meta WHERE schema = 4 AND root = 0"
         )?,
         1
     );

@@ -8,12 +8,14 @@ use std::alloc::Global;
 use up_tables::campaign::{campaign, running_campaigns};
 use up_tables::ecu::{ecu_owner, ecus};
 use up_tables::image::{image, images};
+use up_tables::image_repository::image_repository;
 use up_tables::image_sha512::{image_sha512, image_sha512s};
 use up_tables::kept::kept;
 use up_tables::meta::meta;
 use up_tables::repo_file::file;
 use up_tables::retired::retired_owner;
-use up_tables::role_key::role_keys_of;
+use up_tables::retired_vehicle::retired_vehicle;
+use up_tables::role_key::role_keys;
 use up_tables::values::{StoreFault, fault_of};
 use up_tables::vehicle::vehicle;
 
@@ -26,10 +28,9 @@ pub(crate) fn read<S: Alter>(
     let (word, rest) = first_of(given);
     match word {
         "meta" => one(alloc, meta::<S, Columns>(tx, alloc)),
-        "keys_of" => all(
-            alloc,
-            role_keys_of::<S, Columns>(tx, alloc, number(rest, 0)),
-        ),
+        "numbers" => one(alloc, image_repository::<S, Columns>(tx, alloc)),
+        "keys" => all(alloc, role_keys::<S, Columns>(tx, alloc)),
+        "shut_out" => one(alloc, retired_vehicle::<S, Columns>(tx, alloc, rest)),
         "file" => read_file(tx, alloc, rest),
         _ => read_image(tx, alloc, word, rest),
     }

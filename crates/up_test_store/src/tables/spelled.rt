@@ -2,12 +2,13 @@
 //! `FILE:LENGTH:SHA256`, and a `-` stands for nothing. A word that is left out is empty, and a number 0.
 ghost use Rattle.std.specs.Prelude.{◌<◌, ◌^◌, IfSome};
 ghost use Rattle.up_tables.specs.Ecus.{FitEcu};
-ghost use Rattle.up_tables.specs.Forms.{FitImage, FitKept, FitMeta, FitRoleKey, FitVehicle};
+ghost use Rattle.up_tables.specs.Forms.{FitImage, FitImageRepository, FitKept, FitMeta, FitRoleKey, FitVehicle};
 
 use crate::tables::words::{number, word};
 use up_tables::campaign::CampaignRow;
 use up_tables::ecu::{EcuRow, Installed};
 use up_tables::image::ImageRow;
+use up_tables::image_repository::ImageRepositoryRow;
 use up_tables::kept::KeptRow;
 use up_tables::meta::MetaRow;
 use up_tables::repo_file::FileRow;
@@ -21,6 +22,15 @@ pub(crate) fn numbers(text: &str) -> MetaRow
         root: number(text, 0),
         image_version: number(text, 1),
         stamp: number(text, 2),
+    }
+}
+
+pub(crate) fn own_numbers(text: &str) -> ImageRepositoryRow
+    ensures { FitImageRepository result }
+{
+    ImageRepositoryRow {
+        root: number(text, 0),
+        targets: number(text, 1),
     }
 }
 

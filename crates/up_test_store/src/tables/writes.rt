@@ -1,12 +1,12 @@
 //! Statements that write.
 //!
-//! `put image`, `put sha512 FILE HASH`, `put campaign`, `put vehicle VEHICLE ; ECU ; ..`, `put retired ECU VEHICLE`, `put root META ; KEY
-//! ; ..`, `set ecu OLD ECU HARDWARE KEY`, which puts an ECU in the place of the old one, `set files META ; FILE ; ..` and `set manifest
-//! VEHICLE ; KEPT ; ECU ; ..`, which puts in the kept row and sets the others.
+//! `put image`, `put sha512 FILE HASH`, `put campaign`, `put vehicle VEHICLE ; ECU ; ..`, `put retired ECU VEHICLE`, `put shut_out VEHICLE`,
+//! `put root META ; KEY ; ..`, which leaves no other keys, `set ecu OLD ECU HARDWARE KEY`, which puts an ECU in the place of the old one, `set
+//! numbers ROOT TARGETS`, `set files META ; FILE ; ..` and `set manifest VEHICLE ; KEPT ; ECU ; ..`, which puts in the kept row and sets the others.
 ghost use Rattle.std.specs.Prelude.{◌<◌, ◌^◌, IfOk};
 
 use crate::tables::spelled::{
-    campaign, ecu, file, image, installed_hash, kept, numbers, role_key, vehicle,
+    campaign, ecu, file, image, installed_hash, kept, numbers, own_numbers, role_key, vehicle,
 };
 use crate::tables::words::{bytes, first_of, parts_of, word};
 use sqlite::{Alter, Transaction};
@@ -14,13 +14,15 @@ use std::alloc::Global;
 use up_tables::campaign::{close_campaign, insert_campaign};
 use up_tables::ecu::{insert_ecu, update_ecu};
 use up_tables::image::insert_image;
+use up_tables::image_repository::update_image_repository;
 use up_tables::image_sha512::insert_image_sha512;
 use up_tables::kept::insert_kept;
 use up_tables::meta::update_meta;
 use up_tables::replace::replace_ecu;
 use up_tables::repo_file::upsert_files;
 use up_tables::retired::insert_retired;
-use up_tables::role_key::insert_role_keys;
+use up_tables::retired_vehicle::insert_retired_vehicle;
+use up_tables::role_key::{insert_role_keys, replace_role_keys};
 use up_tables::values::StoreFault;
 use up_tables::vehicle::{insert_vehicle, upsert_vehicle};
 
@@ -58,6 +60,7 @@ fn put<S: Alter>(
         "vehicle" => told(put_vehicle(tx, alloc, rest)),
         "sha512" => told(put_sha512(tx, alloc, rest)),
         "retired" => told(put_retired(tx, rest)),
+        "shut_out" => told(insert_retired_vehicle(tx, rest)),
         _ => Ok("no such statement"),
     }
 }
@@ -72,6 +75,7 @@ fn set<S: Alter>(
         "files" => told(set_files(tx, rest)),
         "manifest" => told(set_manifest(tx, alloc, rest)),
         "ecu" => told(set_ecu(tx, alloc, rest)),
+        "numbers" => told(update_image_repository(tx, &own_numbers(rest))),
         _ => Ok("no such statement"),
     }
 }
@@ -137,12 +141,30 @@ fn put_keys<S: Alter>(
     alloc: Global,
     given: &str,
 ) -> Result<(), StoreFault> {
-    for part in given.split(" ; ") {
+    let (first, others) = parts_of(given);
+    put_first_key(tx, alloc, first)?;
+    if others.is_empty() {
+        return Ok(());
+    }
+    for part in others.split(" ; ") {
         put_key(tx, alloc, part)?;
     }
     Ok(())
 }
 
+/// The key, in the place of all that were there.
+fn put_first_key<S: Alter>(
+    tx: &mut Transaction<'_, S>,
+    alloc: Global,
+    given: &str,
+) -> Result<(), StoreFault> {
+    match bytes(alloc, word(given, 4)) {
+        Ok(secret) => replace_role_keys(tx, &[role_key(given, secret.as_slice())]),
+        Err(_) => Err(StoreFault::Memory),
+    }
+}
+
+/// One key more.
 fn put_key<S: Alter>(
     tx: &mut Transaction<'_, S>,
     alloc: Global,

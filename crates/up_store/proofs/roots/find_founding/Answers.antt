@@ -9,7 +9,7 @@ pub returns-in-Ok : goal.returns-in-Ok
 returns-in-Ok g c inside =
     let before = state g.D.Store c.args.tx.now.conn.now in
     let mid = state g.D.Store c.find_numbers.new.tx.conn.now in
-    let numbers = c.in-Ok.ensures.finds inside in
+    let numbers = c.in-Ok.ensures inside in
     let reads = numbers.reads in
     let founded = c.find_founded.ensures (λ clean. (reads clean).is_open) (λ clean. let then : HasCleanDisk before = omega (arith, clean, numbers.step.steps.survives.clean) in (reads clean).mode ∙ inside then) in
     record {

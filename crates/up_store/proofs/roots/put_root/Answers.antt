@@ -18,3 +18,6 @@ returns-in_err-keys g c inside = makes_none g.D.Store _ (root_writes c.args.new.
 
 pub returns-in_err-name : goal.returns-in_err-name
 returns-in_err-name g c inside = makes_none g.D.Store _ (root_writes c.args.new.now) (λ _. FitsFounding c.args.new.now.founding) _ c.from_residual-in_err-name.result Memory c.from_residual-in_err-name.ensures.1 (λ e clean. tt) (λ store. absurd (let no : Memory ≡ Store = store in cc))
+
+pub returns-in_err-image_name : goal.returns-in_err-image_name
+returns-in_err-image_name g c inside = makes_none g.D.Store _ (root_writes c.args.new.now) (λ _. FitsFounding c.args.new.now.founding) _ c.from_residual-in_err-image_name.result Memory c.from_residual-in_err-image_name.ensures.1 (λ e clean. tt) (λ store. absurd (let no : Memory ≡ Store = store in cc))

@@ -20,12 +20,13 @@ returns g c inside =
     let roots = rw c.root_files.ensures.same at (c.in_ok-put_files.ensures keys.step.is_open keys.step.inside) in
     let others = rw c.role_files.ensures.same at (c.put_files-2.ensures roots.step.is_open roots.step.inside) in
     let small : new.founding.root < 2 ^ 64 = omega (arith, c.requires.made.typed.root) in
+    let small_image : new.founding.image_root < 2 ^ 64 = omega (arith, c.requires.made.typed.image_root) in
     then_puts G _ (founding_writes new.founding ++ key_writes new.founding ++ file_writes (root_file_lines new)) (file_writes (role_file_lines new.files)) (λ _. ⊤) tt _ _ (λ _. ⊤) (λ _. ⊤) _ _ _ r (λ clean is_open has any. tt)
     (λ clean.
     let clean3 : HasCleanDisk s3 = clean_step others.step.steps clean in
     let clean2 : HasCleanDisk s2 = clean_step roots.step.steps clean3 in
     let clean1 : HasCleanDisk s1 = clean_step keys.step.steps clean2 in
-    puts_root r new s0 s1 s2 s3 s4 small (numbers.put clean1) (keys.put clean2) (roots.put clean3) (others.put clean) c.requires.made.typed c.root_files.ensures.typed (surely r c.role_files.ensures.typed)
+    puts_root r new s0 s1 s2 s3 s4 small small_image (numbers.put clean1) (keys.put clean2) (roots.put clean3) (others.put clean) c.requires.made.typed c.root_files.ensures.typed (surely r c.role_files.ensures.typed)
     (was_open_before r s0 ((numbers.step.steps.kept clean1).was_open (numbers.step.is_open clean1))))
     (then_puts G (λ _ _ _. ⊤) (founding_writes new.founding ++ key_writes new.founding) (file_writes (root_file_lines new)) (λ _. ⊤) tt _ _ (λ _. ⊤) (λ _. ⊤) _ _ _ (Ok tt) (λ clean is_open has any. tt) tt
     (then_puts G (λ _ _ _. ⊤) (founding_writes new.founding) (key_writes new.founding) (λ _. ⊤) tt _ _ (λ _. ⊤) (λ _. ⊤) _ _ _ (Ok tt) (λ clean is_open has any. tt) tt numbers keys) roots) others
