@@ -46,8 +46,8 @@ module _ (last head : Bool) (k : Rules) where
       held_one trees (inl held) = held
       held_one trees (inr none) = absurd none
 
-      held_then : (t : State) (rest : List (Told (List ℕ))) (trees : Trees) → HoldsState k t trees ⊎ HoldsSome (line_service k) t rest [] trees ⊎ HoldsOne parts (after (line_service k) s (told lines texts)) [] trees
-          → HoldsState k t trees ⊎ HoldsSome (line_service k) t rest [] trees
+      held_then : (t : State) (rest : List (Told (List ℕ))) (trees : Trees) → HoldsState t trees ⊎ HoldsSome (line_service k) t rest [] trees ⊎ HoldsOne parts (after (line_service k) s (told lines texts)) [] trees
+          → HoldsState t trees ⊎ HoldsSome (line_service k) t rest [] trees
       held_then t rest trees (inl held) = inl held
       held_then t rest trees (inr (inl held)) = inr held
       held_then t rest trees (inr (inr none)) = absurd none
@@ -80,7 +80,7 @@ module _ (last head : Bool) (k : Rules) where
 
     stays : (s : State) (nexts : List Next) (texts : List (List ℕ)) (new : Standing) → AllStay parts s (singles at nexts texts) new
         → (before rest : List (Told Next)) (m : Told Next) → IsAnsweredCommit v s (told nexts texts) before rest m
-        → LeavesOnly (λ trees. HoldsState k (behind v (after v s before) m) trees ⊎ HoldsSome v (behind v (after v s before) m) rest [] trees) new
+        → LeavesOnly (λ trees. HoldsState (behind v (after v s before) m) trees ⊎ HoldsSome v (behind v (after v s before) m) rest [] trees) new
     stays s [] texts new all before rest m made = absurd (omega (arith, ap length made.list, length-append before (m ∷ rest)))
     stays s (next ∷ nexts) [] new all before rest m made = absurd (omega (arith, ap length made.list, length-append before (m ∷ rest)))
     stays s (next ∷ nexts) (text ∷ texts) new all [] rest m made = λ trees may.
@@ -92,8 +92,8 @@ module _ (last head : Bool) (k : Rules) where
         others : told nexts texts ≡ rest
         others = let e = made.list in cc
 
-        by_crash : (trees : Trees) → HoldsState k (behind v s m) trees ⊎ HoldsSome v (behind v s m) [] [] trees ⊎ HoldsOne parts (behind v s (met next text)) (singles at nexts texts) trees
-            → HoldsState k (behind v s m) trees ⊎ HoldsSome v (behind v s m) rest [] trees
+        by_crash : (trees : Trees) → HoldsState (behind v s m) trees ⊎ HoldsSome v (behind v s m) [] [] trees ⊎ HoldsOne parts (behind v s (met next text)) (singles at nexts texts) trees
+            → HoldsState (behind v s m) trees ⊎ HoldsSome v (behind v s m) rest [] trees
         by_crash trees (inl held) = inl held
         by_crash trees (inr (inl (is, none, held))) = absurd none
         by_crash trees (inr (inr later)) =
@@ -102,7 +102,7 @@ module _ (last head : Bool) (k : Rules) where
     stays s (next ∷ nexts) (text ∷ texts) new all (b ∷ before) rest m made =
         let first : met next text ≡ b = (let e = made.list in cc) in
         let others : told nexts texts ≡ before ++ m ∷ rest = (let e = made.list in cc) in
-        subst (λ (q : Told Next). LeavesOnly (λ trees. HoldsState k (behind v (after v (behind v s q) before) m) trees ⊎ HoldsSome v (behind v (after v (behind v s q) before) m) rest [] trees) new) first
+        subst (λ (q : Told Next). LeavesOnly (λ trees. HoldsState (behind v (after v (behind v s q) before) m) trees ⊎ HoldsSome v (behind v (after v (behind v s q) before) m) rest [] trees) new) first
         (stays (behind v s (met next text)) nexts texts new all.1 before rest m (record {
           list = others;
           answered = made.answered;

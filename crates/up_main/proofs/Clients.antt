@@ -124,7 +124,7 @@ module _ {K D : Type 0} (rules : K → Rules) (g : Ghosts D) (law : RefusalsChan
   of_rules k (Group commands answers) = refl
   of_rules k (Lines lines texts) = refl
 
-  pub done_last : (d : Done) (old new : DeskView K D) → Does rules g old d new → (s : State) → IsSound (rules old.scheme) s → IfClean (ShowsState (rules old.scheme) s) (state g old.store)
+  pub done_last : (d : Done) (old new : DeskView K D) → Does rules g old d new → (s : State) → IsSound (rules old.scheme) s → IfClean (ShowsState s) (state g old.store)
       → Lasts (part_of last head (rules old.scheme) d).service s (part_of last head (rules old.scheme) d).met [] (state g old.store) (state g new.store)
   done_last (Single at next text) old new h s sound was =
       lasts_one (request_service (rules old.scheme) at) (requests_calm law (rules old.scheme) at) s (record { item = next; text = text }) (state g old.store) (state g new.store)
@@ -142,14 +142,14 @@ module _ {K D : Type 0} (rules : K → Rules) (g : Ghosts D) (law : RefusalsChan
       more_last (part_of last head (rules q)) (rules q) d done s (state g old.store) (state g steps.0.store) (state g new.store) (of_rules (rules q) d) (one same s sound was)
       (λ t sound_t was_t. steps_last q done steps.0 new (done_scheme d old steps.0 steps.1 ∙ same) steps.2 t sound_t was_t) sound
     where
-      one : {p : K} → old.scheme ≡ p → (t : State) → IsSound (rules p) t → IfClean (ShowsState (rules p) t) (state g old.store)
+      one : {p : K} → old.scheme ≡ p → (t : State) → IsSound (rules p) t → IfClean (ShowsState t) (state g old.store)
           → Lasts (part_of last head (rules p) d).service t (part_of last head (rules p) d).met [] (state g old.store) (state g steps.0.store)
-      one {p} is = subst (λ z. (t : State) → IsSound (rules z) t → IfClean (ShowsState (rules z) t) (state g old.store)
+      one {p} is = subst (λ z. (t : State) → IsSound (rules z) t → IfClean (ShowsState t) (state g old.store)
           → Lasts (part_of last head (rules z) d).service t (part_of last head (rules z) d).met [] (state g old.store) (state g steps.0.store)) is (done_last d old steps.0 steps.1)
 
   -- a disk that is clean behind all of it was so behind the first
   pub clean_between : (q : K) (d : Done) (done : List Done) (old mid new : DeskView K D) → old.scheme ≡ q → Does rules g old d mid → Steps (Does rules g) mid done new → HasCleanDisk (state g new.store)
-      → (s : State) → IsSound (rules q) s → IfClean (ShowsState (rules q) s) (state g old.store) → HasCleanDisk (state g mid.store)
+      → (s : State) → IsSound (rules q) s → IfClean (ShowsState s) (state g old.store) → HasCleanDisk (state g mid.store)
   clean_between q d done old mid new same first rest clean s sound was =
       let p = part_of last head (rules q) d in
       let it : Lasts p.service s p.met [] (state g old.store) (state g mid.store) = here same s sound was in
@@ -158,9 +158,9 @@ module _ {K D : Type 0} (rules : K → Rules) (g : Ghosts D) (law : RefusalsChan
       let all = steps_last q done mid new (done_scheme d old mid first ∙ same) rest b.at b.sound b.shown in
       omega (arith, all.crash.clean, clean)
     where
-      here : {p : K} → old.scheme ≡ p → (t : State) → IsSound (rules p) t → IfClean (ShowsState (rules p) t) (state g old.store)
+      here : {p : K} → old.scheme ≡ p → (t : State) → IsSound (rules p) t → IfClean (ShowsState t) (state g old.store)
           → Lasts (part_of last head (rules p) d).service t (part_of last head (rules p) d).met [] (state g old.store) (state g mid.store)
-      here {p} is = subst (λ z. (t : State) → IsSound (rules z) t → IfClean (ShowsState (rules z) t) (state g old.store)
+      here {p} is = subst (λ z. (t : State) → IsSound (rules z) t → IfClean (ShowsState t) (state g old.store)
           → Lasts (part_of last head (rules z) d).service t (part_of last head (rules z) d).met [] (state g old.store) (state g mid.store)) is (done_last d old mid first)
 
 -- ---- all of it

@@ -173,7 +173,7 @@ record Ran (k : Rules) (s : State) (d : Done) (new : Standing) : Type 0 where
   next : State
   ran : ServesEach k s (commands_at k d) answers next
   sound : IsSound k next
-  shown : ShowsState k next new
+  shown : ShowsState next new
 
 record AllRan (k : Rules) (s : State) (done : List Done) (new : Standing) : Type 0 where
   answers : List Answer
@@ -181,11 +181,11 @@ record AllRan (k : Rules) (s : State) (done : List Done) (new : Standing) : Type
   next : State
   ran : ServesEach k s (commands_of k done) answers next
   sound : IsSound k next
-  shown : ShowsState k next new
+  shown : ShowsState next new
 
 module _ {K D : Type 0} (rules : K → Rules) (g : Ghosts D) (law : RefusalsChangeNothing) (thin : ServedIsThinned) (lines_last : LinesLast rules g) where
   done_ran : (d : Done) (old new : DeskView K D) → Does rules g old d new → DoneFits d → HasCleanDisk (state g new.store)
-      → (s : State) → IsSound (rules old.scheme) s → IfClean (ShowsState (rules old.scheme) s) (state g old.store) → Ran (rules old.scheme) s d (state g new.store)
+      → (s : State) → IsSound (rules old.scheme) s → IfClean (ShowsState s) (state g old.store) → Ran (rules old.scheme) s d (state g new.store)
   done_ran (Single at next text) old new h fits clean s sound was =
       let k = rules old.scheme in
       let it : Lasts (request_service k at) s (told (next ∷ []) (text ∷ [])) [] (state g old.store) (state g new.store) =
@@ -198,7 +198,7 @@ module _ {K D : Type 0} (rules : K → Rules) (g : Ghosts D) (law : RefusalsChan
         next = after (request_service k at) s (told (next ∷ []) (text ∷ []));
         ran = all.ran;
         sound = subst (IsSound k) shown.1 shown.2;
-        shown = subst (λ q. ShowsState k q (state g new.store)) shown.1 shown.3;
+        shown = subst (λ q. ShowsState q (state g new.store)) shown.1 shown.3;
       }
   done_ran (Group commands answers) old new h fits clean s sound was =
       let k = rules old.scheme in
@@ -209,8 +209,8 @@ module _ {K D : Type 0} (rules : K → Rules) (g : Ghosts D) (law : RefusalsChan
         next = machine.after k s (sent commands answers);
         ran = subst (λ (l : List Answer). ServesEach k s commands l (machine.after k s (sent commands l))) (sym h.1.appended) (serves_of k s commands h.1.told it.1.count it.1.told fits);
         sound = subst (λ (l : List Answer). IsSound k (machine.after k s (sent commands l))) (sym h.1.appended) (subst (IsSound k) (it.1.state ∙ sym (thin k s (sent commands h.1.told))) it.2);
-        shown = subst (λ (l : List Answer). ShowsState k (machine.after k s (sent commands l)) (state g new.store)) (sym h.1.appended)
-            (subst (λ q. ShowsState k q (state g new.store)) (it.1.state ∙ sym (thin k s (sent commands h.1.told))) it.3);
+        shown = subst (λ (l : List Answer). ShowsState (machine.after k s (sent commands l)) (state g new.store)) (sym h.1.appended)
+            (subst (λ q. ShowsState q (state g new.store)) (it.1.state ∙ sym (thin k s (sent commands h.1.told))) it.3);
       }
   done_ran (Lines lines texts) old new h fits clean s sound was =
       let k = rules old.scheme in
@@ -223,11 +223,11 @@ module _ {K D : Type 0} (rules : K → Rules) (g : Ghosts D) (law : RefusalsChan
         next = after (line_service k) s (told lines texts);
         ran = all.ran;
         sound = subst (IsSound k) shown.1 shown.2;
-        shown = subst (λ q. ShowsState k q (state g new.store)) shown.1 shown.3;
+        shown = subst (λ q. ShowsState q (state g new.store)) shown.1 shown.3;
       }
 
   all_ran : (q : K) (done : List Done) (old new : DeskView K D) → old.scheme ≡ q → Steps (Does rules g) old done new → AllByRecursion DoneFits done → HasCleanDisk (state g new.store)
-      → (s : State) → IsSound (rules q) s → IfClean (ShowsState (rules q) s) (state g old.store) → AllRan (rules q) s done (state g new.store)
+      → (s : State) → IsSound (rules q) s → IfClean (ShowsState s) (state g old.store) → AllRan (rules q) s done (state g new.store)
   all_ran q [] old new same steps fits clean s sound was =
       record {
         answers = [];
@@ -235,7 +235,7 @@ module _ {K D : Type 0} (rules : K → Rules) (g : Ghosts D) (law : RefusalsChan
         next = s;
         ran = refl;
         sound = sound;
-        shown = subst (λ (d : DeskView K D). ShowsState (rules q) s (state g d.store)) (sym steps)
+        shown = subst (λ (d : DeskView K D). ShowsState s (state g d.store)) (sym steps)
             (was (subst (λ (d : DeskView K D). HasCleanDisk (state g d.store)) steps clean));
       }
   all_ran q (d ∷ done) old new same steps fits clean s sound was =
@@ -252,8 +252,8 @@ module _ {K D : Type 0} (rules : K → Rules) (g : Ghosts D) (law : RefusalsChan
         shown = rest.shown;
       }
     where
-      here : {p : K} → old.scheme ≡ p → (t : State) → IsSound (rules p) t → IfClean (ShowsState (rules p) t) (state g old.store) → HasCleanDisk (state g steps.0.store) → Ran (rules p) t d (state g steps.0.store)
-      here {p} is = subst (λ z. (t : State) → IsSound (rules z) t → IfClean (ShowsState (rules z) t) (state g old.store) → HasCleanDisk (state g steps.0.store) → Ran (rules z) t d (state g steps.0.store)) is
+      here : {p : K} → old.scheme ≡ p → (t : State) → IsSound (rules p) t → IfClean (ShowsState t) (state g old.store) → HasCleanDisk (state g steps.0.store) → Ran (rules p) t d (state g steps.0.store)
+      here {p} is = subst (λ z. (t : State) → IsSound (rules z) t → IfClean (ShowsState t) (state g old.store) → HasCleanDisk (state g steps.0.store) → Ran (rules z) t d (state g steps.0.store)) is
           (λ t sound_t was_t clean_t. done_ran d old steps.0 steps.1 fits.0 clean_t t sound_t was_t)
 
 -- ---- all of it
@@ -295,14 +295,14 @@ module _ (last head : Bool) (k : Rules) where
   stays_at s [] rest d new stay = stay.0
   stays_at s (b ∷ before) rest d new stay = stays_at (after (parts b).service s (parts b).met) before rest d new stay.1
 
-  made_by_one : (s : State) (ds : List Done) (trees : Trees) → HoldsOne parts s ds trees → (at : State) × IsMadeByOne parts s ds at × HoldsState k at trees
+  made_by_one : (s : State) (ds : List Done) (trees : Trees) → HoldsOne parts s ds trees → (at : State) × IsMadeByOne parts s ds at × HoldsState at trees
   made_by_one s [] trees none = absurd none
   made_by_one s (d ∷ ds) trees (inl held) = (held.0, inl held.1, subst (λ r. HoldsState r held.0 trees) (same_rules d) held.2)
   made_by_one s (d ∷ ds) trees (inr later) = let it = made_by_one (after (parts d).service s (parts d).met) ds trees later in (it.0, inr it.1, it.2)
 
   stays_or_made : {I : Type 0} (v : Service I) (there : State) (later : List (runs.Told I)) (s : State) (ds : List Done) (trees : Trees) → v.rules ≡ k
-      → HoldsState v.rules there trees ⊎ HoldsSome v there later [] trees ⊎ HoldsOne parts s ds trees
-      → (at : State) × ((at ≡ there) ⊎ IsMadeBySome v there later [] at ⊎ IsMadeByOne parts s ds at) × HoldsState k at trees
+      → HoldsState there trees ⊎ HoldsSome v there later [] trees ⊎ HoldsOne parts s ds trees
+      → (at : State) × ((at ≡ there) ⊎ IsMadeBySome v there later [] at ⊎ IsMadeByOne parts s ds at) × HoldsState at trees
   stays_or_made v there later s ds trees same (inl held) = (there, inl refl, subst (λ r. HoldsState r there trees) same held)
   stays_or_made v there later s ds trees same (inr (inl held)) = (held.0, inr (inl held.1), subst (λ r. HoldsState r held.0 trees) same held.2)
   stays_or_made v there later s ds trees same (inr (inr held)) = let it = made_by_one s ds trees held in (it.0, inr (inr it.1), it.2)
@@ -315,4 +315,4 @@ reopened_all g last head k s before rest d old new lasts first later m made clea
     ∥∥₁_map f.left (λ r.
     let held = stays_or_made last head k p.service (behind p.service (after p.service start first) m) later (after p.service start p.met) rest (file_state opened).committed.trees (same_rules last head k d)
     (stays_at last head k s before rest d (state over_files new) (lasts.durable clean) first later m made (file_state opened).committed.trees r) in
-    (held.0, held.1, f.shown (rows_of_state k held.0) held.2))
+    (held.0, held.1, f.shown (rows_of_state held.0) held.2))

@@ -60,7 +60,7 @@ pub record IsOneRun {K D : Type 0} (rules : K → Rules) (g : Ghosts D) (s : Sta
   pub behind : State
   pub run : IsRun (rules first.scheme) s (commands_of (rules first.scheme) done) answers behind
   pub sound : IsSound (rules first.scheme) behind
-  pub shown : ShowsState (rules first.scheme) behind (state g now.store)
+  pub shown : ShowsState behind (state g now.store)
   pub lasts : DoneLasts rules g first done now
 
 -- Connections over a desk: each has its own requests and the answers to them, in their order, and all that is done is one run.
@@ -73,7 +73,7 @@ pub record AreOneRun {K D : Type 0} (rules : K → Rules) (g : Ghosts D) (at : �
 abbrev pub ConnectionsAreRuns : {K D : Type 0} → (K → Rules) → Ghosts D → Type 0
 ConnectionsAreRuns {K} {D} rules g = (at : ℕ → ℕ) (first now : DeskView K D) (xs : List Happening) (new : AllLines)
     → AllHappen (Does rules g) answer_response at first (λ n. fresh) xs now new → HasCleanDisk (state g now.store)
-    → (s : State) → IsSound (rules first.scheme) s → IfClean (ShowsState (rules first.scheme) s) (state g first.store)
+    → (s : State) → IsSound (rules first.scheme) s → IfClean (ShowsState s) (state g first.store)
     → AreOneRun rules g at s xs first now new
 
 -- ---- what an open finds of the files that a crash left
@@ -91,7 +91,7 @@ ReopenedPart {D} {I} g k v s ms Follow new = (first later : List (Told I)) (m : 
     → (left : Image) → (files.state stopped).may_leave left
     → (opened : Held (FileStore D g)) → IsOpened opened → FindsIn left (file_state opened)
     → ∥ ((at : State) × ((at ≡ behind v (after v s first) m) ⊎ IsMadeBySome v (behind v (after v s first) m) later [] at ⊎ Follow at)
-    × connections.KeepsState k at (file_state opened)) ∥₁
+    × connections.KeepsState at (file_state opened)) ∥₁
 
 -- so of all that was done
 abbrev pub ReopenedAll : {D : Type 0} → DiskGhosts D → Type 0
