@@ -17,7 +17,7 @@ found_at i zero (x ∷ texts) text small h =
     let same : x ≡ text = cc in
     let named : bytes_eq (numbered_root_name i) (numbered_root_name (i + 0)) ≡ true = (bytes_decides (numbered_root_name i) (numbered_root_name (i + 0))).1 (ap numbered_root_name (plain i)) in
     ap (λ (b : Bool). option_map (λ (f : File). f.1) (cond b (Some (numbered_root_name i, x))
-        (find (λ (f : File). bytes_eq f.0 (numbered_root_name (i + 0))) (map (λ (r : ℕ × List ℕ). (numbered_root_name r.0, r.1)) (enumerate_from (i + 1) texts))))) named
+    (find (λ (f : File). bytes_eq f.0 (numbered_root_name (i + 0))) (map (λ (r : ℕ × List ℕ). (numbered_root_name r.0, r.1)) (enumerate_from (i + 1) texts))))) named
     ∙ ap (λ (t : List ℕ). Some t) same
   where
     plain : (n : ℕ) → n ≡ n + 0
@@ -25,7 +25,7 @@ found_at i zero (x ∷ texts) text small h =
 found_at i (suc place) (x ∷ texts) text small h =
     let apart = numbers_apart i (i + suc place) (omega arith) small in
     ap (λ (b : Bool). option_map (λ (f : File). f.1) (cond b (Some (numbered_root_name i, x))
-        (find (λ (f : File). bytes_eq f.0 (numbered_root_name (i + suc place))) (map (λ (r : ℕ × List ℕ). (numbered_root_name r.0, r.1)) (enumerate_from (i + 1) texts))))) apart
+    (find (λ (f : File). bytes_eq f.0 (numbered_root_name (i + suc place))) (map (λ (r : ℕ × List ℕ). (numbered_root_name r.0, r.1)) (enumerate_from (i + 1) texts))))) apart
     ∙ ap (λ (n : ℕ). found (i + 1) n texts) (later i place)
     ∙ found_at (i + 1) place texts text (omega (arith, small)) h
   where

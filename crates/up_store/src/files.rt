@@ -82,11 +82,7 @@ pub fn root_name(alloc: Global, number: u64) -> Result<String, AllocError>
 }
 
 /// The rows of the Root files of a new version, which is the latest, too; the names are those of each repository's number.
-pub fn root_files<'a>(
-    new: &'a RootRows,
-    name: &'a str,
-    image_name: &'a str,
-) -> [FileRow<'a>; 4]
+pub fn root_files<'a>(new: &'a RootRows, name: &'a str, image_name: &'a str) -> [FileRow<'a>; 4]
     requires name { name.now ≡ numbered_root_name new.now.founding.root }
     requires image_name { image_name.now ≡ numbered_root_name new.now.founding.image_root }
     ensures same { map file_read result ≡ root_file_lines new.now }

@@ -156,7 +156,12 @@ pub fn put_root<D: Alter>(
         (root_writes new.now) (λ _. FitsFounding new.now.founding) tx.old.conn tx.new.conn result }
 {
     let numbers = make_numbers(&new.founding)?;
-    let keys = make_keys(alloc, numbers.meta.root, numbers.own.root, &new.founding.keys)?;
+    let keys = make_keys(
+        alloc,
+        numbers.meta.root,
+        numbers.own.root,
+        &new.founding.keys,
+    )?;
     let name = root_name(alloc, numbers.meta.root)?;
     let image_name = root_name(alloc, numbers.own.root)?;
     put_root_made(

@@ -113,7 +113,7 @@ all_stay : (ids : List ℤ) (rows : List Row) → NoneGone ids rows → without_
 all_stay [] rows none = refl
 all_stay (id ∷ ids) rows none =
     let here : without_rowid id rows ≡ rows = filter_all (λ r. not (has_rowid id r)) rows
-        (all_weaker (λ r. is_gone (id ∷ ids) r ≡ false) (λ r. not (has_rowid id r) ≡ true) (λ r h. ap not (first_apart id ids r h).0) rows none) in
+    (all_weaker (λ r. is_gone (id ∷ ids) r ≡ false) (λ r. not (has_rowid id r) ≡ true) (λ r h. ap not (first_apart id ids r h).0) rows none) in
     ap (λ xs. without_all xs ids) here ∙ all_stay ids rows (all_weaker (λ r. is_gone (id ∷ ids) r ≡ false) (λ r. is_gone ids r ≡ false) (λ r h. (first_apart id ids r h).1) rows none)
 
 -- a row behind another one hasn't its rowid
@@ -242,7 +242,7 @@ earlier_below root earlier keys rows it each last =
     let p = is_below (Int (pos root)) in
     let old = all_weaker (λ r. IsEarlier root (drop 1 r)) (λ r. p r ≡ true) (λ r h. below_is r (pos h.0) root h.2 ∙ low h.0 root h.1) it.old (unmap (IsEarlier root) it.old (subst (AllByRecursion (IsEarlier root)) (sym it.old_is) each)) in
     let new = all_weaker (λ r. column (drop 1 r) 0 ≡ Int (pos root)) (λ r. p r ≡ false) (λ r h. below_is r (pos root) root h ∙ level (pos root)) it.last
-        (unmap (λ row. column row 0 ≡ Int (pos root)) it.last (subst (AllByRecursion (λ row. column row 0 ≡ Int (pos root))) (sym it.last_is) last)) in
+    (unmap (λ row. column row 0 ≡ Int (pos root)) it.last (subst (AllByRecursion (λ row. column row 0 ≡ Int (pos root))) (sym it.last_is) last)) in
     ap (filter p) it.both ∙ filter-append p it.old it.last ∙ ap₂ (λ xs ys. xs ++ ys) (filter_all p it.old old) (filter_none p it.last new) ∙ Rattle.std.proofs.Common.append-nil it.old
 
 -- ---- the statement

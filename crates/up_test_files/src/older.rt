@@ -207,8 +207,14 @@ fn another_schema_is_refused(rt: HostRuntime) -> Result<(), Fail> {
         ("DROP TABLE meta", Unopened::OtherProduct),
         ("CREATE TABLE retired (n INTEGER)", Unopened::Damaged),
         ("CREATE TABLE image_sha512 (n INTEGER)", Unopened::Damaged),
-        ("CREATE TABLE image_repository (n INTEGER)", Unopened::Damaged),
-        ("CREATE TABLE retired_vehicle (n INTEGER)", Unopened::Damaged),
+        (
+            "CREATE TABLE image_repository (n INTEGER)",
+            Unopened::Damaged,
+        ),
+        (
+            "CREATE TABLE retired_vehicle (n INTEGER)",
+            Unopened::Damaged,
+        ),
     ] {
         in_new_folder(&rt, "up_file_other")?;
         make(&rt, "up_file_other/a.db", &[change])?;

@@ -177,21 +177,21 @@ image_else k s t roots next secret bytes behind more left of =
     let made = behind.made.files of.0 of.1 in
     elim of.2 [
       | inl is ↦ inr (inr (record {
-          secrets = t.image.keys.targets.keys;
-          sealed = subst (IsSealedBy k t.image.keys.targets.keys) (sym (is ∙ ap (λ (texts : RoleTexts). texts.targets) made)) (targets_sealed k m);
-          without = out.targets;
-        }))
+        secrets = t.image.keys.targets.keys;
+        sealed = subst (IsSealedBy k t.image.keys.targets.keys) (sym (is ∙ ap (λ (texts : RoleTexts). texts.targets) made)) (targets_sealed k m);
+        without = out.targets;
+      }))
       | inr rest ↦ elim rest [
         | inl is ↦ inr (inr (record {
-            secrets = t.image.keys.snapshot.keys;
-            sealed = subst (IsSealedBy k t.image.keys.snapshot.keys) (sym (is ∙ ap (λ (texts : RoleTexts). texts.snapshot) made)) (snapshot_sealed k m);
-            without = out.snapshot;
-          }))
+          secrets = t.image.keys.snapshot.keys;
+          sealed = subst (IsSealedBy k t.image.keys.snapshot.keys) (sym (is ∙ ap (λ (texts : RoleTexts). texts.snapshot) made)) (snapshot_sealed k m);
+          without = out.snapshot;
+        }))
         | inr is ↦ inr (inr (record {
-            secrets = t.image.keys.timestamp.keys;
-            sealed = subst (IsSealedBy k t.image.keys.timestamp.keys) (sym (is ∙ ap (λ (texts : RoleTexts). texts.timestamp) made)) (timestamp_sealed k m);
-            without = out.timestamp;
-          }))
+          secrets = t.image.keys.timestamp.keys;
+          sealed = subst (IsSealedBy k t.image.keys.timestamp.keys) (sym (is ∙ ap (λ (texts : RoleTexts). texts.timestamp) made)) (timestamp_sealed k m);
+          without = out.timestamp;
+        }))
       ]
     ]
 
