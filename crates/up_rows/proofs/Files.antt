@@ -33,7 +33,7 @@ latest_found : (name : Name) (o : Option (List ℕ))
     → text_named name (option_to_list (option_map (λ (text : List ℕ). (codes "root.json", text)) o)) ≡ (if bytes_eq (codes "root.json") name then o else None)
 latest_found name None = by_test (bytes_eq (codes "root.json") name)
   where
-    by_test : (t : Bool) → None ≡ cond t None None
+    by_test : (t : Bool) → option_map (λ (f : File). f.1) None ≡ cond t None None
     by_test true = refl
     by_test false = refl
 latest_found name (Some text) = by_test (bytes_eq (codes "root.json") name)
