@@ -78,7 +78,7 @@ module _ (parts : Done → clients.Part) (k : Rules) where
 
       b : Shown k behind_it mid
       b = shown_or k s behind_it mid
-          (λ now. let at = first.shown now in (at.0, at.1, subst (λ r. IsSound r at.0) same at.2, subst (λ r. ShowsState r at.0 mid) same at.3)) sound
+          (λ now. let at = first.shown now in (at.0, at.1, subst (λ r. IsSound r at.0) same at.2, at.3)) sound
 
       it : AllLast parts k b.at ds mid new
       it = rest b.at b.sound b.shown
@@ -92,13 +92,13 @@ module _ (parts : Done → clients.Part) (k : Rules) where
           at_m : State
           at_m = behind (parts d).service (after (parts d).service s before) m
 
-          by_first : (trees : Trees) → HoldsState (parts d).service.rules at_m trees ⊎ HoldsSome (parts d).service at_m later [] trees
-              → HoldsState (parts d).service.rules at_m trees ⊎ HoldsSome (parts d).service at_m later [] trees ⊎ HoldsOne parts behind_it ds trees
+          by_first : (trees : Trees) → HoldsState at_m trees ⊎ HoldsSome (parts d).service at_m later [] trees
+              → HoldsState at_m trees ⊎ HoldsSome (parts d).service at_m later [] trees ⊎ HoldsOne parts behind_it ds trees
           by_first trees (inl held) = inl held
           by_first trees (inr held) = inr (inl held)
 
           by_crash : (trees : Trees) → mid.connection.may_leave trees ⊎ HoldsOne parts b.at ds trees
-              → HoldsState (parts d).service.rules at_m trees ⊎ HoldsSome (parts d).service at_m later [] trees ⊎ HoldsOne parts behind_it ds trees
+              → HoldsState at_m trees ⊎ HoldsSome (parts d).service at_m later [] trees ⊎ HoldsOne parts behind_it ds trees
           by_crash trees (inl earlier) = by_first trees (first.durable before later m made (clean now) trees earlier)
           by_crash trees (inr held) = inr (inr (subst (λ t. HoldsOne parts t ds trees) (b.here (clean now)) held))
 
@@ -154,7 +154,7 @@ module _ {K D : Type 0} (rules : K → Rules) (g : Ghosts D) (law : RefusalsChan
       let p = part_of last head (rules q) d in
       let it : Lasts p.service s p.met [] (state g old.store) (state g mid.store) = here same s sound was in
       let b : Shown (rules q) (after p.service s p.met) (state g mid.store) = shown_or (rules q) s (after p.service s p.met) (state g mid.store)
-      (λ now. let at = it.shown now in (at.0, at.1, subst (λ r. IsSound r at.0) (of_rules (rules q) d) at.2, subst (λ r. ShowsState r at.0 (state g mid.store)) (of_rules (rules q) d) at.3)) sound in
+      (λ now. let at = it.shown now in (at.0, at.1, subst (λ r. IsSound r at.0) (of_rules (rules q) d) at.2, at.3)) sound in
       let all = steps_last q done mid new (done_scheme d old mid first ∙ same) rest b.at b.sound b.shown in
       omega (arith, all.crash.clean, clean)
     where

@@ -7,7 +7,6 @@ use Rattle.sqlite.specs.Tree.{Trees}
 use Rattle.sqlite_trees.specs.declared.store.Store.{Ghosts}
 use Rattle.sqlite.proofs.StateLemmas.{survives_then, survives_weaker}
 use Rattle.up_canon.specs.declared.refusal.Refusal.TheVariants.{Memory, Store}
-use Rattle.up_sign.specs.Schemes.{Rules}
 use Rattle.up_machine.specs.declared.answer.Answer.{Answer}
 use Rattle.up_machine.specs.Sound.{IsSound}
 use Rattle.up_machine.specs.State.{State}
@@ -74,9 +73,9 @@ shown_or v s is mid shows sound = by_disk (doubt mid.connection.is_clean) refl
 
 -- ---- what is made at once
 
-was_called : (k : Rules) (called : Option Answer) (next : State) (trees : Trees) → HoldsNext called next trees → IsSome called × HoldsState next trees
-was_called k (Some answer) next trees held = (refl, held)
-was_called k None next trees held = absurd held
+was_called : (called : Option Answer) (next : State) (trees : Trees) → HoldsNext called next trees → IsSome called × HoldsState next trees
+was_called (Some answer) next trees held = (refl, held)
+was_called None next trees held = absurd held
 
 module _ {I : Type 0} (v : Service I) where
   one_made : (b : Bool) (s : State) (item : I) (at : State) → IsMade v s item at → IsMadeAtOnce b v s (item ∷ []) at
@@ -156,7 +155,7 @@ split_at {A} (x ∷ xs) ys (b ∷ before) rest m is =
 holds_made : {I : Type 0} (v : Service I) (s : State) (item : I) (trees : Trees) → HoldsNext (v.answer s item).called (v.answer s item).next trees
     → (at : State) × IsMade v s item at × HoldsState at trees
 holds_made v s item trees held =
-    let was = was_called v.rules (v.answer s item).called (v.answer s item).next trees held in
+    let was = was_called (v.answer s item).called (v.answer s item).next trees held in
     ((v.answer s item).next, (was.0, refl), was.1)
 
 -- nothing was handed on

@@ -285,11 +285,6 @@ module _ (last head : Bool) (k : Rules) where
   abbrev parts : Done → Part
   parts = part_of last head k
 
-  same_rules : (d : Done) → (parts d).service.rules ≡ k
-  same_rules (Single at next text) = refl
-  same_rules (Group commands answers) = refl
-  same_rules (Lines lines texts) = refl
-
   stays_at : (s : State) (before rest : List Done) (d : Done) (new : Standing) → AllStay parts s (before ++ d ∷ rest) new
       → PartStays (parts d).service (behind_all parts s before) (parts d).met (HoldsOne parts (after (parts d).service (behind_all parts s before) (parts d).met) rest) new
   stays_at s [] rest d new stay = stay.0
@@ -297,15 +292,15 @@ module _ (last head : Bool) (k : Rules) where
 
   made_by_one : (s : State) (ds : List Done) (trees : Trees) → HoldsOne parts s ds trees → (at : State) × IsMadeByOne parts s ds at × HoldsState at trees
   made_by_one s [] trees none = absurd none
-  made_by_one s (d ∷ ds) trees (inl held) = (held.0, inl held.1, subst (λ r. HoldsState r held.0 trees) (same_rules d) held.2)
+  made_by_one s (d ∷ ds) trees (inl held) = (held.0, inl held.1, held.2)
   made_by_one s (d ∷ ds) trees (inr later) = let it = made_by_one (after (parts d).service s (parts d).met) ds trees later in (it.0, inr it.1, it.2)
 
-  stays_or_made : {I : Type 0} (v : Service I) (there : State) (later : List (runs.Told I)) (s : State) (ds : List Done) (trees : Trees) → v.rules ≡ k
+  stays_or_made : {I : Type 0} (v : Service I) (there : State) (later : List (runs.Told I)) (s : State) (ds : List Done) (trees : Trees)
       → HoldsState there trees ⊎ HoldsSome v there later [] trees ⊎ HoldsOne parts s ds trees
       → (at : State) × ((at ≡ there) ⊎ IsMadeBySome v there later [] at ⊎ IsMadeByOne parts s ds at) × HoldsState at trees
-  stays_or_made v there later s ds trees same (inl held) = (there, inl refl, subst (λ r. HoldsState r there trees) same held)
-  stays_or_made v there later s ds trees same (inr (inl held)) = (held.0, inr (inl held.1), subst (λ r. HoldsState r held.0 trees) same held.2)
-  stays_or_made v there later s ds trees same (inr (inr held)) = let it = made_by_one s ds trees held in (it.0, inr (inr it.1), it.2)
+  stays_or_made v there later s ds trees (inl held) = (there, inl refl, held)
+  stays_or_made v there later s ds trees (inr (inl held)) = (held.0, inr (inl held.1), held.2)
+  stays_or_made v there later s ds trees (inr (inr held)) = let it = made_by_one s ds trees held in (it.0, inr (inr it.1), it.2)
 
 pub reopened_all : {D : Type 0} (g : DiskGhosts D) → ReopenedAll g
 reopened_all g last head k s before rest d old new lasts first later m made clean stopped again whole left may opened opens found =
@@ -313,6 +308,6 @@ reopened_all g last head k s before rest d old new lasts first later m made clea
     let p = part_of last head k d in
     let start = behind_all (part_of last head k) s before in
     ∥∥₁_map f.left (λ r.
-    let held = stays_or_made last head k p.service (behind p.service (after p.service start first) m) later (after p.service start p.met) rest (file_state opened).committed.trees (same_rules last head k d)
+    let held = stays_or_made last head k p.service (behind p.service (after p.service start first) m) later (after p.service start p.met) rest (file_state opened).committed.trees
     (stays_at last head k s before rest d (state over_files new) (lasts.durable clean) first later m made (file_state opened).committed.trees r) in
     (held.0, held.1, f.shown (rows_of_state held.0) held.2))

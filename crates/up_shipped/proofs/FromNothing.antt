@@ -32,15 +32,15 @@ went_through P (Ok x) h ok = h
 went_through P (Err e) h ok = cc
 
 -- fresh tables show that nothing is founded
-pub shows_nothing : (k : Rules) → rows_of_state empty_state ≡ no_rows → (empty made : Connected) (old : Standing) → Creates empty made → old ≡ record { connection = made; catalog = None }
+pub shows_nothing : rows_of_state empty_state ≡ no_rows → (empty made : Connected) (old : Standing) → Creates empty made → old ≡ record { connection = made; catalog = None }
     → HasCleanDisk old → ShowsState empty_state old
-shows_nothing k none empty made old creates fresh = subst (λ (d : Standing). HasCleanDisk d → ShowsState empty_state d) (sym fresh)
+shows_nothing none empty made old creates fresh = subst (λ (d : Standing). HasCleanDisk d → ShowsState empty_state d) (sym fresh)
     (λ was. record { tables = subst (λ (rows : StateRows). KeepsRows rows made) (sym none) (creates.made was); memory = tt })
 
 pub from_nothing : (k : Rules) → IsSound k empty_state → rows_of_state empty_state ≡ no_rows → (cs : List (ℕ × Command)) (before answers : List Answer) (empty made : Connected) (old new : Standing)
     → Creates empty made → old ≡ record { connection = made; catalog = None } → before ≡ [] → AreCalled k cs before answers old new → HasCleanDisk new → IsRunFromNothing k cs answers
 from_nothing k sound none cs before answers empty made old new creates fresh first called clean =
-    let ran = called.ran clean empty_state sound (shows_nothing k none empty made old creates fresh) in
+    let ran = called.ran clean empty_state sound (shows_nothing none empty made old creates fresh) in
     let same : answers ≡ called.told = called.appended ∙ ap (λ (l : List Answer). l ++ called.told) first in
     (ran.0, subst (λ (l : List Answer). IsRun k empty_state cs l ran.0) (sym same) ran.1)
 
@@ -88,7 +88,7 @@ pub script_from_nothing : {K D : Type 0} (rules : K → Rules) (g : Ghosts D) �
 script_from_nothing rules g law k had has first now result empty made same runs clean sound none creates fresh =
     subst (λ (k : Rules). IsScriptFromNothing k had has first.held now.held result) same (ran rules g had has first now result
     (law had has first now result runs clean empty_state (subst (λ (k : Rules). IsSound k empty_state) (sym same) sound)
-    (shows_nothing (rules first.state.scheme) (subst (λ (k : Rules). rows_of_state empty_state ≡ no_rows) (sym same) none) empty made (state g first.state.store) creates fresh)))
+    (shows_nothing none empty made (state g first.state.store) creates fresh)))
 
 -- ---- streams
 
@@ -134,4 +134,4 @@ pub stream_from_nothing : {K D : Type 0} (rules : K → Rules) (g : Ghosts D) �
 stream_from_nothing rules g law k at had has first now result empty made same runs clean sound none creates fresh =
     subst (λ (k : Rules). IsStreamFromNothing k at had has first.held now.held result) same (ran_stream rules g at had has first now result
     (law at had has first now result runs clean empty_state (subst (λ (k : Rules). IsSound k empty_state) (sym same) sound)
-    (shows_nothing (rules first.state.scheme) (subst (λ (k : Rules). rows_of_state empty_state ≡ no_rows) (sym same) none) empty made (state g first.state.store) creates fresh)))
+    (shows_nothing none empty made (state g first.state.store) creates fresh)))

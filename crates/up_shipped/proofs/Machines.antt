@@ -21,7 +21,7 @@ pub fresh_stands : {K D : Type 0} (rules : K → Rules) (g : Ghosts D) (k : Rule
 fresh_stands rules g k sound none empty made desk creates fresh same = record {
   same = same;
   sound = sound;
-  shown = shows_nothing k none empty made (state g desk.store) creates fresh;
+  shown = shows_nothing none empty made (state g desk.store) creates fresh;
 }
 
 -- each call keeps it, and is answered as there

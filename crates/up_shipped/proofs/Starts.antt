@@ -90,15 +90,12 @@ kept_rows version rows old mid new kept was (inl (inl adopted)) = adopted.1 vers
 kept_rows version rows old mid new kept was (inl (inr made)) = absurd (never_none mid version rows made.1 (keeps_as version rows old mid kept was))
 kept_rows version rows old mid new kept was (inr made) = absurd (never_none mid version rows made.empty (keeps_as version rows old mid kept was))
 
-pub taken_shows : {K D : Type 0} (rules : K → Rules) (g : Ghosts D) → ((k : Rules) → rows_of_state empty_state ≡ no_rows) → TakenTablesShow rules g
+pub taken_shows : {K D : Type 0} (rules : K → Rules) (g : Ghosts D) → rows_of_state empty_state ≡ no_rows → TakenTablesShow rules g
 taken_shows {K} {D} rules g none scheme conn taken is s sound was clean = record {
   tables = by_before was;
   memory = tt;
 }
   where
-    k : Rules
-    k = rules scheme
-
     between : HasCleanDisk (holding.state g is.between)
     between = omega (arith, clean, is.crash.clean)
 
@@ -109,9 +106,9 @@ taken_shows {K} {D} rules g none scheme conn taken is s sound was clean = record
     stays_open : HasNoTables (holding.state g conn) → ¬ MoreFaults (holding.state g conn).faults (holding.state g taken).faults → IsTrue (holding.state g is.between).is_open
     stays_open none kept = elim (is.read.survives.closes between none.is_open) [ inl is_open ↦ is_open | inr more ↦ absurd (kept (omega (arith, more, is.crash.counts))) ]
 
-    by_before : WasShown k s (holding.state g conn) (holding.state g taken) → KeepsState s (holding.state g taken)
+    by_before : WasShown s (holding.state g conn) (holding.state g taken) → KeepsState s (holding.state g taken)
     by_before (inl it) = kept_rows it.0 (rows_of_state s) (holding.state g conn) (holding.state g is.between) (holding.state g taken) (is.read.kept between) (it.1 before) (is.taken clean)
-    by_before (inr it) = subst (λ (rows : StateRows). KeepsRows rows (holding.state g taken)) (sym (ap rows_of_state it.0 ∙ none k))
+    by_before (inr it) = subst (λ (rows : StateRows). KeepsRows rows (holding.state g taken)) (sym (ap rows_of_state it.0 ∙ none))
         (made_rows (holding.state g conn) (holding.state g is.between) (holding.state g taken) (is.read.kept between) (it.1 before) (stays_open (it.1 before) it.2) (is.taken clean))
 
 -- ---- what is carried out over it

@@ -23,14 +23,14 @@ use Rattle.up_shipped.specs.Shipped.{ShipsScript, ShipsStream}
 
 -- The tables of some version of the schema showed the state. Or there were none, and nothing is founded in it, where the disk counted no
 -- fault, which may shut a connection.
-abbrev pub WasShown : Rules → State → Connected → Connected → Type 0
-WasShown k s conn taken = ((version : SchemaVersion) × IfClean (KeepsAs version (rows_of_state s)) conn)
+abbrev pub WasShown : State → Connected → Connected → Type 0
+WasShown s conn taken = ((version : SchemaVersion) × IfClean (KeepsAs version (rows_of_state s)) conn)
     ⊎ ((s ≡ empty_state) × IfClean HasNoTables conn × ¬ MoreFaults conn.faults taken.faults)
 
 -- a database that was taken shows each sound state that it showed before
 abbrev pub TakenTablesShow : {K D : Type 0} → (K → Rules) → Ghosts D → Type 0
 TakenTablesShow {K} {D} rules g = (scheme : K) (conn taken : Held D) → IsTakenFor (holding.state g) (rules scheme).method (holding.state g conn) (holding.state g taken)
-    → (s : State) → IsSound (rules scheme) s → WasShown (rules scheme) s (holding.state g conn) (holding.state g taken)
+    → (s : State) → IsSound (rules scheme) s → WasShown s (holding.state g conn) (holding.state g taken)
     → standing.IfClean (ShowsState s) (standing.state g (bare taken))
 
 -- The database was taken for this scheme, and then the script was carried out over it. Its commands with their answers are a run of the plain
@@ -38,12 +38,12 @@ TakenTablesShow {K} {D} rules g = (scheme : K) (conn taken : Held D) → IsTaken
 pub record StartsScript {K D : Type 0} (rules : K → Rules) (g : Ghosts D) (scheme : K) (conn : Held D) (had has held holds : Option (List ℕ)) (result : Result ℕ ScriptFault) (now : DeskView K D) : Type 0 where
   pub taken : Held D
   pub is_taken : IsTakenFor (holding.state g) (rules scheme).method (holding.state g conn) (holding.state g taken)
-  pub ships : HasCleanDisk (standing.state g now.store) → (s : State) → IsSound (rules scheme) s → WasShown (rules scheme) s (holding.state g conn) (holding.state g taken)
+  pub ships : HasCleanDisk (standing.state g now.store) → (s : State) → IsSound (rules scheme) s → WasShown s (holding.state g conn) (holding.state g taken)
       → ShipsScript rules g s had has (record { state = record { scheme = scheme; store = bare taken }; held = held }) (record { state = now; held = holds }) result
 
 -- the same of a stream of requests
 pub record StartsStream {K D : Type 0} (rules : K → Rules) (g : Ghosts D) (at : ℕ) (scheme : K) (conn : Held D) (had has held holds : Option (List ℕ)) (result : Result Served ServeFault) (now : DeskView K D) : Type 0 where
   pub taken : Held D
   pub is_taken : IsTakenFor (holding.state g) (rules scheme).method (holding.state g conn) (holding.state g taken)
-  pub ships : HasCleanDisk (standing.state g now.store) → (s : State) → IsSound (rules scheme) s → WasShown (rules scheme) s (holding.state g conn) (holding.state g taken)
+  pub ships : HasCleanDisk (standing.state g now.store) → (s : State) → IsSound (rules scheme) s → WasShown s (holding.state g conn) (holding.state g taken)
       → ShipsStream rules g at s had has (record { state = record { scheme = scheme; store = bare taken }; held = held }) (record { state = now; held = holds }) result

@@ -13,7 +13,7 @@ returns-then-ran g c = λ clean.
     let rules = ap (λ desk. g.K.Scheme.rules desk.scheme) c.new-desk.ensures in
     let held = c.release-conn.ensures.same ∙ c.release.ensures in
     let k = g.K.Scheme.rules c.args.scheme in
-    from_nothing k (c.states_stay_sound.ensures.empty k) (c.rows_tell_the_state.ensures.empty k) c.args.commands.now _ c.run.new.answers.items _ _
+    from_nothing k (c.states_stay_sound.ensures.empty k) c.rows_tell_the_state.ensures.empty c.args.commands.now _ c.run.new.answers.items _ _
     (state g.D.Store c.new-desk.result.store) (state g.D.Store c.run.new.self.store) c.in-Ok.ensures.made
     (ap (λ desk. state g.D.Store desk.store) c.new-desk.ensures) c.new-answers.ensures.items
     (subst (λ rules. Rattle.up_desk.specs.Runs.AreCalled rules c.args.commands.now c.new-answers.result.items c.run.new.answers.items (state g.D.Store c.new-desk.result.store) (state g.D.Store c.run.new.self.store)) rules called)
