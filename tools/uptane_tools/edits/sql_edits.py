@@ -30,15 +30,15 @@ FOLDER = trials.TOP / "crates" / CRATE
 # the tables in the order in which they are made, and those that an older schema lacks
 TABLES = [
     "meta", "role_key", "repo_file", "image", "campaign", "vehicle", "ecu", "kept", "retired",
-    "image_sha512"]
-LATER = {1: ["retired", "image_sha512"], 2: ["image_sha512"], 3: []}
+    "image_sha512", "image_repository", "retired_vehicle"]
+LATER = {1: TABLES[8:], 2: TABLES[9:], 3: TABLES[10:], 4: []}
 # the words of the rows that read, each with its function
 READS = {
-    "meta": "meta", "keys_of": "role_keys_of", "file": "file", "image": "image", "images": "images",
-    "campaign": "campaign", "running": "running_campaigns", "sha512": "image_sha512",
-    "sha512s": "image_sha512s", "vehicle": "vehicle", "ecus": "ecus", "owner": "ecu_owner",
-    "retired": "retired_owner", "kept": "kept"}
-MANY = {"role_keys_of", "images", "running_campaigns", "image_sha512s", "ecus"}
+    "meta": "meta", "numbers": "image_repository", "keys": "role_keys", "file": "file",
+    "image": "image", "images": "images", "campaign": "campaign", "running": "running_campaigns",
+    "sha512": "image_sha512", "sha512s": "image_sha512s", "vehicle": "vehicle", "ecus": "ecus",
+    "owner": "ecu_owner", "retired": "retired_owner", "shut_out": "retired_vehicle", "kept": "kept"}
+MANY = {"role_keys", "images", "running_campaigns", "image_sha512s", "ecus"}
 
 
 class Refused(Exception):
@@ -119,6 +119,7 @@ class Database:
         for table in TABLES:
             self.run("make_" + table)
         self.run("name_tables")
+        self.run("number_tables")
 
     def ours(self) -> str:
         try:
@@ -135,6 +136,8 @@ class Database:
     def raised(self, tables: list[str]) -> None:
         for table in tables:
             self.run("make_" + table)
+        self.run("same_numbers")
+        self.run("drop_keys")
         self.run("set_schema")
 
     # ---- reads
@@ -142,7 +145,7 @@ class Database:
     def read(self, name: str, rest: str) -> str:
         values: list[Any] = split(
             rest, 2) if name in ("file", "kept") else [rest] * ("?1" in self.statements[name])
-        if name in ("role_keys_of", "kept"):
+        if name == "kept":
             values[-1] = number(values[-1])
         taken = values[:max([int(it)
                              for it in re.findall(r"\?(\d)", self.statements[name])], default=0)]
@@ -160,11 +163,14 @@ class Database:
         {
             "image": self.put_image, "campaign": self.put_campaign, "root": self.put_root,
             "vehicle": self.put_vehicle, "sha512": self.put_sha512,
-            "retired": lambda rest: self.run("insert_retired", *split(rest, 2))}[word](rest)
+            "retired": lambda rest: self.run("insert_retired", *split(rest, 2)),
+            "shut_out": lambda rest: self.run("insert_retired_vehicle", rest)}[word](rest)
 
     def set(self, given: str) -> None:
         word, _, rest = given.partition(" ")
-        {"files": self.set_files, "manifest": self.set_manifest, "ecu": self.set_ecu}[word](rest)
+        {
+            "files": self.set_files, "manifest": self.set_manifest, "ecu": self.set_ecu,
+            "numbers": self.set_own_numbers}[word](rest)
 
     def end(self, rest: str) -> None:
         self.run("close_campaign", rest)
@@ -185,9 +191,13 @@ class Database:
     def set_numbers(self, text: str) -> None:
         self.run("update_meta", *map(number, split(text, 3)))
 
+    def set_own_numbers(self, text: str) -> None:
+        self.run("update_image_repository", *map(number, split(text, 2)))
+
     def put_root(self, rest: Any) -> None:
         numbers, *keys = rest.split(" ; ")
         self.set_numbers(numbers)
+        self.run("delete_role_keys")
         for root, repository, role, place, digits, threshold in (split(key, 6) for key in keys):
             self.run("insert_role_key", number(root), repository, role, number(place),
                      bytes.fromhex(digits), number(threshold))

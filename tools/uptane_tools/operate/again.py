@@ -1,33 +1,66 @@
 """The lines that a restore asks for again, made from the file as it was when it was lost, or any
 later copy than the one that is restored; where there is none, from the journal.
+
+A file has the secrets of its last root version alone. Those of the versions between are in the
+copies that were made behind them, each under the identifier that its Root lists at its place.
 """
 import gzip
 import json
 import re
 import sqlite3
 import time
-from collections.abc import Iterator
+from collections.abc import Iterable, Iterator
 from contextlib import suppress
 from pathlib import Path
 from typing import Any
 
 from uptane_tools.operate import fleet_tables
-from uptane_tools.operate.formats import REPOSITORIES, ROLES, canonical
+from uptane_tools.operate.formats import REPOSITORIES, canonical
 
 Members = dict[str, Any]
+# what a line does, and its members
+Step = tuple[str, Members]
+UNREADABLE = (fleet_tables.Other, OSError, sqlite3.Error, ValueError, LookupError)
 
 
-def keys_of(db: sqlite3.Connection, root: int) -> Members:
+def roles_of(db: sqlite3.Connection, repository: str, root: int) -> Members:
+    """The roles of a root version, by its Root."""
+    sql = "SELECT body FROM repo_file WHERE repository = ? AND name = ?"
+    found = db.execute(sql, (repository, "%d.root.json" % root)).fetchone()
+    if found is None:
+        raise ValueError("root version %d of %s is missing" % (root, repository))
+    return json.loads(found["body"])["signed"]["roles"]
+
+
+def secrets_of(paths: Iterable[Path]) -> dict[str, str]:
+    """The secrets that these files have, by the identifiers of their keys."""
+    found = {}
+    for path in paths:
+        with suppress(*UNREADABLE), fleet_tables.opened(path) as db:
+            for row in db.execute("SELECT * FROM role_key").fetchall():
+                role = roles_of(db, row["repository"], row["root"])[row["role"]]
+                found[role["keyids"][row["place"]]] = row["secret"].hex()
+    return found
+
+
+def keys_of(db: sqlite3.Connection, root: int, secrets: dict[str, str]) -> Members:
     """The keys and thresholds of all roles in a root version, as `rotate` has them."""
-    sql = ("SELECT secret, threshold FROM role_key WHERE root = ? AND repository = ? AND role = ? "
-           "ORDER BY place")
-    made: Members = {it: {} for it in REPOSITORIES}
-    for repository in REPOSITORIES:
-        for role in ROLES:
-            rows = db.execute(sql, (root, repository, role)).fetchall()
-            made[repository][role] = {
-                "keys": [row["secret"].hex() for row in rows], "threshold": rows[0]["threshold"]}
-    return made
+    return {
+        repository: {
+            role: {"keys": [secrets[it] for it in told["keyids"]], "threshold": told["threshold"]}
+            for role, told in roles_of(db, repository, root).items()}
+        for repository in REPOSITORIES}
+
+
+def rotations(db: sqlite3.Connection, root: int, secrets: dict[str, str]) -> Iterator[Step]:
+    """What makes the root versions of a file that are behind this one, up to the first whose keys
+    aren't known.
+    """
+    for number in range(root + 1, fleet_tables.meta_of(db)["root"] + 1):
+        try:
+            yield "rotate" if number > 1 else "found", keys_of(db, number, secrets)
+        except KeyError:
+            return
 
 
 def image_of(db: sqlite3.Connection, row: sqlite3.Row, schema: int) -> Members:
@@ -46,11 +79,6 @@ def ecus_of(db: sqlite3.Connection, vehicle: str) -> list[Members]:
             for row in db.execute(sql, (vehicle, ))]
 
 
-def made_by(root: int) -> str:
-    """The command that makes a root version."""
-    return "rotate" if root > 1 else "found"
-
-
 def missing(before: sqlite3.Connection, after: sqlite3.Connection, table: str,
             column: str) -> Iterator[sqlite3.Row]:
     """The rows of the later file that the earlier one hasn't, in the order in which they were made.
@@ -60,8 +88,7 @@ def missing(before: sqlite3.Connection, after: sqlite3.Connection, table: str,
                 if row[column] not in had)
 
 
-def of_vehicles(before: sqlite3.Connection,
-                after: sqlite3.Connection) -> Iterator[tuple[str, Members]]:
+def of_vehicles(before: sqlite3.Connection, after: sqlite3.Connection) -> Iterator[Step]:
     for row in missing(before, after, "vehicle", "vehicle"):
         yield "add_vehicle", {
             "vehicle": row["vehicle"], "primary": row["primary_ecu"], "ecus": ecus_of(
@@ -72,8 +99,7 @@ def of_vehicles(before: sqlite3.Connection,
                 yield "replace_ecu", {"vehicle": name, "old": old["ecu"], **new}
 
 
-def of_campaigns(before: sqlite3.Connection,
-                 after: sqlite3.Connection) -> Iterator[tuple[str, Members]]:
+def of_campaigns(before: sqlite3.Connection, after: sqlite3.Connection) -> Iterator[Step]:
     running = {
         row["name"]: bool(row["running"])
         for row in before.execute("SELECT name, running FROM campaign")}
@@ -86,30 +112,27 @@ def of_campaigns(before: sqlite3.Connection,
             yield "close_campaign", {"campaign": row["name"]}
 
 
-def members(before: sqlite3.Connection, after: sqlite3.Connection) -> Iterator[tuple[str, Members]]:
-    """What each line does, and its members, in an order in which each is taken."""
-    first, last = fleet_tables.meta_of(before), fleet_tables.meta_of(after)
-    for root in range(first["root"] + 1, last["root"] + 1):
-        yield made_by(root), keys_of(after, root)
-    for row in missing(before, after, "image", "file"):
-        yield "add_image", image_of(after, row, last["schema"])
-    yield from of_vehicles(before, after)
-    yield from of_campaigns(before, after)
+def lacking_keys(number: int) -> list[str]:
+    return ["to give again by hand: %d rotations, whose keys no copy has" % number] * (number > 0)
 
 
-def lines(copy: Path, later: Path, now: int) -> Iterator[str]:
-    """The lines. A refresh is the last: above each version that was served, and each that the
-    lines before it make.
+def lines(copy: Path, later: Path, copies: Path, now: int) -> tuple[list[str], list[str]]:
+    """The lines, in an order in which each is taken, and a sentence for those that can't be made.
+    A refresh is the last: above each version that was served, and each that the lines before it
+    make.
     """
+    secrets = secrets_of([*copies_of(copy, copies), copy, later])
     with fleet_tables.opened(copy) as before, fleet_tables.opened(later) as after:
-        made = list(members(before, after))
-        for do, its in made:
-            yield canonical({"at": now, "do": do, **its})
-        versions = [fleet_tables.meta_of(it)["image_version"] for it in (before, after)]
-        files = sum(do in ("found", "rotate", "add_image") for do, _ in made)
-        if versions[1] > versions[0] or files:
-            yield canonical({
-                "at": now, "do": "refresh", "version": max(versions[1], versions[0] + files) + 1})
+        first, last = fleet_tables.meta_of(before), fleet_tables.meta_of(after)
+        made = list(rotations(after, first["root"], secrets))
+        lacking = lacking_keys(last["root"] - first["root"] - len(made))
+        made += [("add_image", image_of(after, row, last["schema"]))
+                 for row in missing(before, after, "image", "file")]
+        ends = first["image_version"] + len(made)
+        made += [*of_vehicles(before, after), *of_campaigns(before, after)]
+        if max(last["image_version"], ends) > first["image_version"]:
+            made.append(("refresh", {"version": max(last["image_version"], ends) + 1}))
+        return [canonical({"at": now, "do": do, **its}) for do, its in made], lacking
 
 
 # ---- by the journal
@@ -150,15 +173,26 @@ def made_at(copy: Path) -> str:
     return time.strftime("%Y-%m-%dT%H:%M:%SZ", at)
 
 
-def rotations(copy: Path, copies: Path, root: int) -> list[Members]:
-    """The rotations behind this root, by the keys in other copies of the same desk."""
-    found: list[Members] = []
-    for path in copies.glob(copy.name.partition("-")[0] + "-*.db"):
-        with suppress(fleet_tables.Other, OSError, sqlite3.Error), fleet_tables.opened(path) as db:
-            last = fleet_tables.meta_of(db)["root"]
-            if last - root > len(found):
-                found = [keys_of(db, it) for it in range(root + 1, last + 1)]
-    return found
+def copies_of(copy: Path, copies: Path) -> list[Path]:
+    """The copies of the same desk."""
+    return sorted(copies.glob(copy.name.partition("-")[0] + "-*.db"))
+
+
+def root_in(path: Path) -> int:
+    """The file's last root version; 0 where it can't be read."""
+    with suppress(*UNREADABLE), fleet_tables.opened(path) as db:
+        return int(fleet_tables.meta_of(db)["root"])
+    return 0
+
+
+def rotated_again(copy: Path, copies: Path, root: int) -> list[Step]:
+    """The rotations behind this root, by the other copies of the same desk."""
+    there = copies_of(copy, copies)
+    newest = max(there, key=root_in, default=copy)
+    if root_in(newest) <= root:
+        return []
+    with fleet_tables.opened(newest) as db:
+        return list(rotations(db, root, secrets_of([*there, copy])))
 
 
 def by_journal(copy: Path, journal: Path, copies: Path, now: int) -> tuple[list[str], list[str]]:
@@ -182,13 +216,9 @@ def by_journal(copy: Path, journal: Path, copies: Path, now: int) -> tuple[list[
                 else:
                     rest.append({**asked, "at": now})
                     files += do == "add_image"
-        kept = rotations(copy, copies, meta["root"])
-        if rotated > len(kept):
-            lacking.append("to give again by hand: %d rotations, whose keys no copy has" %
-                           (rotated - len(kept)))
-        first = meta["root"] + 1
-        made = [{"at": now, "do": made_by(root), **it}
-                for root, it in enumerate(kept, first)] + rest
+        kept = rotated_again(copy, copies, meta["root"])
+        lacking += lacking_keys(rotated - len(kept))
+        made = [{"at": now, "do": do, **its} for do, its in kept] + rest
         last = max(version, meta["image_version"] + files + len(kept)) + 1
         return [
             canonical(it) for it in [*made, {"at": now, "do": "refresh", "version": last}]], lacking

@@ -6,7 +6,7 @@ column that an operator added.
 The program knows its file by `meta` alone, so it takes a file whose other tables were changed by
 hand, and what is proved of lines and requests isn't proved over it (`docs/use/TABLES.md`). Under
 Ed25519 it tells too which ECUs have a key that is none, which an older program took; and whether
-there are the Root files that the number of root versions asks for. For each thing that is too much,
+each repository has the Root files that its number asks for. For each thing that is too much,
 missing or different a line is printed:
 
     table retired: it is missing
@@ -15,12 +15,13 @@ missing or different a line is printed:
     ecu P1 of V1: its key is no Ed25519 public key: ..
     root of image: the number is 3, and 3.root.json is missing
 
-Compared are the tables of the schema that `meta` names (1, 2 or 3; where it names none, of the one
+Compared are the tables of the schema that `meta` names (1 to 4; where it names none, of the one
 that is nearest) and what SQLite keeps as the file's own: tables, columns with their kinds and
-rules, keys, references, indexes, triggers and views. Rows are not looked at, but for that of
-`meta`, the names of Root files, and ECUs' keys, of which a second has some hundreds. Give it a file
-that no program writes to, or a copy. It is only read: where a log lies beside it, it is read under
-another name, in a temporary folder. Of several files each line begins with its file's name.
+rules, keys, references, indexes, triggers and views. Rows are not looked at, but for those of
+`meta` and `image_repository`, the names of Root files, and ECUs' keys, of which a second has some
+hundreds. Give it a file that no program writes to, or a copy. It is only read: where a log lies
+beside it, it is read under another name, in a temporary folder. Of several files each line begins
+with its file's name.
 
 The status is 0 where the file has just what it has to, 1 where it hasn't or is no such database,
 and 2 where it can't be read.
@@ -179,13 +180,14 @@ def wrong_keys(db: sqlite3.Connection) -> list[str]:
         return []
 
 
-def wrong_numbers(db: sqlite3.Connection) -> Iterator[str]:
-    """A line for each Root file that the number of root versions asks for, or doesn't."""
+def wrong_numbers(db: sqlite3.Connection, schema: int | None) -> Iterator[str]:
+    """A line for each Root file that a repository's number of root versions asks or doesn't."""
     sql = "SELECT name FROM repo_file WHERE repository = ? AND name GLOB '[0-9]*.root.json'"
+    tables = ("meta", "image_repository" if schema == 4 else "meta")
     try:
-        for repository in REPOSITORIES:
+        for repository, table in zip(REPOSITORIES, tables):
             there = {row[0] for row in db.execute(sql, (repository, ))}
-            for (number, ) in db.execute("SELECT root FROM meta LIMIT 1").fetchall():
+            for (number, ) in db.execute("SELECT root FROM %s LIMIT 1" % table).fetchall():
                 wanted = {"%d.root.json" % it for it in range(1, number + 1)}
                 for name in sorted(there ^ wanted):
                     yield "root of %s: the number is %d, and %s is %s" % (
@@ -211,7 +213,7 @@ def amiss(path: Path) -> list[str]:
         number, found = named(db, here)
         return found + min((compared(db, here, it)
                             for it in ([number] if number else sorted(LACKS, reverse=True))),
-                           key=len) + wrong_keys(db) + list(wrong_numbers(db))
+                           key=len) + wrong_keys(db) + list(wrong_numbers(db, number))
 
 
 def told(path: str, front: str) -> int:

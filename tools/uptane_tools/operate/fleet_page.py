@@ -13,7 +13,7 @@ no one who needn't know that.
 
 Everything is as of the newest moment in the copies; what has expired and who was long silent is
 reckoned from now, by this machine's clock, or from SECONDS. The status is 1, with a message,
-where a file isn't a database of this product, of schema 1, 2 or 3.
+where a file isn't a database of this product, of schema 1 to 4.
 """
 import html
 import json

@@ -14,7 +14,7 @@ from typing import Any, Iterator
 
 from uptane_tools.operate.formats import Named
 
-SCHEMAS = (1, 2, 3)
+SCHEMAS = (1, 2, 3, 4)
 DAY, WEEK = 86400, 7 * 86400
 # the most that there can be
 ROOTS, IMAGES, VERSIONS = 64, 1024, 2**53 - 1

@@ -32,8 +32,8 @@ file may be one that `openssl pkey -pubout` writes; a private key is refused. Un
 the secret. What is nobody's key is refused: a blank, and a point of small order.
 
 Keys that stand in an example of this project are refused, since they are published. `--old COPY`
-refuses those that a copy of another file has: where a fleet goes on under another scheme of
-signatures, no secret of the first may be used again.
+refuses those that a copy has, or that a Root in it lists: behind a theft, and where a fleet goes on
+under another scheme of signatures, no secret of before may be used again.
 
 OLD is the ECU that was taken out of the vehicle and ECU the one that was put in, whose key FILE
 holds, as above.
@@ -146,6 +146,18 @@ def need_fresh(keys: Iterable[tuple[str, str]], old: Path | None) -> None:
         need(key not in known, "%s: the key stands in %s: draw another", name, known.get(key))
 
 
+def need_unlisted(keys: list[tuple[str, str]], old: Path) -> None:
+    """No Root of a copy lists the key of a secret. The secrets before the last Roots' aren't in it
+    any more, and their keys' identifiers are.
+    """
+    with fleet_tables.opened(old) as db:
+        texts = db.execute("SELECT body FROM repo_file WHERE name GLOB '[0-9]*.root.json'")
+        listed = {name for (body, ) in texts for name in json.loads(body)["signed"]["keys"]}
+    for name, key in keys:
+        need(not listed & points.identifiers(key), "%s: a Root in %s lists the key: draw another",
+             name, old)
+
+
 def role_keys(folder: Path, name: str, thresholds: dict[str, int]) -> Named:
     """The keys of a role, `director-root` say, in the order of their numbers, with the threshold.
     """
@@ -176,8 +188,11 @@ def new_keys(folder: Path, asked: list[tuple[str, str]], old: Path | None) -> Na
         need(path.name in known, "%s: no role has such a key", path)
     every = [key for roles in told.values() for role in roles.values() for key in role["keys"]]
     need(len(set(every)) == len(every), "%s: a key stands there twice", folder)
-    need_fresh([("%s-%s" % (it, role), key) for it, roles in told.items()
-                for role, its in roles.items() for key in its["keys"]], old)
+    named = [("%s-%s" % (it, role), key) for it, roles in told.items()
+             for role, its in roles.items() for key in its["keys"]]
+    need_fresh(named, old)
+    if old:
+        need_unlisted(named, old)
     return told
 
 

@@ -1,6 +1,8 @@
 """Which bytes are an Ed25519 public key, and which are nobody's key under any scheme.
 `examples/primary/ed25519.py` has the curve.
 """
+import hashlib
+import hmac
 import runpy
 from typing import Any
 
@@ -16,6 +18,16 @@ def is_public(key: bytes) -> bool:
     point's order. Takes some milliseconds.
     """
     return bool(_CURVE["is_public"](key))
+
+
+def identifiers(secret: str) -> set[str]:
+    """What Roots call the key of a secret, under HMAC, where it is its own public part, and under
+    Ed25519.
+    """
+    data = bytes.fromhex(secret)
+    return {
+        hmac.new(it, b"uptane-key-id", hashlib.sha256).hexdigest()
+        for it in (data, _CURVE["public_of"](data))}
 
 
 def is_nobodys(key: str) -> bool:

@@ -107,8 +107,9 @@ def compared(copy: Path, lost: Path, lines: int | None, its: dict[str, str]) -> 
     """What the copy hasn't; the lines go to the file that is open."""
     try:
         yield from told(copy, lost)
-        made = list(again.lines(copy, lost, int(time.time())))
+        made, lacking = again.lines(copy, lost, Path(its["COPIES"]), int(time.time()))
         by = str(lost)
+        yield from lacking
     except (fleet_tables.Other, OSError, ValueError, sqlite3.Error) as wrong:
         yield "what the copy hasn't can't be told by %s: %s" % (lost, wrong)
         yield "where the lost file is elsewhere, name it by --lost"

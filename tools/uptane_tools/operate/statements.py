@@ -11,9 +11,11 @@ import sqlite3
 from uptane_tools import TOP
 
 PAGE = TOP / "docs" / "use" / "TABLES.md"
-SCHEMA = 3
+SCHEMA = 4
 # which of the page's tables a database of an older schema lacks
-LACKS: dict[int, list[str]] = {1: ["retired", "image_sha512"], 2: ["image_sha512"], SCHEMA: []}
+NEW = ["image_repository", "retired_vehicle"]
+LACKS: dict[int, list[str]] = {
+    1: ["retired", "image_sha512", *NEW], 2: ["image_sha512", *NEW], 3: NEW, SCHEMA: []}
 FIRST = """
 CREATE TABLE meta (id INTEGER PRIMARY KEY, app TEXT NOT NULL, schema INTEGER NOT NULL, \
 root INTEGER NOT NULL,
@@ -47,7 +49,11 @@ SECOND = """
 CREATE TABLE retired (ecu TEXT NOT NULL PRIMARY KEY, \
 vehicle TEXT NOT NULL REFERENCES vehicle (vehicle)) STRICT;
 """
-OLDER = {1: FIRST, 2: FIRST + SECOND}
+THIRD = """
+CREATE TABLE image_sha512 (file TEXT NOT NULL PRIMARY KEY REFERENCES image (file), \
+sha512 BLOB NOT NULL) STRICT;
+"""
+OLDER = {1: FIRST, 2: FIRST + SECOND, 3: FIRST + SECOND + THIRD}
 
 
 def schema() -> list[str]:

@@ -381,6 +381,12 @@ class Desk:
                 if table_of(statement) in tables:
                     self.db.execute(statement)
             self.db.execute(named, (SCHEMA, ))
+            if "image_repository" in tables:
+                # both repositories had one number of root versions, and Targets the version of
+                # the rest; secrets of older root versions sign nothing any more
+                self.db.execute(
+                    "INSERT INTO image_repository SELECT id, root, image_version FROM meta")
+                self.db.execute("DELETE FROM role_key WHERE root < (SELECT root FROM meta)")
 
     def one(self, sql: str, *given: str | int) -> Any:
         return self.db.execute(sql, given).fetchone()
@@ -394,11 +400,10 @@ class Desk:
             raise Refused(8)
         return meta
 
-    def keys(self, repository: str, role: str, root: int | None = None) -> list[bytes]:
-        root = root or self.one("SELECT root FROM meta")[0]
-        sql = ("SELECT secret FROM role_key WHERE root = ? AND repository = ? AND role = ? ORDER "
-               "BY place")
-        return [row[0] for row in self.all(sql, root, repository, role)]
+    def keys(self, repository: str, role: str) -> list[bytes]:
+        """The secrets of a role, of the last root version."""
+        sql = "SELECT secret FROM role_key WHERE repository = ? AND role = ? ORDER BY place"
+        return [row[0] for row in self.all(sql, repository, role)]
 
     def images(self) -> dict[str, dict[str, Any]]:
         found = {}
@@ -432,8 +437,13 @@ class Desk:
             "timestamp": timestamp}
 
     def put_root(self, keys: dict[str, Any], at: int, root: int) -> None:
-        """The keys and Root files of a new root version."""
-        self.db.execute("UPDATE meta SET root = ?", (root, ))
+        """The Root files of a new root version, and its keys in place of those before it, by which
+        it is signed too.
+        """
+        before = {it: self.keys(it, "root") for it in REPOSITORIES}
+        for table in ("meta", "image_repository"):
+            self.db.execute("UPDATE %s SET root = ?" % table, (root, ))
+        self.db.execute("DELETE FROM role_key")
         for repository in REPOSITORIES:
             for role in ROLES:
                 secrets, threshold = keys[repository][role]
@@ -441,9 +451,8 @@ class Desk:
                     row = (root, repository, role, place, secret, threshold)
                     self.db.execute("INSERT INTO role_key VALUES (?, ?, ?, ?, ?, ?)", row)
         for repository in REPOSITORIES:
-            signers = self.keys(repository, "root", root)
-            before = self.keys(repository, "root", root - 1) if root > 1 else []
-            signers += [k for k in before if k not in signers]
+            signers = self.keys(repository, "root")
+            signers += [k for k in before[repository] if k not in signers]
             payload: dict[str, Any] = {
                 "expires": moment(at + 86400 * 365), "repository": repository}
             payload |= {"type": "root", "version": root}
@@ -462,6 +471,7 @@ class Desk:
 
     def put_image_files(self, at: int, version: int) -> None:
         self.db.execute("UPDATE meta SET image_version = ?, stamp = ?", (version, at))
+        self.db.execute("UPDATE image_repository SET targets = ?", (version, ))
         images = self.images()
         targets = [target(images[name], {}) for name in sorted(images, key=str.encode)]
         for role, body in self.role_files("image", at, version, targets, {}).items():

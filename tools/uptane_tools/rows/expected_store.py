@@ -108,10 +108,18 @@ EIGHT_TABLES = [
 RETIRED_TABLE = (
     "CREATE TABLE retired (ecu TEXT NOT NULL PRIMARY KEY, vehicle TEXT NOT NULL REFERENCES "
     "vehicle (vehicle)) STRICT")
-TABLES_OF = {1: EIGHT_TABLES, 2: EIGHT_TABLES + [RETIRED_TABLE]}
+SHA512_TABLE = (
+    "CREATE TABLE image_sha512 (file TEXT NOT NULL PRIMARY KEY REFERENCES image (file), sha512 "
+    "BLOB NOT NULL) STRICT")
+TABLES_OF = {
+    1: EIGHT_TABLES, 2: EIGHT_TABLES + [RETIRED_TABLE],
+    3: EIGHT_TABLES + [RETIRED_TABLE, SHA512_TABLE]}
+LATEST = 4
 EIGHT_NAMES = ["meta", "role_key", "repo_file", "image", "campaign", "vehicle", "ecu", "kept"]
+TEN_NAMES = EIGHT_NAMES + ["retired", "image_sha512"]
 NAMES_OF = {
-    1: EIGHT_NAMES, 2: EIGHT_NAMES + ["retired"], 3: EIGHT_NAMES + ["retired", "image_sha512"]}
+    1: EIGHT_NAMES, 2: EIGHT_NAMES + ["retired"], 3: TEN_NAMES,
+    4: TEN_NAMES + ["image_repository", "retired_vehicle"]}
 RETIRED_ECUS = [("s-v", "v"), ("r-v", "v")]
 
 # written into a database that was taken
@@ -280,6 +288,18 @@ class State:
             if "+" in row:
                 yield file, row.split()[2].split("+")[1]
 
+    def asked_numbers(self) -> list[str]:
+        """Questions about the image repository's own numbers, and about the keys: those of the last
+        root version alone.
+        """
+        root, version = (self.founding if self.founding != "none" else "0 0").split()[:2]
+        keys = sum(1 for _ in role_keys(int(root))) if self.founding != "none" else 0
+        numbers = rows_text([(1, root, version)])
+        return [
+            f"ask SELECT id, root, targets FROM image_repository => {numbers}",
+            f"ask SELECT count(root), count(DISTINCT root) FROM role_key => "
+            f"{rows_text([(keys, min(keys, 1))])}"]
+
     def inserts(self, schema: int) -> list[str]:
         """The statements that put these rows into tables of a schema."""
         root, version, stamp = (self.founding if self.founding != "none" else "0 0 0").split()[:3]
@@ -392,8 +412,8 @@ def asked(state: State, schema: int) -> list[str]:
         f"{rows_text([(row[0], row[1], row[5], row[7]) for row in kept])}"
     ] + ([f"ask SELECT ecu, vehicle FROM retired => {rows_text(state.retired.items())}"]
          if schema > 1 else []) + ([
-             f"ask SELECT file, sha512 FROM image_sha512 => {rows_text(state.second_hashes())}"]
-                                   if schema > 2 else [])
+             f"ask SELECT file, sha512 FROM image_sha512 => {rows_text(state.second_hashes())}"
+         ] if schema > 2 else []) + (state.asked_numbers() if schema == LATEST else [])
 
 
 def older(name: str, schema: int, writes: list[tuple[Any, ...]], further: list[tuple[Any, ...]],
@@ -404,7 +424,7 @@ def older(name: str, schema: int, writes: list[tuple[Any, ...]], further: list[t
     state = State()
     for write in writes:
         state.write(*write)
-    if schema == 2 and writes:
+    if schema in (2, 3) and writes:
         state.retired, reads = dict(RETIRED_ECUS), [*reads, "owner r-v"]
     made = TABLES_OF[schema] + state.inserts(schema)
     made += [
@@ -413,12 +433,12 @@ def older(name: str, schema: int, writes: list[tuple[Any, ...]], further: list[t
     rows = [f"run {statement} => done" for statement in made] + asked(state, schema)
     rows += ["create => store"] + asked(state, schema) + ["adopt => done"]
     rows += [f"{read} => {state.read(*read.split())}" for read in reads]
-    rows += ["release => done"] + asked(state, 3) + ["adopt => done"]
+    rows += ["release => done"] + asked(state, LATEST) + ["adopt => done"]
     for write in further:
         rows.append(f"{spelled(write)} => done")
         state.write(*write)
         rows += [f"{read} => {state.read(*read.split())}" for read in reads]
-    rows += ["release => done"] + asked(state, 3)
+    rows += ["release => done"] + asked(state, LATEST)
     return name + "\n" + "\n".join(rows) + "\n"
 
 
@@ -427,7 +447,7 @@ def second_hashes() -> str:
     state = State()
     for write in SECOND_HASHES:
         state.write(*write)
-    rows = ["release => done"] + asked(state, 3) + ["adopt => done"]
+    rows = ["release => done"] + asked(state, LATEST) + ["adopt => done"]
     rows += [f"{read} => {state.read(*read.split())}" for read in SECOND_HASH_READS]
     return section("second hashes", SECOND_HASHES, SECOND_HASHES_REFUSED,
                    SECOND_HASH_READS) + "\n".join(rows) + "\n"
@@ -502,12 +522,16 @@ def computed() -> list[str]:
               FEW_READS),
         older("each disk call refused over a raise of schema 2 in files", 2, WRITES, FURTHER[:1],
               FEW_READS),
+        older("each disk call refused over a raise of schema 3 in files", 3, WRITES, FURTHER[:1],
+              FEW_READS),
         older("a database of schema 1 in files", 1, WRITES, FURTHER, READS),
         older("a database of schema 2 in files", 2, WRITES, FURTHER, READS),
+        older("a database of schema 3 in files", 3, WRITES, FURTHER, READS),
         older_reports("second hashes in reports of schema 1 in files", 1),
         older_reports("second hashes in reports of schema 2 in files", 2),
         older("a new database of schema 1 in files", 1, [], WRITES[:1], READS),
-        older("a new database of schema 2 in files", 2, [], WRITES[:1], READS)]
+        older("a new database of schema 2 in files", 2, [], WRITES[:1], READS),
+        older("a new database of schema 3 in files", 3, [], WRITES[:1], READS)]
 
 
 def told_of(section: str) -> str:

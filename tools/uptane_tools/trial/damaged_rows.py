@@ -209,10 +209,11 @@ WITHHELD = [{}, "P1", {"ecu": "P1"}, {"file": "a"}, {"ecu": "P1", "file": ""}, {
 PLAN = json_of({"assigned": []}, {"withheld": None},
                *({"assigned": assigned, "withheld": None} for assigned in ASSIGNED),
                *({"assigned": [], "withheld": withheld} for withheld in WITHHELD))
-WAYS = {
+WAYS: dict[str, dict[str, list[str]]] = {
     "meta": {
-        "id": ["2", "-1"], "app": TEXT + ["'other'"], "schema": COUNT + ["0", "4"], "root": COUNT,
-        "image_version": COUNT, "stamp": MOMENT}, "role_key": {
+        "id": ["2", "-1"], "app": TEXT + ["'other'"],
+        "schema": COUNT + ["0", str(statements.SCHEMA + 1)], "root": COUNT, "image_version": COUNT,
+        "stamp": MOMENT}, "role_key": {
             "root": COUNT, "repository": WORD, "role": WORD, "place": COUNT, "secret": BYTES,
             "threshold": COUNT + ["0"]}, "repo_file": {
                 "repository": WORD, "name": FILE_NAME, "body": TEXT}, "image": {
@@ -221,18 +222,21 @@ WAYS = {
     "campaign": {"name": NAME, "reach": REACH, "items": ITEMS, "running": ["2", "-1"]}, "vehicle": {
         "vehicle": NAME, "primary_ecu": NAME, "version": COUNT, "last_counter": COUNT}, "ecu": {
             "ecu": NAME, "vehicle": NAME, "place": COUNT, "hardware": NAME, "public_key": BYTES,
-            "file": FILE_NAME, "length": COUNT, "sha256": BYTES, "counter": COUNT, "report": TEXT},
-    "kept": {
-        "vehicle": NAME, "counter": COUNT, "version": COUNT, "moment": MOMENT, "root": COUNT,
-        "signed": TEXT, "plan_text": PLAN, "reply": TEXT}, "retired": {
-            "ecu": NAME, "vehicle": NAME}, "image_sha512": {"file": FILE_NAME, "sha512": BYTES}}
+            "file": FILE_NAME, "length": COUNT, "sha256": BYTES, "counter": COUNT,
+            "report": TEXT}, "kept": {
+                "vehicle": NAME, "counter": COUNT, "version": COUNT, "moment": MOMENT,
+                "root": COUNT, "signed": TEXT, "plan_text": PLAN, "reply": TEXT}, "retired": {
+                    "ecu": NAME, "vehicle": NAME}, "image_sha512": {
+                        "file": FILE_NAME, "sha512": BYTES}, "image_repository": {
+                            "id": ["2", "-1"], "root": COUNT,
+                            "targets": COUNT}, "retired_vehicle": {"vehicle": NAME}}
 # the rows that are damaged, one after another
-ROWS = {
+ROWS: dict[str, list[str]] = {
     "meta": ["id = 1"], "role_key": [
         "root = 2 AND repository = 'director' AND role = 'snapshot'",
         "root = 2 AND repository = 'director' AND role = 'targets' AND place = 1",
         "root = 2 AND repository = 'image' AND role = 'root' AND place = 0",
-        "root = 1 AND repository = 'image' AND role = 'timestamp'"], "repo_file": [
+        "root = 2 AND repository = 'image' AND role = 'timestamp'"], "repo_file": [
             "repository = 'director' AND name = '1.root.json'",
             "repository = 'image' AND name = 'targets.json'"],
     "image": ["file = 'a'", "file = 'n'", "file = 'k'"], "campaign": [
@@ -241,7 +245,7 @@ ROWS = {
                 "ecu = 'P1'", "ecu = 'S1'", "ecu = 'E1'", "ecu = 'P4'"], "kept": [
                     "vehicle = 'V1' AND counter = 1", "vehicle = 'V1' AND counter = 3",
                     "vehicle = 'V2' AND counter = 1"], "retired": ["ecu = 'S0'"], "image_sha512": [
-                        "file = 'a'"]}
+                        "file = 'a'"], "image_repository": ["id = 1"], "retired_vehicle": []}
 
 
 def damages() -> Iterator[tuple[str, str, str, str]]:
@@ -254,7 +258,7 @@ def damages() -> Iterator[tuple[str, str, str, str]]:
         types = {(table, it[1]): it[2] for table in trials.TABLES
                  for it in db.execute("PRAGMA table_info(%s)" % table)}
     for (table, column), kind in types.items():
-        others = OTHER_TYPES[kind] if (table, column) != ("meta", "id") else []
+        others = OTHER_TYPES[kind] if column != "id" else []
         for row in ROWS[table]:
             ways = WAYS[table][column] + (others if row == ROWS[table][0] else [])
             yield from ((table, column, row, way.replace("%s", column)) for way in ways)
@@ -262,7 +266,8 @@ def damages() -> Iterator[tuple[str, str, str, str]]:
 
 def loose(statement: str) -> str:
     """The statement of a table without types, so that any value goes into any column; keys stay."""
-    return re.sub(r" (TEXT|BLOB|INTEGER)( NOT NULL)?(?! PRIMARY KEY, app)|STRICT$", "", statement)
+    return re.sub(r" (TEXT|BLOB|INTEGER)( NOT NULL)?(?! PRIMARY KEY, (?:app|root))|STRICT$", "",
+                  statement)
 
 
 def connected(path: Path) -> sqlite3.Connection:
@@ -321,6 +326,7 @@ KEYS = {("role_key", "root"): OTHERS_SIGN, ("role_key", "repository"): OTHERS_SI
 # Columns of which more is taken than the product writes.
 AS_THEY_STAND = {
     ("meta", "image_version"): "no version is greater", ("repo_file", "body"): "the text is served",
+    ("image_repository", "targets"): "the next files have their own version",
     ("campaign", "running"): "the campaign is passed over",
     ("vehicle", "version"): "the version is shown",
     ("ecu", "place"): "the ECUs are in another order",

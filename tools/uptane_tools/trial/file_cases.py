@@ -416,7 +416,7 @@ def raises(program: str | Path, number: int) -> trials.Cases:
         path, found = own / "day", []
         yield "a day before it is taken back", trials.printed(program, path, DAY) is not None
         wanted = trials.expected(trials.copied(path, own / "rules"), SHOWS + FILES + DAY)
-        for older, made in ((1, schemas.lowered), (2, schemas.written)):
+        for older, made in ((1, schemas.lowered), (2, schemas.written), (3, schemas.lowered)):
             begun = made(path, own / ("older%d" % older), older)
             rows, most = schemas.rows(begun), taken_in(
                 program, trials.copied(begun, own / ("timed%d" % older)))

@@ -87,7 +87,7 @@ def makers(program: Path, own: Path) -> trials.Cases:
     with trials.read(path) as db:
         yield "thresholds", db.execute(
             "SELECT root, threshold, count(*) FROM role_key WHERE repository = 'director' AND "
-            "role = 'root' GROUP BY root").fetchall() == [(1, 1, 2), (2, 2, 2)]
+            "role = 'root' GROUP BY root").fetchall() == [(2, 2, 2)]
         hashed = db.execute(
             "SELECT length, hex(sha256), hex(sha512) FROM image JOIN image_sha512 USING (file) "
             "WHERE file = 'a/2.bin'").fetchall()
@@ -214,10 +214,12 @@ def known_keys(path: str | Path, own: Path, at: Any) -> trials.Cases:
     (keys / "image-root-1.key").write_text(fleet.key(5) + "\n", encoding="ascii")
     yield "a key of an example is refused", made("found", keys, *at)[2].startswith(
         "make_lines: image-root: the key stands in examples/fleet_day, so it is published")
-    (keys / "image-root-1.key").write_text(drawn(1) + "\n", encoding="ascii")
-    told = [made("found", keys, *words, *at) for words in ((), ("--old", path))]
-    yield "and one of the old file", told[0][0] == 0 and told[1] == (
-        1, [], "make_lines: image-root: the key stands in %s: draw another\n" % path)
+    for name, number, words in (("one of the old file", 101, "the key stands in %s"),
+                                ("one that it had", 4, "a Root in %s lists the key")):
+        (keys / "image-root-1.key").write_text(drawn(number) + "\n", encoding="ascii")
+        told = [made("found", keys, *old, *at) for old in ((), ("--old", path))]
+        yield "and " + name, told[0][0] == 0 and told[1] == (
+            1, [], "make_lines: image-root: %s: draw another\n" % (words % path))
     (own / "old.csv").write_text(TABLE, encoding="ascii")
     yield "an ECU's too", made(
         "add_vehicle", own / "old.csv", "--old", path,
@@ -435,22 +437,21 @@ CHANGED = [
         "ALTER TABLE meta RENAME COLUMN moment TO stamp"], []),
     ("statistics", ["ANALYZE"], ["table sqlite_stat1: it is too much"]),
     ("a number set back", ["UPDATE meta SET schema = 1"], [
-        "table image_sha512: it is too much", "table retired: it is too much"]),
-    ("a number set forward", ["UPDATE meta SET schema = 4"], [
-        "it is no database of this product: its schema is 4, and not one of 1, 2, 3"]),
-    ("a root version less", ["UPDATE meta SET root = 1"], [
-        "root of %s: the number is 1, and 2.root.json is too much" % it
-        for it in ("director", "image")]),
+        "table %s: it is too much" % it
+        for it in ("image_repository", "image_sha512", "retired", "retired_vehicle")]),
+    ("a number set forward", ["UPDATE meta SET schema = 5"], [
+        "it is no database of this product: its schema is 5, and not one of 1, 2, 3, 4"]),
+    ("a root version less", ["UPDATE image_repository SET root = 1"], [
+        "root of image: the number is 1, and 2.root.json is too much"]),
     ("a root version more", ["UPDATE meta SET root = 3"], [
-        "root of %s: the number is 3, and 3.root.json is missing" % it
-        for it in ("director", "image")]),
+        "root of director: the number is 3, and 3.root.json is missing"]),
     ("another product", ["UPDATE meta SET app = 'desk'"], [
         "it is no database of this product: meta names 'desk' and not uptane_desk"]),
     ("an empty meta", ["DELETE FROM meta"], ["meta: it has 0 rows and not one"]),
     ("two rows in meta", [
         "INSERT INTO meta SELECT 2, app, schema, root, image_version, stamp FROM meta"], [
             "meta: it has 2 rows and not one"]),
-    ("no meta", ["DROP TABLE meta", "DROP TABLE retired", "DROP TABLE image_sha512"], [
+    ("no meta", ["DROP TABLE " + it for it in ("meta", *statements.LACKS[1])], [
         "table meta: it is missing"]),
     ("no tables", ["DROP TABLE " + table for table in reversed(trials.TABLES)], [
         "it is no database of this product: it has no tables"])]

@@ -150,8 +150,8 @@ class Vehicle:
         self.world, self.name, self.ecus, self.primary = world, name, ecus, next(iter(ecus))
         self.counter, self.body, self.lost = 0, "", False
         self.replaced: list[str] = []
-        texts, numbers = world.texts(), world.desk.all("SELECT DISTINCT root FROM role_key")
-        first = world.rng.choice([row[0] for row in numbers])
+        texts, last = world.texts(), world.desk.one("SELECT root FROM meta")[0]
+        first = world.rng.choice(range(1, last + 1))
         self.history = [{
             it: {"root": texts["%s/%d.root.json" % (it, first)]} | dict.fromkeys(FILES, 0)
             for it in REPOSITORIES}]

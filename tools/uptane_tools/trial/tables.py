@@ -99,7 +99,7 @@ def copies(program: str | Path, own: Path) -> trials.Cases:
 
 OURS = "INSERT INTO meta VALUES (1, 'uptane_desk', %d, 0, 0, 0)"
 
-NEWER = ["schema %d's" % number for number in (4, 2**62)]
+NEWER = ["schema %d's" % number for number in (5, 2**62)]
 
 
 def foreign(program: str | Path, own: Path) -> trials.Cases:
@@ -110,7 +110,7 @@ def foreign(program: str | Path, own: Path) -> trials.Cases:
             "INSERT INTO meta VALUES (1, 'other', 1)"], "one without our row": statements.schema(),
         "tables of the same names": [
             "CREATE TABLE %s (a INTEGER) STRICT" % table for table in trials.TABLES]}
-    for schema in (0, 4, -1, 2**62):
+    for schema in (0, 5, -1, 2**62):
         made["schema %d's" % schema] = statements.schema() + [OURS % schema]
     for schema in statements.OLDER:
         made["one set back to schema %d" % schema] = statements.schema() + [OURS % schema]
