@@ -42,9 +42,8 @@ def answers(path: Path, lines: list[str]) -> list[str]:
 def kept(path: Path) -> Iterator[list[tuple[object, ...]]]:
     """The keys, the images, and which Root files there are."""
     with closing(sqlite3.connect(path)) as db:
-        for asked in ("role_key", "image", "image_repository"):
-            names = "id, root" if asked == "image_repository" else "*"
-            yield db.execute("SELECT %s FROM %s ORDER BY 1, 2, 3" % (names, asked)).fetchall()
+        for asked in ("* FROM role_key", "* FROM image", "id, root FROM image_repository"):
+            yield db.execute("SELECT %s ORDER BY rowid" % asked).fetchall()
         yield db.execute("SELECT repository, name FROM repo_file ORDER BY 1, 2").fetchall()
 
 
