@@ -41,7 +41,7 @@ pub use Rattle.up_plan.specs.declared.campaign.Reach.{Reach}
 pub use Rattle.up_plan.specs.declared.image.Need.{Need}
 pub use Rattle.up_roles.specs.declared.repository.Repository.{Repository}
 pub use Rattle.up_roles.specs.declared.repository.Repository.TheVariants.{Director, Image}
-pub use Rattle.up_rows.proofs.Files.{or_mapped, or_none}
+pub use Rattle.up_rows.proofs.Files.{or_none}
 pub use Rattle.up_rows.specs.Changes.{in_place_of_row, replaced_rows, with_accepted_rows, with_campaign_row, with_image_rows, with_register_rows, with_replaced_rows, with_root_rows, with_vehicle_rows}
 pub use Rattle.up_rows.specs.Lookups.{kept_with, last_owner, latest_kept, other_text, owner_among, owner_found, root_named, root_texts, stands_among, text_among, text_held, text_named}
 pub use Rattle.up_rows.specs.SecondHashes.{TellsItsHash}

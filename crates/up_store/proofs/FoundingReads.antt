@@ -6,7 +6,7 @@ use Rattle.std.proofs.lemmas.List.Elements.{filter-append}
 use Rattle.std.proofs.lemmas.List.Folds.{find-append}
 use Rattle.up_metadata.specs.declared.keys.RoleSecrets.{RoleSecrets}
 use Rattle.up_store.specs.declared.keys.RoleKey.{RoleKey}
-use Rattle.up_store.proofs.Common.{option_map, find, IfSome, is_some, not, ◌==◌, AllByRecursion, enumerate_from, option_or, unwrap_or, Int, Text, Blob, Row, Connected, Repository, Director, Image, KeySet, RepoKeys, Founding, StateRows, or_mapped, EachSays, SaysOwn, ReadsFounding, ReadsKeyed, ImageRepositoryRow, keys_shown, own_told, MetaRow, IsWithin, HasTables, Reads, ListsAll, up_schema, role_key_table, ListsRows, IsOfLastRoot, role_key_places, columns_at, key_row, repository_word, role_lines, repository_lines, founding_lines, is_key_of, secrets_of, threshold_of, IsRoleOf, AreKeysOf, IsFoundingOf, meta_told, HasKeys, HaveKeys, EachHasKeys, IsTypedFounding}
+use Rattle.up_store.proofs.Common.{option_map, find, IfSome, is_some, not, ◌==◌, AllByRecursion, enumerate_from, option_or, unwrap_or, Int, Text, Blob, Row, Connected, Repository, Director, Image, KeySet, RepoKeys, Founding, StateRows, EachSays, SaysOwn, ReadsFounding, ReadsKeyed, ImageRepositoryRow, keys_shown, own_told, MetaRow, IsWithin, HasTables, Reads, ListsAll, up_schema, role_key_table, ListsRows, IsOfLastRoot, role_key_places, columns_at, key_row, repository_word, role_lines, repository_lines, founding_lines, is_key_of, secrets_of, threshold_of, IsRoleOf, AreKeysOf, IsFoundingOf, meta_told, HasKeys, HaveKeys, EachHasKeys}
 
 -- ---- all columns of a row of a key are read
 
@@ -48,6 +48,10 @@ split {A} {B} f (x ∷ xs) (y ∷ ys) zs h =
     let rest : ys ++ zs ≡ map f xs = cc in
     let more = split f xs ys zs rest in
     (x ∷ more.0, more.1, ap (λ (l : List A). x ∷ l) more.2, ap₂ (λ (b : B) (l : List B). b ∷ l) first more.3, more.4)
+
+or_mapped : {A B : Type 0} (f : A → B) (o p : Option A) → option_map f (option_or o p) ≡ option_or (option_map f o) (option_map f p)
+or_mapped f None p = refl
+or_mapped f (Some x) p = refl
 
 none_behind : (p : Option ℕ) → option_or p None ≡ p
 none_behind None = refl
@@ -322,17 +326,17 @@ pub founding_told : (rows : StateRows) (row : MetaRow) (own : ImageRepositoryRow
 founding_told rows row own found before after founded reads shows within numbers owns =
     let has : HasTables before = λ is_open. let here = within.here is_open in record { schema_is = here.schema_is; sound = here.sound; rows = tt } in
     let here = within.here reads.was_open in
-    go rows.founding refl (shows (founding_lines rows.founding) has here.rows.tables.role_keys) here.rows.typed.founding
+    go rows.founding refl (shows (founding_lines rows.founding) has here.rows.tables.role_keys) here.rows.typed.keys
   where
-    go : (o : Option Founding) → rows.founding ≡ o → keys_shown (founding_lines rows.founding) ≡ map key_row found → IfSome o IsTypedFounding → IsFoundingOf row own found rows.founding
-    go None same lines typed =
+    go : (o : Option Founding) → rows.founding ≡ o → keys_shown (founding_lines rows.founding) ≡ map key_row found → IfSome o (λ f. EachHasKeys f.keys) → IsFoundingOf row own found rows.founding
+    go None same lines have =
         let zero : row.root ≡ 0 = ap (λ (m : MetaRow). m.root) (numbers ∙ ap meta_told same) in
         absurd (let e = sym (ap (λ n. n == 0) zero) ∙ founded in cc)
-    go (Some f) same lines typed =
+    go (Some f) same lines have =
         let told : row ≡ meta_told (Some f) = numbers ∙ ap meta_told same in
         let told_own : own ≡ own_told (Some f) = owns ∙ ap own_told same in
         let listed : founding_lines (Some f) ≡ map key_row found = sym (read_lines f) ∙ ap (λ (o : Option Founding). keys_shown (founding_lines o)) (sym same) ∙ lines in
-        let are = keys_told f found listed typed.keys in
+        let are = keys_told f found listed have in
         record {
           founding = f;
           is = same;

@@ -29,6 +29,7 @@ no_file_lines word name = by_test (bytes_eq (repository_word Director) word) (by
 typed_none : AreTyped no_rows
 typed_none = record {
   founding = tt;
+  keys = tt;
   director = tt;
   image = tt;
   images = λ file image found. absurd (let e = sym (get-empty (slice_cmp nat_cmp) file) ∙ found in cc);

@@ -61,7 +61,7 @@ threshold_of_lines : (m t u : ℕ) (word role : List ℕ) (ks ls : List (List �
     → map (key_line m word role t) (enumerate_from 0 ks) ≡ map (key_line m word role u) (enumerate_from 0 ls) → t ≡ u
 threshold_of_lines m t u word role [] [] (inl some) held h = absurd (omega (arith, some))
 threshold_of_lines m t u word role [] [] (inr none) (inl some) h = absurd (omega (arith, some))
-threshold_of_lines m t u word role [] [] (inr none) (inr no) h = ap (λ (r : RoleSecrets). r.threshold) (none ∙ sym no)
+threshold_of_lines m t u word role [] [] (inr none) (inr also) h = ap (λ (r : RoleSecrets). r.threshold) (none ∙ sym also)
 threshold_of_lines m t u word role [] (l ∷ ls) some more h = absurd (let e = h in cc)
 threshold_of_lines m t u word role (k ∷ ks) [] some more h = absurd (let e = h in cc)
 threshold_of_lines m t u word role (k ∷ ks) (l ∷ ls) some more h = cc

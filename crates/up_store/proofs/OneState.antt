@@ -12,7 +12,7 @@ use Rattle.up_machine.specs.Rows.{founding_row}
 use Rattle.up_machine.specs.State.{Entry, Vehicle, State}
 use Rattle.up_rows.specs.Laws.{RowsTellTheState}
 use Rattle.up_rows.proofs.Tables.{get_changed}
-use Rattle.up_store.proofs.Common.{option_map, AllByRecursion, list_all, IfSome, is_some, Row, Trees, Int, CanonIsRead, Name, Rules, Director, Image, CampaignData, ImageData, Item, Reach, Need, reach_column, reach_in, items_column, campaign_items_in, EcuRow, Founding, Kept, VehicleRows, NewEcu, StateRows, rows_of_state, chain_of_rows, ecu_of, entry_of, vehicle_of_rows, ecu_row, image_repository_row, meta_row, yes_or_no, founding_lines, founding_number, repository_lines, image_lines, campaign_lines, vehicle_lines, ecu_lines, ecus_lines, kept_line, retired_lines, second_hash, sha512_lines, ListsRows, IsOfLastRoot, IsTypedFounding, IsTypedImage, IsTypedCampaign, IsTypedKept, image_made, campaign_made}
+use Rattle.up_store.proofs.Common.{option_map, AllByRecursion, list_all, IfSome, is_some, Row, Trees, Int, CanonIsRead, Name, Rules, Director, Image, CampaignData, ImageData, Item, Reach, Need, reach_column, reach_in, items_column, campaign_items_in, EcuRow, Founding, Kept, VehicleRows, NewEcu, StateRows, rows_of_state, chain_of_rows, ecu_of, entry_of, vehicle_of_rows, ecu_row, image_repository_row, meta_row, yes_or_no, founding_lines, founding_number, repository_lines, image_lines, campaign_lines, vehicle_lines, ecu_lines, ecus_lines, kept_line, retired_lines, second_hash, sha512_lines, ListsRows, IsOfLastRoot, EachHasKeys, IsTypedImage, IsTypedCampaign, IsTypedKept, image_made, campaign_made}
 use Rattle.up_store.proofs.OneKeys.{one_keys}
 use Rattle.up_store.proofs.RootTexts.{AreListedAlike, one_texts, one_files as same_texts}
 use Rattle.up_store.proofs.WholeTables.{same_table}
@@ -184,12 +184,12 @@ founded s = some_mapped _ s.files
 -- of the same numbers and rows of keys there is one founding, or none
 one_founding : (a b : Option Founding) → is_some a ≡ is_some b → founding_number (λ f. f.root) a ≡ founding_number (λ f. f.root) b → founding_number (λ f. f.image_version) a ≡ founding_number (λ f. f.image_version) b
     → founding_number (λ f. f.stamp) a ≡ founding_number (λ f. f.stamp) b → founding_number (λ f. f.image_root) a ≡ founding_number (λ f. f.image_root) b
-    → founding_number (λ f. f.targets_version) a ≡ founding_number (λ f. f.targets_version) b → founding_lines a ≡ founding_lines b → IfSome a IsTypedFounding → IfSome b IsTypedFounding → a ≡ b
+    → founding_number (λ f. f.targets_version) a ≡ founding_number (λ f. f.targets_version) b → founding_lines a ≡ founding_lines b → IfSome a (λ f. EachHasKeys f.keys) → IfSome b (λ f. EachHasKeys f.keys) → a ≡ b
 one_founding None None there root version stamp image_root targets lines ta tb = refl
 one_founding None (Some g) there root version stamp image_root targets lines ta tb = absurd (cc)
 one_founding (Some f) None there root version stamp image_root targets lines ta tb = absurd (cc)
 one_founding (Some f) (Some g) there root version stamp image_root targets lines ta tb =
-    let keys : f.keys ≡ g.keys = one_keys f.root f.image_root f.keys g.keys ta.keys tb.keys
+    let keys : f.keys ≡ g.keys = one_keys f.root f.image_root f.keys g.keys ta tb
     (lines ∙ ap₂ (λ (m n : ℕ). repository_lines m Director g.keys.director ++ repository_lines n Image g.keys.image) (sym root) (sym image_root)) in
     let same : f ≡ g = λ i. record { root = root i; image_root = image_root i; keys = keys i; image_version = version i; targets_version = targets i; stamp = stamp i } in
     ap Some same
@@ -226,7 +226,7 @@ module _ (law : CanonIsRead) (tell : RowsTellTheState) (k : Rules) (s t : State)
   files = same_texts first second image_alike
 
   founding : first.founding ≡ second.founding
-  founding = one_founding first.founding second.founding (founded s ∙ ap is_some files ∙ sym (founded t)) numbers.0 numbers.1 numbers.2 own.0 own.1 (sym one.tables.role_keys.every ∙ two.tables.role_keys.every) one.typed.founding two.typed.founding
+  founding = one_founding first.founding second.founding (founded s ∙ ap is_some files ∙ sym (founded t)) numbers.0 numbers.1 numbers.2 own.0 own.1 (sym one.tables.role_keys.every ∙ two.tables.role_keys.every) one.typed.keys two.typed.keys
 
   director : s.director ≡ t.director
   director = sym (ap (λ (x : State). x.director) (tell k s sound)) ∙ ap₂ (λ (f : Option Founding) (texts : List (List ℕ)). chain_of_rows (λ f. f.keys.director) f texts) founding director_texts ∙ ap (λ (x : State). x.director) (tell k t also)

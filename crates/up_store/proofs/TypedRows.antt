@@ -5,13 +5,14 @@ use Rattle.up_machine.specs.declared.decision.RootRows.{RootRows}
 use Rattle.up_machine.specs.declared.vehicle.Replacement.{Replacement}
 use Rattle.up_machine.specs.Rows.{new_row}
 use Rattle.up_machine.proofs.Lists.{each_one_more}
-use Rattle.up_store.proofs.Common.{option_map, unwrap_or, if◌then◌else◌, IsUtf8, bytes_eq, AllByRecursion, slice_cmp, bytes_decides, nat_cmp, eq_by_cmp, Name, Table, CampaignData, ImageData, AcceptedRows, RegisterRows, EcuRow, VehicleRows, NewEcu, get_new, get_same, get_after-insert, with_root_rows, with_register_rows, with_vehicle_rows, in_place_of_row, replaced_rows, with_replaced_rows, with_campaign_row, with_accepted_rows, TellsItsHash, StateRows, with_image, IsReplacement, AreTyped, AreTypedTexts, IsTypedCampaign, IsTypedEcu, IsTypedFounding, IsTypedImage, IsTypedKept, IsTypedVehicle}
+use Rattle.up_store.proofs.Common.{option_map, unwrap_or, if◌then◌else◌, IsUtf8, bytes_eq, AllByRecursion, slice_cmp, bytes_decides, nat_cmp, eq_by_cmp, Name, Table, CampaignData, ImageData, AcceptedRows, RegisterRows, EcuRow, VehicleRows, NewEcu, get_new, get_same, get_after-insert, with_root_rows, with_register_rows, with_vehicle_rows, in_place_of_row, replaced_rows, with_replaced_rows, with_campaign_row, with_accepted_rows, TellsItsHash, StateRows, with_image, IsReplacement, AreTyped, AreTypedTexts, EachHasKeys, IsTypedCampaign, IsTypedEcu, IsTypedFounding, IsTypedImage, IsTypedKept, IsTypedVehicle}
 
 -- ---- writes
 
-pub typed_root : (rows : StateRows) (new : RootRows) → AreTyped rows → IsTypedFounding new.founding → IsUtf8 new.director × IsUtf8 new.image → AreTypedTexts new.files → AreTyped (with_root_rows rows new)
-typed_root rows new typed founding texts files = record {
+pub typed_root : (rows : StateRows) (new : RootRows) → AreTyped rows → IsTypedFounding new.founding → EachHasKeys new.founding.keys → IsUtf8 new.director × IsUtf8 new.image → AreTypedTexts new.files → AreTyped (with_root_rows rows new)
+typed_root rows new typed founding keys texts files = record {
   founding = founding;
+  keys = keys;
   director = each_one_more IsUtf8 rows.director new.director typed.director texts.0;
   image = each_one_more IsUtf8 rows.image new.image typed.image texts.1;
   images = typed.images;
@@ -22,9 +23,10 @@ typed_root rows new typed founding texts files = record {
   retired = typed.retired;
 }
 
-pub typed_register : (rows : StateRows) (new : RegisterRows) → AreTyped rows → IsTypedFounding new.founding → AreTypedTexts new.files → AreTyped (with_register_rows rows new)
-typed_register rows new typed founding files = record {
+pub typed_register : (rows : StateRows) (new : RegisterRows) → AreTyped rows → IsTypedFounding new.founding → EachHasKeys new.founding.keys → AreTypedTexts new.files → AreTyped (with_register_rows rows new)
+typed_register rows new typed founding keys files = record {
   founding = founding;
+  keys = keys;
   director = typed.director;
   image = typed.image;
   images = typed.images;
@@ -38,6 +40,7 @@ typed_register rows new typed founding files = record {
 pub typed_image : (rows : StateRows) (image : ImageData) → AreTyped rows → IsTypedImage image.file image → AreTyped (with_image rows image)
 typed_image rows image typed is = record {
   founding = typed.founding;
+  keys = typed.keys;
   director = typed.director;
   image = typed.image;
   images = λ file other found. get_after-insert IsTypedImage rows.images image.file file other image found is (typed.images file other);
@@ -51,6 +54,7 @@ typed_image rows image typed is = record {
 pub typed_campaign : (rows : StateRows) (new : CampaignData) → AreTyped rows → IsTypedCampaign new.name new → AreTyped (with_campaign_row rows new)
 typed_campaign rows new typed is = record {
   founding = typed.founding;
+  keys = typed.keys;
   director = typed.director;
   image = typed.image;
   images = typed.images;
@@ -72,6 +76,7 @@ none_before t n q x none = by_test (eq_by_cmp (slice_cmp nat_cmp) q n) (sym (get
 pub typed_vehicle : (rows : StateRows) (new : VehicleRows) → AreTyped rows → IsTypedVehicle new.vehicle.vehicle new → AreTyped (with_vehicle_rows rows new)
 typed_vehicle rows new typed is = record {
   founding = typed.founding;
+  keys = typed.keys;
   director = typed.director;
   image = typed.image;
   images = typed.images;
@@ -85,6 +90,7 @@ typed_vehicle rows new typed is = record {
 pub typed_accepted : (rows : StateRows) (new : AcceptedRows) → AreTyped rows → IsTypedKept new.kept.vehicle new.kept → IsTypedVehicle new.vehicle.vehicle.vehicle new.vehicle → AreTyped (with_accepted_rows rows new)
 typed_accepted rows new typed is vehicle = record {
   founding = typed.founding;
+  keys = typed.keys;
   director = typed.director;
   image = typed.image;
   images = typed.images;
@@ -116,6 +122,7 @@ with_there rows new was there = ap (λ o. unwrap_or (option_map (λ (v : Vehicle
 pub typed_replaced : (rows : StateRows) (new : Replacement) → AreTyped rows → IsTypedEcu (new_row new.ecu) → IsReplacement new rows → AreTyped (with_replaced_rows rows new)
 typed_replaced rows new typed ecu fits = record {
   founding = typed.founding;
+  keys = typed.keys;
   director = typed.director;
   image = typed.image;
   images = typed.images;

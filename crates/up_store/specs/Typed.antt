@@ -61,7 +61,6 @@ pub record AreTypedKeys (keys : RepoKeys) : Type 0 where
 pub record IsTypedFounding (founding : Founding) : Type 0 where
   pub director : AreTypedKeys founding.keys.director
   pub image : AreTypedKeys founding.keys.image
-  pub keys : EachHasKeys founding.keys
   pub stamp : founding.stamp ≤ last_moment
   pub root : founding.root < 2 ^ 63
   pub image_root : founding.image_root < 2 ^ 63
@@ -174,6 +173,7 @@ pub record IsTypedKept (vehicle : Name) (row : Kept) : Type 0 where
 
 pub record AreTyped (rows : StateRows) : Type 0 where
   pub founding : IfSome rows.founding IsTypedFounding
+  pub keys : IfSome rows.founding (λ f. EachHasKeys f.keys)
   pub director : AllByRecursion IsUtf8 rows.director
   pub image : AllByRecursion IsUtf8 rows.image
   pub images : (file : Name) (image : ImageData) → table.get rows.images file ≡ Some image → IsTypedImage file image

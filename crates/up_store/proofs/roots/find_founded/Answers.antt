@@ -45,6 +45,6 @@ returns-in-Err g c opened inside =
       shown = λ clean. tt;
       reads = λ clean. tt;
       «open» = λ clean. tt;
-      blame = fits_blames (λ rows. c.args.row ≡ meta_told rows.founding) (λ _. ⊤) _ _ (Err c.in-Err.fault) (λ rows lists fits. tt) it.blame;
+      blame = fits_blames (λ rows. c.args.row ≡ meta_told rows.founding) (λ _. ⊤) (state g.D.Store c.args.tx.now.conn.now) (state g.D.Store c.find_own_numbers.new.tx.conn.now) (Err c.in-Err.fault) (λ rows lists fits. tt) it.blame;
       step = search rules;
     }

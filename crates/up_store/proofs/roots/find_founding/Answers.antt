@@ -1,5 +1,5 @@
 use Rattle.std.proofs.Common.{◌∙◌, ◌≡◌, ◌∷◌, [], arith, rules, subst, sym}
-use Rattle.up_store.proofs.Common.{⊤, Database, state, HasCleanDisk, StateRows, IsWithin, ListsAll, meta_shown, EachSays, meta_table, role_key_table, up_schema, MetaRow, ok_then, ListsRows, SaysNumbers, meta_told}
+use Rattle.up_store.proofs.Common.{⊤, Database, state, ReadsFounding, image_repository_shown, image_repository_table, HasCleanDisk, StateRows, IsWithin, ListsAll, meta_shown, EachSays, meta_table, role_key_table, up_schema, MetaRow, ok_then, ListsRows, SaysNumbers, meta_told}
 use Rattle.up_store.proofs.Blamed.{then_blames}
 use Rattle.up_store.proofs.ColumnFound.{within_read}
 use Rattle.up_store.proofs.ReadRows.{now_stays, tables_stay, reads_behind}
@@ -26,7 +26,8 @@ returns-in-Ok g c inside =
           let row = numbers.shown then has in (
             c.in-Ok.row,
             subst (λ (m : MetaRow). EachSays SaysNumbers (meta_shown (before.now.trees meta_table.tree)) (m ∷ [])) (sym row.2) row.1,
-            λ all lists. told all (tables_stay before mid reads has) (now_stays (λ (db : Database). ListsAll all (db.trees role_key_table.tree)) before mid reads lists),
+            λ all lists. subst (λ (db : Database). ReadsFounding c.in-Ok.row (image_repository_shown (db.trees image_repository_table.tree)) all read) reads.now_is
+            (told all (tables_stay before mid reads has) (now_stays (λ (db : Database). ListsAll all (db.trees role_key_table.tree)) before mid reads lists)),
           ))
           (founded.shown clean);
       reads = λ clean.
