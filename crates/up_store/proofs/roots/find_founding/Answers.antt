@@ -27,7 +27,7 @@ returns-in-Ok g c inside =
             c.in-Ok.row,
             subst (λ (m : MetaRow). EachSays SaysNumbers (meta_shown (before.now.trees meta_table.tree)) (m ∷ [])) (sym row.2) row.1,
             λ all lists. subst (λ (db : Database). ReadsFounding c.in-Ok.row (image_repository_shown (db.trees image_repository_table.tree)) all read) reads.now_is
-            (told all (tables_stay before mid reads has) (now_stays (λ (db : Database). ListsAll all (db.trees role_key_table.tree)) before mid reads lists)),
+                (told all (tables_stay before mid reads has) (now_stays (λ (db : Database). ListsAll all (db.trees role_key_table.tree)) before mid reads lists)),
           ))
           (founded.shown clean);
       reads = λ clean.
