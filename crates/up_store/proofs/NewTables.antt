@@ -1,5 +1,5 @@
 -- Tables that are made list no rows.
-use Rattle.std.proofs.Common.{◌≡◌, ℕ, List, [], Bool, true, false, None, refl, sym, ap, ◌∙◌}
+use Rattle.std.proofs.Common.{◌≡◌, ℕ, List, [], Bool, true, false, Option, None, refl, sym, ap, ◌∙◌}
 use Rattle.std.specs.FinMap.{get-empty}
 use Rattle.up_store.proofs.Common.{if◌then◌else◌, bytes_eq, codes, option_or, nat_cmp, slice_cmp, Trees, Name, Repository, Director, Image, no_rows, text_held, AreNew, ListsTables, no_table_rows, repo_file_table, image_table, campaign_table, vehicle_table, ecu_table, image_sha512_table, lists_none, repository_word, file_lines, image_lines, campaign_lines, vehicle_lines, ecus_lines, second_hash, sha512_lines, ListsRows, files_lines, AreTyped}
 use Rattle.up_store.proofs.Alike.{lists_as, pairs_as}
@@ -7,12 +7,12 @@ use Rattle.up_store.proofs.Alike.{lists_as, pairs_as}
 no_files : (repository : Repository) (name : Name) → text_held no_rows repository name ≡ None
 no_files Director name = by_test (bytes_eq (codes "root.json") name)
   where
-    by_test : (t : Bool) → option_or (option_or (if t then None else None) None) None ≡ None
+    by_test : (t : Bool) → (let none : Option (List ℕ) = None in option_or (option_or (if t then none else none) none) none ≡ none)
     by_test true = refl
     by_test false = refl
 no_files Image name = by_test (bytes_eq (codes "root.json") name)
   where
-    by_test : (t : Bool) → option_or (option_or (if t then None else None) None) None ≡ None
+    by_test : (t : Bool) → (let none : Option (List ℕ) = None in option_or (option_or (if t then none else none) none) none ≡ none)
     by_test true = refl
     by_test false = refl
 
