@@ -26,7 +26,7 @@ use Rattle.up_metadata.proofs.Lists.{and_right, all_weaker}
 use Rattle.up_metadata.proofs.RoleFiles.{role_signs, secrets_fit, keys_are_few, roles_fit}
 use Rattle.up_metadata.proofs.RootFiles.{root_file_is_fit, signers_seal}
 use Rattle.up_verify.specs.Verifiers.{Verifier, is_known, are_known, is_signed_for}
-use Rattle.up_verify.specs.Roots.{same_repository, or_unread, next_root}
+use Rattle.up_verify.specs.Roots.{same_repository, or_unread, if_next, next_root}
 use Rattle.up_primary.specs.Following.{all_secrets, can_read}
 use Rattle.up_primary.proofs.Counting.{any_of_filter, any_of, signed_for}
 use Rattle.up_verify.proofs.Steps.{go_ok, pass}
@@ -175,7 +175,7 @@ pub next_is : (v : Verifier) → Known v.rules → (repository : Repository) (i 
     → ReadRoles v (keys_of repository root.keys) → ReadRoles v (keys_of repository before.keys)
     → length (root_text v.rules repository (i + 1) root (Some before.keys)) ≤ largest_file
     → next_root v repository (root_file v.rules repository i before) (root_text v.rules repository (i + 1) root (Some before.keys)) ≡ Ok (root_file v.rules repository (i + 1) root)
-unfolding next_root
+unfolding next_root if_next
 next_is v known repository i root before is before_fits reads reads_before small =
     let own = (keys_of repository root.keys).root in
     let old = (keys_of repository before.keys).root in

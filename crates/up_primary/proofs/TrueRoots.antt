@@ -21,7 +21,7 @@ use Rattle.up_verify.specs.declared.refused.Role.{Role}
 use Rattle.up_verify.specs.declared.trust.Trust.{Trust}
 use Rattle.up_verify.specs.Verifiers.{Verifier, is_signed_for}
 use Rattle.up_verify.specs.declared.roots.Followed.{Followed}
-use Rattle.up_verify.specs.Roots.{same_repository, or_unread, next_root, with_root, go_on, follow, unless_expired, latest}
+use Rattle.up_verify.specs.Roots.{same_repository, or_unread, if_next, next_root, with_root, go_on, follow, unless_expired, latest}
 use Rattle.up_verify.specs.Files.{of_file}
 use Rattle.up_primary.specs.Following.{FollowsRoot, KeysAgree}
 use Rattle.up_primary.specs.Forging.{IsUnforged, AreSafeFrom}
@@ -68,7 +68,7 @@ pub record IsNext (v : Verifier) (repository : Repository) (before : RootFile) (
   pub signed : is_signed_for v before.root envelope ≡ true
 
 next_parts : (v : Verifier) (repository : Repository) (before : RootFile) (bytes : List ℕ) (file : RootFile) → next_root v repository before bytes ≡ Ok file → IsNext v repository before bytes file
-unfolding next_root
+unfolding next_root if_next
 next_parts v repository before bytes file h = first_ok _ _ _ _ h (λ read is h. first_ok _ _ _ _ h (λ a other h. first_ok _ _ _ _ h (λ b number h. first_ok _ _ _ _ h (λ c known h. first_ok _ _ _ _ h (λ d signed h. first_ok _ _ _ _ h (λ f own h.
     subst (λ (file : RootFile). IsNext v repository before bytes file) (same_ok _ _ h) (record {
       envelope = read.1;

@@ -50,7 +50,7 @@ use Rattle.up_verify.specs.declared.trust.Primary.{Primary}
 use Rattle.up_verify.specs.declared.trust.Trust.{Trust}
 use Rattle.up_verify.specs.declared.trust.Versions.{Versions}
 use Rattle.up_verify.specs.Files.{of_file, check_timestamp, check_snapshot, check_targets, check_files}
-use Rattle.up_verify.specs.Roots.{same_keys, same_listing_keys, kept_if, with_root, or_unread, next_root, go_on, follow, unless_expired, latest}
+use Rattle.up_verify.specs.Roots.{same_keys, same_listing_keys, kept_if, with_root, or_unread, if_next, next_root, go_on, follow, unless_expired, latest}
 use Rattle.up_verify.specs.Verifiers.{Verifier}
 use Rattle.up_verify.specs.Verify.{check_reply, director_now, trusting, check_installs, verify, after}
 use Rattle.up_primary_files.specs.declared.judged.Judged.{Judged}
@@ -169,7 +169,7 @@ abbrev Reached : ℕ → List (List ℕ) → RootFile → RootFile → Type 0
 Reached first texts before root = (root ≡ before) ⊎ ((place : ℕ) × (bytes : List ℕ) × (envelope : Envelope) × (slice_get texts place ≡ Some bytes) × (root.version ≡ first + 1 + place) × (root_in bytes ≡ Ok (root, envelope)))
 
 next_read : (v : Verifier) (repository : Repository) (before root : RootFile) (bytes : List ℕ) → next_root v repository before bytes ≡ Ok root → (envelope : Envelope) × (root_in bytes ≡ Ok (root, envelope)) × (root.version ≡ before.version + 1)
-unfolding next_root
+unfolding next_root if_next
 next_read v repository before root bytes h = first_ok _ _ _ _ h (λ read is h. first_ok _ _ _ _ h (λ a other h. first_ok _ _ _ _ h (λ b number h. first_ok _ _ _ _ h (λ c known h. first_ok _ _ _ _ h (λ d signed h. first_ok _ _ _ _ h (λ e own h.
     subst (λ (root : RootFile). (envelope : Envelope) × (root_in bytes ≡ Ok (root, envelope)) × (root.version ≡ before.version + 1)) (same_ok _ _ h)
     (read.1, unread (root_in bytes) read is, eqb-true read.0.version (before.version + 1) (unless_ok _ _ b number))))))))

@@ -9,7 +9,6 @@ ghost use Rattle.up_verify.specs.Verify.{with_roots as with_roots_of};
 use crate::method::Method;
 use crate::verdict::{accepted_text, refused_line};
 use std::alloc::{AllocError, Global};
-use up_canon::listed::Duplicate;
 use up_canon::refusal::Refusal;
 use up_ed25519::scheme::Ed25519;
 use up_shown::shows::Shows;
@@ -102,7 +101,7 @@ fn not_taken<K: Shows>(
     let told = told_refusal(alloc, &refused);
     drop(refused);
     match told {
-        Ok(told) => match roots_kept(alloc, scheme, held, primary, served) {
+        Ok(told) => match with_roots(alloc, scheme, held, primary, served) {
             Ok(next) => Ok(Judged {
                 is_accepted: false,
                 told,
@@ -122,22 +121,6 @@ fn told_refusal(alloc: Global, refused: &Refused) -> Result<String, AllocError>
         return Err(AllocError);
     }
     refused_line(alloc, refused)
-}
-
-/// What is trusted where a check isn't passed: still the Roots that were verified.
-fn roots_kept<K: Shows>(
-    alloc: Global,
-    scheme: &K,
-    held: &[KnownKey],
-    primary: &Primary,
-    served: &Served,
-) -> Result<Primary, AllocError>
-    ensures { IfOk result (λ next. next ≡ with_roots_of (verifier (K.rules scheme.now) (K.reading scheme.now) held.now) primary.now served.now) }
-{
-    match primary.copy(alloc) {
-        Ok(before) => with_roots(alloc, scheme, held, before, served),
-        Err(fault) => Err(fault),
-    }
 }
 
 fn wants_memory(refused: &Refused) -> bool

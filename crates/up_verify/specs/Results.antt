@@ -19,6 +19,11 @@ abbrev pub ChecksFile : {A : Type 0} → Result A Fault → Result A Fault → T
 ChecksFile (Ok x) computed = computed ≡ Ok x
 ChecksFile (Err fault) computed = MatchBool (lacks_memory fault) ⊤ (computed ≡ Err fault)
 
+-- a test of a file passes where the definition gives the file itself
+abbrev pub PassesFile : {A : Type 0} → A → Result ⊤ Fault → Result A Fault → Type 0
+PassesFile x (Ok done) computed = computed ≡ Ok x
+PassesFile x (Err fault) computed = MatchBool (lacks_memory fault) ⊤ (computed ≡ Err fault)
+
 -- how far Roots could be followed, likewise
 abbrev pub lacked_memory : Option Fault → Bool
 lacked_memory None = false

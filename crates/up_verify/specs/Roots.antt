@@ -29,16 +29,21 @@ or_unread (Err refusal) = Err (Unread refusal)
 
 -- ---- one Root
 
--- the Root that the bytes are, if it may follow this one
+-- the Root that was read, if it may follow this one
+unfoldable pub if_next : Verifier → Repository → RootFile → RootFile → Envelope → Result RootFile Fault
+if_next v repository before root envelope = do
+  other_repository ← unless (same_repository root.repository repository) OtherRepository
+  not_next ← unless (root.version == before.version + 1) NotNext
+  unknown_key ← unless (are_known v root) UnknownKey
+  not_signed_before ← unless (is_signed_for v before.root envelope) NotSignedBefore
+  not_signed ← unless (is_signed_for v root.root envelope) NotSigned
+  Ok root
+
+-- the Root that the bytes are, likewise
 unfoldable pub next_root : Verifier → Repository → RootFile → List ℕ → Result RootFile Fault
 next_root v repository before bytes = do
   read ← or_unread (root_in bytes)
-  other_repository ← unless (same_repository read.0.repository repository) OtherRepository
-  not_next ← unless (read.0.version == before.version + 1) NotNext
-  unknown_key ← unless (are_known v read.0) UnknownKey
-  not_signed_before ← unless (is_signed_for v before.root read.1) NotSignedBefore
-  not_signed ← unless (is_signed_for v read.0.root read.1) NotSigned
-  Ok read.0
+  if_next v repository before read.0 read.1
 
 -- ---- what is forgotten
 

@@ -4,7 +4,7 @@ use up_canon::moment::Moment;
 use up_roles::repository::Repository;
 
 /// Whose files are checked, and when: the repository, the vehicle that its files name, and the moment in seconds.
-#[derive(Debug, Drop)]
+#[derive(Drop)]
 pub struct Asked {
     pub repository: Repository,
     pub vehicle: Option<Ident>,
@@ -12,7 +12,7 @@ pub struct Asked {
 }
 
 /// What a file says of itself.
-#[derive(Debug, Drop)]
+#[derive(Drop)]
 pub struct Says {
     pub repository: Repository,
     pub vehicle: Option<Ident>,

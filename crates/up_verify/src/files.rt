@@ -42,13 +42,20 @@ pub(crate) fn check_files<K: Shows>(
 ) -> Result<Checked, Refused>
     ensures { Verifies result (check_files_of (verifier (K.rules scheme.now) (K.reading scheme.now) held.now) asked.now trust.now texts.now) }
 {
-    let timestamp = timestamp_of(alloc, scheme, held, asked, trust, texts)?;
-    let snapshot = snapshot_of(alloc, scheme, held, asked, trust, &timestamp, texts)?;
-    let targets = targets_of(alloc, scheme, held, asked, trust, &snapshot, texts)?;
+    let file = timestamp_of(alloc, scheme, held, asked, trust, texts)?;
+    let timestamp = file.version;
+    let named = snapshot_of(alloc, scheme, held, asked, trust, &file, texts);
+    // Dropped by name: at the end of a scope it would be proved part by part.
+    drop(file);
+    let file = named?;
+    let snapshot = file.version;
+    let named = targets_of(alloc, scheme, held, asked, trust, &file, texts);
+    drop(file);
+    let targets = named?;
     Ok(Checked {
         versions: Versions {
-            timestamp: timestamp.version,
-            snapshot: snapshot.version,
+            timestamp,
+            snapshot,
             targets: targets.version,
         },
         targets,

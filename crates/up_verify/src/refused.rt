@@ -6,7 +6,7 @@ use up_canon::refusal::Refusal;
 use up_roles::repository::Repository;
 
 /// The roles of a repository.
-#[derive(Clone, Copy, Debug)]
+#[derive(Clone, Copy)]
 pub enum Role {
     Root,
     Timestamp,
@@ -15,7 +15,7 @@ pub enum Role {
 }
 
 /// What is wrong with a file.
-#[derive(Debug, Drop)]
+#[derive(Drop)]
 pub enum Fault {
     /// It is no file of its role; this is its first fault.
     Unread(Refusal),
@@ -63,7 +63,7 @@ impl From<AllocError> for Fault {
 }
 
 /// Why what was served isn't accepted.
-#[derive(Debug, Drop)]
+#[derive(Drop)]
 pub enum Refused {
     /// There is no memory.
     Memory,

@@ -2,8 +2,8 @@
 ghost use Rattle.std.specs.Prelude.{◌≡◌, ◌==◌, ◌+◌};
 ghost use Rattle.std.specs.List.{list_all, list_any};
 ghost use Rattle.up_roles.specs.Root.{root_in};
-ghost use Rattle.up_verify.specs.Results.{ChecksFile, Follows};
-ghost use Rattle.up_verify.specs.Roots.{same_repository as same_repository_as, or_unread, next_root as next_root_of, has_id as has_id_in, same_keys as same_keys_as, kept_if as kept_if_of, same_listing_keys as same_listing_keys_as, with_root as with_root_of, follow as follow_roots};
+ghost use Rattle.up_verify.specs.Results.{ChecksFile, PassesFile, Follows};
+ghost use Rattle.up_verify.specs.Roots.{same_repository as same_repository_as, or_unread, if_next as if_next_of, next_root as next_root_of, has_id as has_id_in, same_keys as same_keys_as, kept_if as kept_if_of, same_listing_keys as same_listing_keys_as, with_root as with_root_of, follow as follow_roots};
 ghost use Rattle.up_verify.specs.Verifiers.{verifier};
 
 use crate::known_key::KnownKey;
@@ -18,7 +18,7 @@ use up_shown::shows::Shows;
 use up_sign::envelope::Envelope;
 
 /// How far Roots could be followed: what is trusted then, and the fault of the first that couldn't.
-#[derive(Debug, Drop)]
+#[derive(Drop)]
 pub struct Followed {
     pub trust: Trust,
     pub fault: Option<Fault>,
@@ -38,22 +38,48 @@ pub fn next_root<K: Shows>(
     ensures { ChecksFile result (next_root_of (verifier (K.rules scheme.now) (K.reading scheme.now) held.now) repository before.now bytes.now) }
 {
     let (root, envelope) = root_at(alloc, bytes)?;
+    match test_root(alloc, scheme, held, repository, before, &root, &envelope) {
+        Ok(()) => {
+            drop(envelope);
+            Ok(root)
+        }
+        Err(fault) => {
+            // Dropped by name: at the end of a scope they would be proved part by part.
+            drop(root);
+            drop(envelope);
+            Err(fault)
+        }
+    }
+}
+
+#[tactic(auto, unfolding(crate::specs::Roots::if_next, up_canon::specs::Steps::and_then))]
+fn test_root<K: Shows>(
+    alloc: Global,
+    scheme: &K,
+    held: &[KnownKey],
+    repository: Repository,
+    before: &RootFile,
+    root: &RootFile,
+    envelope: &Envelope,
+) -> Result<(), Fault>
+    ensures { PassesFile root.now result (if_next_of (verifier (K.rules scheme.now) (K.reading scheme.now) held.now) repository before.now root.now envelope.now) }
+{
     if !same_repository(root.repository, repository) {
         return Err(Fault::OtherRepository);
     }
     if !is_next(before.version, root.version) {
         return Err(Fault::NotNext);
     }
-    if !are_known(alloc, scheme, held, &root)? {
+    if !are_known(alloc, scheme, held, root)? {
         return Err(Fault::UnknownKey);
     }
-    if !is_signed_for(alloc, scheme, held, &before.root, &envelope)? {
+    if !is_signed_for(alloc, scheme, held, &before.root, envelope)? {
         return Err(Fault::NotSignedBefore);
     }
-    if !is_signed_for(alloc, scheme, held, &root.root, &envelope)? {
+    if !is_signed_for(alloc, scheme, held, &root.root, envelope)? {
         return Err(Fault::NotSigned);
     }
-    Ok(root)
+    Ok(())
 }
 
 /// The Root that the bytes are, and its envelope.

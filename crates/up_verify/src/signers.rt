@@ -67,7 +67,9 @@ fn is_known<K: Shows>(
     match scheme.read_shown(alloc, key.shown.as_str())? {
         Some(public) => {
             let read = KnownKey::new(alloc, public)?;
-            if is_shown(alloc, scheme, &read, key)? {
+            let shown = is_shown(alloc, scheme, &read, key);
+            drop(read);
+            if shown? {
                 return Ok(true);
             }
             any_shown(alloc, scheme, held, key)
@@ -170,7 +172,10 @@ fn has_signed<K: Shows>(
     match scheme.read_shown(alloc, key.shown.as_str())? {
         Some(public) => {
             let read = KnownKey::new(alloc, public)?;
-            Ok(signs(scheme, &read, key, envelope) || any_signs(scheme, held, key, envelope))
+            let signed = signs(scheme, &read, key, envelope);
+            // Dropped by name: at the end of a scope it would be proved part by part.
+            drop(read);
+            Ok(signed || any_signs(scheme, held, key, envelope))
         }
         None => Ok(any_signs(scheme, held, key, envelope)),
     }

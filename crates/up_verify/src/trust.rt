@@ -6,7 +6,7 @@ use up_canon::listed::{Duplicate, Listed};
 use up_roles::root::RootFile;
 
 /// The versions of a repository's files that were verified last, each 0 before the first and where it was forgotten.
-#[derive(Clone, Copy, Debug)]
+#[derive(Clone, Copy)]
 pub struct Versions {
     pub timestamp: u64,
     pub snapshot: u64,
@@ -14,7 +14,7 @@ pub struct Versions {
 }
 
 /// What is trusted of a repository: the last Root that was verified, and the versions of its other files.
-#[derive(Debug, Drop)]
+#[derive(Drop)]
 pub struct Trust {
     pub root: RootFile,
     pub versions: Versions,
@@ -30,7 +30,7 @@ impl Duplicate for Trust {
 }
 
 /// An ECU of the vehicle: its identifier, its hardware, and the release counter of its image, 0 where it has none.
-#[derive(Debug, Drop)]
+#[derive(Drop)]
 pub struct OwnEcu {
     pub ecu: Ident,
     pub hardware: Ident,
@@ -49,23 +49,11 @@ impl Duplicate for OwnEcu {
 
 /// What a Primary knows of its vehicle (its ECUs, and the identifiers of those that were replaced), and what it trusts of both
 /// repositories.
-#[derive(Debug, Drop)]
+#[derive(Drop)]
 pub struct Primary {
     pub vehicle: Ident,
     pub ecus: Listed<OwnEcu>,
     pub replaced: Listed<Ident>,
     pub director: Trust,
     pub image: Trust,
-}
-
-impl Duplicate for Primary {
-    fn copy(&self, alloc: Global) -> Result<Primary, AllocError> {
-        Ok(Primary {
-            vehicle: self.vehicle.copy(alloc)?,
-            ecus: self.ecus.copy(alloc)?,
-            replaced: self.replaced.copy(alloc)?,
-            director: self.director.copy(alloc)?,
-            image: self.image.copy(alloc)?,
-        })
-    }
 }

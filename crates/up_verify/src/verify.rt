@@ -267,9 +267,28 @@ fn check_some<K: Shows>(
         &primary.image,
         roots,
     )?;
-    let checked = image_files(alloc, scheme, held, now, &image, &served.image)?;
-    check_each(alloc, primary, checked.targets.targets.as_slice(), targets)?;
-    Ok(trusting(image, checked.versions))
+    match image_files(alloc, scheme, held, now, &image, &served.image) {
+        Ok(
+            Checked {
+                versions,
+                targets: listed,
+            },
+        ) => {
+            let tested = check_each(alloc, primary, listed.targets.as_slice(), targets);
+            drop(listed);
+            match tested {
+                Ok(()) => Ok(trusting(image, versions)),
+                Err(refused) => {
+                    drop(image);
+                    Err(refused)
+                }
+            }
+        }
+        Err(refused) => {
+            drop(image);
+            Err(refused)
+        }
+    }
 }
 
 /// The Image repository's files, which name no vehicle.
@@ -300,58 +319,72 @@ fn accepted(
 ) -> Result<Accepted, AllocError>
     ensures { IfOk result (λ accepted. accepted ≡ record { next = record primary.now { director = director; image = image }; targets = targets; installs = targets.targets }) }
 {
-    match make_copies(alloc, primary, &targets.targets) {
-        Ok(
-            Copied {
-                vehicle,
-                ecus,
-                replaced,
-                installs,
-            },
-        ) => {
-            let next = Primary {
-                vehicle,
-                ecus,
-                replaced,
-                director,
-                image,
-            };
-            Ok(Accepted {
+    match trusted_next(alloc, primary, director, image) {
+        Ok(next) => match targets.targets.copy(alloc) {
+            Ok(installs) => Ok(Accepted {
                 next,
                 targets,
                 installs,
-            })
-        }
+            }),
+            Err(fault) => {
+                drop(next);
+                drop(targets);
+                Err(fault)
+            }
+        },
         Err(fault) => {
-            drop(director);
-            drop(image);
             drop(targets);
             Err(fault)
         }
     }
 }
 
-/// What the Primary knows of its vehicle, and what is installed, in memory of their own.
-#[derive(Debug, Drop)]
-struct Copied {
+/// What a Primary knows of its vehicle, in memory of its own, with what it trusts from now on.
+fn trusted_next(
+    alloc: Global,
+    primary: &Primary,
+    director: Trust,
+    image: Trust,
+) -> Result<Primary, AllocError>
+    ensures { IfOk result (λ next. next ≡ record primary.now { director = director; image = image }) }
+{
+    match own_copy(alloc, primary) {
+        Ok(
+            Own {
+                vehicle,
+                ecus,
+                replaced,
+            },
+        ) => Ok(Primary {
+            vehicle,
+            ecus,
+            replaced,
+            director,
+            image,
+        }),
+        Err(fault) => {
+            drop(director);
+            drop(image);
+            Err(fault)
+        }
+    }
+}
+
+/// What a Primary knows of its vehicle.
+#[derive(Drop)]
+struct Own {
     vehicle: Ident,
     ecus: Listed<OwnEcu>,
     replaced: Listed<Ident>,
-    installs: Listed<Target>,
 }
 
-fn make_copies(
-    alloc: Global,
-    primary: &Primary,
-    targets: &Listed<Target>,
-) -> Result<Copied, AllocError>
-    ensures { IfOk result (λ it. it ≡ record { vehicle = primary.now.vehicle; ecus = primary.now.ecus; replaced = primary.now.replaced; installs = targets.now }) }
+fn own_copy(alloc: Global, primary: &Primary) -> Result<Own, AllocError>
+    ensures { IfOk result (λ own. own ≡ record { vehicle = primary.now.vehicle; ecus = primary.now.ecus; replaced = primary.now.replaced }) }
 {
-    Ok(Copied {
+    Ok(Own {
         vehicle: primary.vehicle.copy(alloc)?,
         ecus: primary.ecus.copy(alloc)?,
         replaced: primary.replaced.copy(alloc)?,
-        installs: targets.copy(alloc)?,
     })
 }
 
@@ -391,71 +424,26 @@ pub fn with_roots<K: Shows>(
     alloc: Global,
     scheme: &K,
     held: &[KnownKey],
-    primary: Primary,
+    primary: &Primary,
     served: &Served,
 ) -> Result<Primary, AllocError>
-    ensures { IfOk result (λ next. next ≡ with_roots_of (verifier (K.rules scheme.now) (K.reading scheme.now) held.now) primary served.now) }
-{
-    let Primary {
-        vehicle,
-        ecus,
-        replaced,
-        director,
-        image,
-    } = primary;
-    match both_behind(alloc, scheme, held, director, image, served) {
-        Ok(Behind { director, image }) => Ok(Primary {
-            vehicle,
-            ecus,
-            replaced,
-            director,
-            image,
-        }),
-        Err(fault) => {
-            drop(vehicle);
-            drop(ecus);
-            drop(replaced);
-            Err(fault)
-        }
-    }
-}
-
-/// What is trusted of both repositories.
-#[derive(Debug, Drop)]
-struct Behind {
-    director: Trust,
-    image: Trust,
-}
-
-fn both_behind<K: Shows>(
-    alloc: Global,
-    scheme: &K,
-    held: &[KnownKey],
-    director: Trust,
-    image: Trust,
-    served: &Served,
-) -> Result<Behind, AllocError>
-    ensures { IfOk result (λ behind. behind ≡ record {
-      director = (follow_roots (verifier (K.rules scheme.now) (K.reading scheme.now) held.now) Director director served.now.director_roots).trust;
-      image = (follow_roots (verifier (K.rules scheme.now) (K.reading scheme.now) held.now) Image image served.now.image_roots).trust;
-    }) }
+    ensures { IfOk result (λ next. next ≡ with_roots_of (verifier (K.rules scheme.now) (K.reading scheme.now) held.now) primary.now served.now) }
 {
     let roots = served.director_roots.as_slice();
-    match trusted_behind(alloc, scheme, held, Repository::Director, director, roots) {
+    let before = &primary.director;
+    match trusted_behind(alloc, scheme, held, Repository::Director, before, roots) {
         Ok(director) => {
             let roots = served.image_roots.as_slice();
-            match trusted_behind(alloc, scheme, held, Repository::Image, image, roots) {
-                Ok(image) => Ok(Behind { director, image }),
+            let before = &primary.image;
+            match trusted_behind(alloc, scheme, held, Repository::Image, before, roots) {
+                Ok(image) => trusted_next(alloc, primary, director, image),
                 Err(fault) => {
                     drop(director);
                     Err(fault)
                 }
             }
         }
-        Err(fault) => {
-            drop(image);
-            Err(fault)
-        }
+        Err(fault) => Err(fault),
     }
 }
 
@@ -465,13 +453,16 @@ fn trusted_behind<K: Shows>(
     scheme: &K,
     held: &[KnownKey],
     repository: Repository,
-    trust: Trust,
+    trust: &Trust,
     roots: &[Bytes],
 ) -> Result<Trust, AllocError>
-    ensures { IfOk result (λ t. t ≡ (follow_roots (verifier (K.rules scheme.now) (K.reading scheme.now) held.now) repository trust roots.now).trust) }
+    ensures { IfOk result (λ t. t ≡ (follow_roots (verifier (K.rules scheme.now) (K.reading scheme.now) held.now) repository trust.now roots.now).trust) }
 {
-    let Followed { trust, fault } = follow(alloc, scheme, held, repository, trust, roots);
-    if lacked_memory(&fault) {
+    let copied = trust.copy(alloc)?;
+    let Followed { trust, fault } = follow(alloc, scheme, held, repository, copied, roots);
+    let lacked = lacked_memory(&fault);
+    drop(fault);
+    if lacked {
         drop(trust);
         return Err(AllocError);
     }
