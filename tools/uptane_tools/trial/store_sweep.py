@@ -8,7 +8,7 @@ refused, from number FIRST (1) on. A word in place of FIRST draws one of the num
 so that another part is tried each time.
 
 The sections whose words begin with `each disk call refused` are carried out: each of the nine
-writes, and each of the twelve reads after each; and databases of schema 1 and 2, which are
+writes, and each of the twelve reads after each; and databases of schema 1 to 3, which are
 taken, read and written. What is told has to be the same whichever request was refused: a call
 that is answered `Memory` changed nothing, and goes through when it is made again. Over `memory`
 no disk can fail, and a call that is answered `Store` isn't made again: so want of memory that is
