@@ -32,7 +32,7 @@ use Rattle.up_machine.specs.Replies.{reply_metadata, reply_text}
 use Rattle.up_machine.specs.Repositories.{next_chain, stamped, with_root}
 use Rattle.up_machine.specs.SignedLaws.{IsRootText, IsImageText, IsServedText, ServedFilesAreKnown}
 use Rattle.up_machine.specs.Sound.{IsSound}
-use Rattle.up_machine.specs.State.{Chain, State, empty_state, nth, chain_of, root_number, key_set, keys_before, version}
+use Rattle.up_machine.specs.State.{Chain, State, empty_state, nth, chain_of, key_set, keys_before, version}
 use Rattle.up_machine.proofs.Decided.{IsDelivered, IsRotated as WasRotated, rotate_ok, delivery_ok}
 use Rattle.up_machine.proofs.Growing.{grow, grow_on, onward}
 use Rattle.up_machine.proofs.MadeRoots.{made_root, last_there}
@@ -111,31 +111,25 @@ before_out : (roots : List Root) (repository : Repository) (n i : ℕ) (secret :
 before_out roots repository n i secret left high None there = refl
 before_out roots repository n i secret left high (Some root) there = (out_at roots repository n i secret root left high there).root
 
--- of both repositories as many
-same_size : (k : Rules) (s : State) (roots : List Root) (repository : Repository) → IsMade k s roots → length (chain_of repository s).texts ≡ root_number s
-same_size k s roots repository made = chain_size k s roots repository made ∙ sym (chain_size k s roots Director made)
-
 abbrev Else : Rules → State → Repository → List ℕ → List ℕ → List ℕ → Type 0
 Else k s repository next secret bytes = IsPublished s repository bytes ⊎ ((bytes ≡ next) ⊎ IsSealedWithout k secret bytes)
 
 -- a later state, whose root versions are these, behind one that was there
 record Behind (k : Rules) (s t : State) (roots : List Root) : Type 0 where
-  earlier : List Root
-  made_before : IsMade k s earlier
   sound : IsSound k s
   sound_later : IsSound k t
   later : IsLater s t
   made : IsMade k t roots
 
 -- a later Root is signed without the secret
-root_without : (k : Rules) (s t : State) (roots : List Root) (repository : Repository) (secret bytes : List ℕ) → Behind k s t roots → IsLeftOut roots repository (root_number s) secret
-    → (i : ℕ) → nth (chain_of repository t).texts i ≡ Some bytes → root_number s + 1 < i → IsSealedWithout k secret bytes
+root_without : (k : Rules) (s t : State) (roots : List Root) (repository : Repository) (secret bytes : List ℕ) → Behind k s t roots → IsLeftOut roots repository (length (chain_of repository s).texts) secret
+    → (i : ℕ) → nth (chain_of repository t).texts i ≡ Some bytes → length (chain_of repository s).texts + 1 < i → IsSealedWithout k secret bytes
 root_without k s t roots repository secret bytes behind left i there low =
     let high = number_within (chain_of repository t).texts i bytes there in
     let size = chain_size k t roots repository behind.made in
     let at = nth_there roots i (omega (arith, low)) (omega (arith, high, size)) in
-    let own = out_at roots repository (root_number s) i secret at.0 left (omega (arith, low)) at.1 in
-    let old = before_out roots repository (root_number s) (i - 1) secret left (omega (arith, low)) (nth roots (i - 1)) refl in
+    let own = out_at roots repository (length (chain_of repository s).texts) i secret at.0 left (omega (arith, low)) at.1 in
+    let old = before_out roots repository (length (chain_of repository s).texts) (i - 1) secret left (omega (arith, low)) (nth roots (i - 1)) refl in
     let signers = root_signers repository at.0 (keys_at roots (i - 1)) in
     let same : root_text k repository i at.0 (keys_at roots (i - 1)) ≡ bytes = one_value _ _ _ (made_root k t roots repository i at.0 behind.made at.1) there in
     record {
@@ -145,35 +139,34 @@ root_without k s t roots repository secret bytes behind left i there low =
     }
 
 root_else : (k : Rules) (s t : State) (roots : List Root) (repository : Repository) (next secret bytes : List ℕ) → RootsAreFetched → Behind k s t roots
-    → nth (chain_of repository t).texts (root_number s + 1) ≡ Some next → IsLeftOut roots repository (root_number s) secret → IsRootText t repository bytes → Else k s repository next secret bytes
+    → nth (chain_of repository t).texts (length (chain_of repository s).texts + 1) ≡ Some next → IsLeftOut roots repository (length (chain_of repository s).texts) secret → IsRootText t repository bytes → Else k s repository next secret bytes
 root_else k s t roots repository next secret bytes fetched behind published left of =
-    by_number (nat_le of.0 (root_number s)) refl (nat_le of.0 (root_number s + 1)) refl
+    by_number (nat_le of.0 (length (chain_of repository s).texts)) refl (nat_le of.0 (length (chain_of repository s).texts + 1)) refl
   where
-    by_number : (a : Bool) → nat_le of.0 (root_number s) ≡ a → (b : Bool) → nat_le of.0 (root_number s + 1) ≡ b → Else k s repository next secret bytes
+    by_number : (a : Bool) → nat_le of.0 (length (chain_of repository s).texts) ≡ a → (b : Bool) → nat_le of.0 (length (chain_of repository s).texts + 1) ≡ b → Else k s repository next secret bytes
     by_number true h b g =
-        let high : of.0 ≤ root_number s = leb-true _ _ h in
-        let size = same_size k s behind.earlier repository behind.made_before in
+        let high : of.0 ≤ length (chain_of repository s).texts = leb-true _ _ h in
         let grown = chain_later s t repository behind.later in
         let there : nth (chain_of repository s).texts of.0 ≡ Some bytes =
-        sym (ap (λ (texts : List (List ℕ)). nth texts of.0) grown.1 ∙ nth-append (chain_of repository s).texts grown.0 of.0 (omega (arith, high, size))) ∙ of.1 in
+        sym (ap (λ (texts : List (List ℕ)). nth texts of.0) grown.1 ∙ nth-append (chain_of repository s).texts grown.0 of.0 high) ∙ of.1 in
         inl (numbered_root_name of.0, fetched k s repository of.0 bytes behind.sound there)
     by_number false h true g =
-        let low : root_number s < of.0 = grind (arith, nat_tests) in
-        let high : of.0 ≤ root_number s + 1 = leb-true _ _ g in
-        let same : of.0 ≡ root_number s + 1 = omega (arith, low, high) in
+        let low : length (chain_of repository s).texts < of.0 = grind (arith, nat_tests) in
+        let high : of.0 ≤ length (chain_of repository s).texts + 1 = leb-true _ _ g in
+        let same : of.0 ≡ length (chain_of repository s).texts + 1 = omega (arith, low, high) in
         inr (inl (one_value _ _ _ of.1 (ap (λ (n : ℕ). nth (chain_of repository t).texts n) same ∙ published)))
     by_number false h false g =
-        let low : root_number s + 1 < of.0 = grind (arith, nat_tests) in
+        let low : length (chain_of repository s).texts + 1 < of.0 = grind (arith, nat_tests) in
         inr (inr (root_without k s t roots repository secret bytes behind left of.0 of.1 low))
 
-image_else : (k : Rules) (s t : State) (roots : List Root) (next secret bytes : List ℕ) → Behind k s t roots → root_number s < root_number t → IsLeftOut roots Image (root_number s) secret → IsImageText t bytes
+image_else : (k : Rules) (s t : State) (roots : List Root) (next secret bytes : List ℕ) → Behind k s t roots → length s.image.texts < length t.image.texts → IsLeftOut roots Image (length s.image.texts) secret → IsImageText t bytes
     → Else k s Image next secret bytes
 image_else k s t roots next secret bytes behind more left of =
     let m = image_metadata t in
     let last = last_there k t roots behind.made (ap is_some of.1) in
-    let size = chain_size k t roots Director behind.made in
+    let size = chain_size k t roots Image behind.made in
     let out : IsOut secret t.image.keys =
-    subst (λ (keys : KeySet). IsOut secret (keys_of Image keys)) last.2 (out_at roots Image (root_number s) (length roots) secret last.0 left (omega (arith, more, size)) last.1) in
+    subst (λ (keys : KeySet). IsOut secret (keys_of Image keys)) last.2 (out_at roots Image (length s.image.texts) (length roots) secret last.0 left (omega (arith, more, size)) last.1) in
     let made = behind.made.files of.0 of.1 in
     elim of.2 [
       | inl is ↦ inr (inr (record {
@@ -195,8 +188,8 @@ image_else k s t roots next secret bytes behind more left of =
       ]
     ]
 
-each_else : (k : Rules) (s t : State) (roots : List Root) (repository : Repository) (next secret bytes : List ℕ) → RootsAreFetched → Behind k s t roots → root_number s < root_number t
-    → nth (chain_of repository t).texts (root_number s + 1) ≡ Some next → IsLeftOut roots repository (root_number s) secret → IsServedText t repository bytes → Else k s repository next secret bytes
+each_else : (k : Rules) (s t : State) (roots : List Root) (repository : Repository) (next secret bytes : List ℕ) → RootsAreFetched → Behind k s t roots → length (chain_of repository s).texts < length (chain_of repository t).texts
+    → nth (chain_of repository t).texts (length (chain_of repository s).texts + 1) ≡ Some next → IsLeftOut roots repository (length (chain_of repository s).texts) secret → IsServedText t repository bytes → Else k s repository next secret bytes
 each_else k s t roots Director next secret bytes fetched behind more published left of = root_else k s t roots Director next secret bytes fetched behind published left of
 each_else k s t roots Image next secret bytes fetched behind more published left (inl of) = root_else k s t roots Image next secret bytes fetched behind published left of
 each_else k s t roots Image next secret bytes fetched behind more published left (inr of) = image_else k s t roots next secret bytes behind more left of
@@ -212,19 +205,18 @@ held s None h = cc
 held s (Some files) h = refl
 
 -- the text that a rotation adds
-next_text : (k : Rules) (s t : State) (earlier : List Root) (at : ℕ) (keys : KeySet) (repository : Repository) → IsMade k s earlier → IsLater (stamped k (with_root k s at keys) at (s.image_version + 1)) t
-    → nth (chain_of repository t).texts (root_number s + 1) ≡ Some (root_text k repository (length (chain_of repository s).texts + 1) (record { keys = keys; at = at }) (keys_before s))
-next_text k s t earlier at keys repository made later =
+next_text : (k : Rules) (s t : State) (at : ℕ) (keys : KeySet) (repository : Repository) → IsLater (stamped k (with_root k s at keys) at (s.image_version + 1)) t
+    → nth (chain_of repository t).texts (length (chain_of repository s).texts + 1) ≡ Some (root_text k repository (length (chain_of repository s).texts + 1) (record { keys = keys; at = at }) (keys_before s))
+next_text k s t at keys repository later =
     let after = stamped k (with_root k s at keys) at (s.image_version + 1) in
     let texts = (chain_of repository s).texts in
     let next = root_text k repository (length texts + 1) (record { keys = keys; at = at }) (keys_before s) in
-    let size = same_size k s earlier repository made in
     let both = length-append texts (next ∷ []) in
-    let number : root_number s + 1 ≡ length (texts ++ next ∷ []) = omega (arith, size, both) in
-    let last : nth (texts ++ next ∷ []) (root_number s + 1) ≡ Some next = ap (nth (texts ++ next ∷ [])) number ∙ nth_last texts next in
-    let there : nth (chain_of repository after).texts (root_number s + 1) ≡ Some next =
-    ap (λ (c : Chain). nth c.texts (root_number s + 1)) (chain_after k s at (s.image_version + 1) keys repository) ∙ last in
-    text_stays after t repository (root_number s + 1) next later there
+    let number : length (chain_of repository s).texts + 1 ≡ length (texts ++ next ∷ []) = sym both in
+    let last : nth (texts ++ next ∷ []) (length (chain_of repository s).texts + 1) ≡ Some next = ap (nth (texts ++ next ∷ [])) number ∙ nth_last texts next in
+    let there : nth (chain_of repository after).texts (length (chain_of repository s).texts + 1) ≡ Some next =
+    ap (λ (c : Chain). nth c.texts (length (chain_of repository s).texts + 1)) (chain_after k s at (s.image_version + 1) keys repository) ∙ last in
+    text_stays after t repository (length (chain_of repository s).texts + 1) next later there
 
 rotated : (k : Rules) (s t : State) (roots : List Root) (at : ℕ) (keys : KeySet) (o : Outcome) (repository : Repository) → ServedFilesAreKnown → RootsAreFetched → Behind k s t roots → WasRotated k s at keys o
     → IsLater o.next t → IsRotated k s t roots repository keys
@@ -232,16 +224,15 @@ rotated k s t roots at keys o repository known fetched behind is later =
     let follows = subst (λ (x : State). IsLater x t) (ap (λ (o : Outcome). o.next) (sym is.is)) later in
     let new : Root = record { keys = keys; at = at } in
     let number = length (chain_of repository s).texts + 1 in
-    let there = next_text k s t behind.earlier at keys repository behind.made_before follows in
-    let high = number_within (chain_of repository t).texts (root_number s + 1) (root_text k repository number new (keys_before s)) there in
-    let size = same_size k t roots repository behind.made in
+    let there = next_text k s t at keys repository follows in
+    let high = number_within (chain_of repository t).texts (length (chain_of repository s).texts + 1) (root_text k repository number new (keys_before s)) there in
     record {
       next = root_text k repository number new (keys_before s);
-      published = fetched k t repository (root_number s + 1) (root_text k repository number new (keys_before s)) behind.sound_later there;
+      published = fetched k t repository (length (chain_of repository s).texts + 1) (root_text k repository number new (keys_before s)) behind.sound_later there;
       sealed = subst (λ (before : Option KeySet). IsSealedBy k (root_signers repository new before) (root_text k repository number new (keys_before s))) (held s s.files is.founded)
           (root_sealed k repository number new (keys_before s));
       nothing_else = λ secret bytes left published.
-          each_else k s t roots repository (root_text k repository number new (keys_before s)) secret bytes fetched behind (omega (arith, high, size)) there left (known t repository published.0 bytes published.1);
+          each_else k s t roots repository (root_text k repository number new (keys_before s)) secret bytes fetched behind (omega (arith, high)) there left (known t repository published.0 bytes published.1);
     }
 
 pub left_out : EmptyIsSound → EmptyIsMade → RunsStaySound → RunsMake → ServedFilesAreKnown → RootsAreFetched → RotationsLeaveOut
@@ -251,17 +242,17 @@ left_out empty none_made stay make known fetched k ts us at keys repository give
     let item : Timed = record { at = at; command = Rotate keys } in
     let all : AreCommands (ts ++ item ∷ us) = each_of_both (λ (t : Timed). IsTrue (is_command t.command)) ts (item ∷ us) given (refl, more) in
     let made = subst (λ (t : State). IsMade k t (roots_of k empty_state (ts ++ item ∷ us))) (run-append k empty_state ts (item ∷ us)) (make k empty_state (ts ++ item ∷ us) [] all (empty k) (none_made k)) in
-    by_decision s (roots_of k empty_state ts) (roots_of k empty_state (ts ++ item ∷ us)) (make k empty_state ts [] given (empty k) (none_made k)) (stay k empty_state ts given (empty k)) (decide k s at (Rotate keys)) refl made done
+    by_decision s (roots_of k empty_state (ts ++ item ∷ us)) (stay k empty_state ts given (empty k)) (decide k s at (Rotate keys)) refl made done
   where
-    by_decision : (s : State) (earlier roots : List Root) → IsMade k s earlier → IsSound k s → (d : Result Outcome Refusal) → decide k s at (Rotate keys) ≡ d → IsMade k (run k (outcome_of s d).next us) roots → (outcome_of s d).answer ≡ Done
+    by_decision : (s : State) (roots : List Root) → IsSound k s → (d : Result Outcome Refusal) → decide k s at (Rotate keys) ≡ d → IsMade k (run k (outcome_of s d).next us) roots → (outcome_of s d).answer ≡ Done
         → IsRotated k s (run k (outcome_of s d).next us) roots repository keys
-    by_decision s earlier roots before sound (Err e) h made done = cc
-    by_decision s earlier roots before sound (Ok o) h made done =
+    by_decision s roots sound (Err e) h made done = cc
+    by_decision s roots sound (Ok o) h made done =
         let next_sound : IsSound k o.next = subst (λ (d : Result Outcome Refusal). IsSound k (outcome_of s d).next) h (stay k s (record { at = at; command = Rotate keys } ∷ []) (refl, tt) sound) in
         let first : IsLater s o.next = subst (λ (d : Result Outcome Refusal). IsLater s (outcome_of s d).next) h (grow k s at (Rotate keys)) in
         let further : IsLater o.next (run k o.next us) = grow_on k o.next us in
         rotated k s (run k o.next us) roots at keys o repository known fetched
-        (record { earlier = earlier; made_before = before; sound = sound; sound_later = stay k o.next us more next_sound; later = onward s o.next (run k o.next us) first further; made = made }) (rotate_ok k s at keys o h) further
+        (record { sound = sound; sound_later = stay k o.next us more next_sound; later = onward s o.next (run k o.next us) first further; made = made }) (rotate_ok k s at keys o h) further
 
 -- ---- a new reply
 

@@ -37,7 +37,7 @@ use Rattle.up_machine.specs.Made.{keys_at, IsReplyMade, IsMade, roots_of}
 use Rattle.up_machine.specs.Replies.{reply_metadata, reply_to}
 use Rattle.up_machine.specs.SignedLaws.{IsRootText, IsImageText, IsServedText, ServedFilesAreKnown}
 use Rattle.up_machine.specs.Sound.{IsSound}
-use Rattle.up_machine.specs.State.{Entry, Vehicle, State, empty_state, nth, is_founded, chain_of, root_number}
+use Rattle.up_machine.specs.State.{Entry, Vehicle, State, empty_state, nth, is_founded, chain_of, root_number, image_root_number}
 use Rattle.up_machine.proofs.MadeRoots.{made_root, last_there}
 use Rattle.up_machine.proofs.NewFiles.{version_in_limits}
 use Rattle.up_machine.proofs.Places.{nth_there}
@@ -183,16 +183,12 @@ stands formats k s roots law at agree = record {
   agree = agree;
 }
 
--- there are as many Root files as root versions
-as_numbered : (k : Rules) (s : State) (roots : List Root) → IsMade k s roots → root_number s ≡ length roots
-as_numbered k s roots made = chain_size k s roots Director made
-
 pub roots_verify : Formats → Reaching → RootsVerify
 roots_verify formats keeping k ts repository i law given agree low high =
     let s = run k empty_state ts in
     let roots = roots_of k empty_state ts in
     let is = stands formats k s roots law (reach keeping k ts given) agree in
-    let size = as_numbered k s roots is.made in
+    let size = chain_size k s roots repository is.made in
     let at = nth_there roots i low (omega (arith, high, size)) in (
       record {
         root = root_file k repository i at.0;
@@ -266,32 +262,29 @@ set_verifies k s roots stands m i root there same again =
 
 numbered_is : (k : Rules) (s : State) (roots : List Root) → Stands k s roots → (repository : Repository) (bytes : List ℕ) → IsRootText s repository bytes → IsNumbered s repository bytes
 numbered_is k s roots stands repository bytes is =
-    let high = number_within (chain_of repository s).texts is.0 bytes is.1 in
-    let size = chain_size k s roots repository stands.made in
-    let size_of = as_numbered k s roots stands.made in
     record {
       number = is.0;
       from = from_one (chain_of repository s).texts is.0 bytes is.1;
-      to = omega (arith, high, size, size_of);
+      to = number_within (chain_of repository s).texts is.0 bytes is.1;
       is = stands.fetched k s repository is.0 bytes stands.sound is.1;
     }
 
 abbrev Comes : Rules → State → Repository → List ℕ → Type 0
 Comes k s repository bytes =
     IsNumbered s repository bytes
-    ⊎ ((repository ≡ Image) × (TargetsVerify k s Image (root_number s) bytes ⊎ (SnapshotVerifies k s Image (root_number s) bytes ⊎ TimestampVerifies k s Image (root_number s) bytes)))
+    ⊎ ((repository ≡ Image) × (TargetsVerify k s Image (image_root_number s) bytes ⊎ (SnapshotVerifies k s Image (image_root_number s) bytes ⊎ TimestampVerifies k s Image (image_root_number s) bytes)))
 
 image_verifies : (k : Rules) (s : State) (roots : List Root) → Stands k s roots → (IsTrue (is_founded s) → AreReadAgain k (image_metadata s)) → (bytes : List ℕ) → IsImageText s bytes → Comes k s Image bytes
 image_verifies k s roots stands again bytes is =
     let founded : is_founded s ≡ true = ap is_some is.1 in
     let last = last_there k s roots stands.made founded in
-    let there : nth roots (root_number s) ≡ Some last.0 = ap (nth roots) (as_numbered k s roots stands.made) ∙ last.1 in
-    let whole = set_verifies k s roots stands (image_metadata s) (root_number s) last.0 there (sym last.2) (again founded) in
-    let set : SetVerifies k s Image (root_number s) is.0 = subst (SetVerifies k s Image (root_number s)) (sym (stands.made.files is.0 is.1)) whole in
+    let there : nth roots (image_root_number s) ≡ Some last.0 = ap (nth roots) (chain_size k s roots Image stands.made) ∙ last.1 in
+    let whole = set_verifies k s roots stands (image_metadata s) (image_root_number s) last.0 there (sym last.2) (again founded) in
+    let set : SetVerifies k s Image (image_root_number s) is.0 = subst (SetVerifies k s Image (image_root_number s)) (sym (stands.made.files is.0 is.1)) whole in
     elim is.2 [
-      | inl same ↦ inr (refl, inl (subst (TargetsVerify k s Image (root_number s)) (sym same) set.targets))
-      | inr (inl same) ↦ inr (refl, inr (inl (subst (SnapshotVerifies k s Image (root_number s)) (sym same) set.snapshot)))
-      | inr (inr same) ↦ inr (refl, inr (inr (subst (TimestampVerifies k s Image (root_number s)) (sym same) set.timestamp)))
+      | inl same ↦ inr (refl, inl (subst (TargetsVerify k s Image (image_root_number s)) (sym same) set.targets))
+      | inr (inl same) ↦ inr (refl, inr (inl (subst (SnapshotVerifies k s Image (image_root_number s)) (sym same) set.snapshot)))
+      | inr (inr same) ↦ inr (refl, inr (inr (subst (TimestampVerifies k s Image (image_root_number s)) (sym same) set.timestamp)))
     ]
 
 comes : (k : Rules) (s : State) (roots : List Root) → Stands k s roots → (IsTrue (is_founded s) → AreReadAgain k (image_metadata s))
@@ -316,7 +309,7 @@ reply_verifies k s roots stands again at vehicle v number e there entry =
     let m = reply_metadata s made.root.keys vehicle number e.at e.plan in
     let set = set_verifies k s roots stands m e.root made.root made.there refl (again k s roots vehicle v number e made.root stands.known.scheme at.sound at.typed at.own at.made there entry made.there) in
     let high = number_within roots e.root made.root made.there in
-    let size = as_numbered k s roots at.made in
+    let size : root_number s ≡ length roots = chain_size k s roots Director at.made in
     record {
       root = e.root;
       from = from_one roots e.root made.root made.there;

@@ -1,5 +1,5 @@
 -- What a rotation of keys comes to.
-use Rattle.std.specs.Prelude.{◌≡◌, ℕ, ◌+◌, ◌<◌, ◌++◌, ◌⊎◌, List, ◌∷◌, false, not, Some, filter, bytes_eq}
+use Rattle.std.specs.Prelude.{◌≡◌, ℕ, ◌+◌, ◌<◌, ◌++◌, ◌⊎◌, List, ◌∷◌, false, not, Some, length, filter, bytes_eq}
 use Rattle.std.specs.List.{list_any}
 use Rattle.serde_json.specs.Data.{Data}
 use Rattle.up_canon.specs.Names.{Name}
@@ -16,7 +16,7 @@ use Rattle.up_machine.specs.Files.{file, numbered_root_name}
 use Rattle.up_machine.specs.Machine.{Timed, step, run}
 use Rattle.up_machine.specs.Made.{roots_of}
 use Rattle.up_machine.specs.Replies.{reply_json}
-use Rattle.up_machine.specs.State.{State, empty_state, nth, root_number, key_set}
+use Rattle.up_machine.specs.State.{State, empty_state, nth, chain_of, root_number, key_set}
 use Rattle.up_primary.specs.Following.{all_secrets}
 use Rattle.up_uptane.specs.Deliveries.{AreCommands}
 
@@ -43,9 +43,9 @@ IsPublished s repository bytes = (name : Name) × (file s repository name ≡ So
 -- since has signed nothing else that wasn't published before. The later state's root versions are these.
 pub record IsRotated (k : Rules) (s later : State) (roots : List Root) (repository : Repository) (keys : KeySet) : Type 0 where
   pub next : List ℕ
-  pub published : file later repository (numbered_root_name (root_number s + 1)) ≡ Some next
+  pub published : file later repository (numbered_root_name (length (chain_of repository s).texts + 1)) ≡ Some next
   pub sealed : IsSealedBy k ((keys_of repository keys).root.keys ++ filter (λ secret. not (list_any (bytes_eq secret) (keys_of repository keys).root.keys)) (keys_of repository (key_set s)).root.keys) next
-  pub nothing_else : (secret bytes : List ℕ) → IsLeftOut roots repository (root_number s) secret → IsPublished later repository bytes
+  pub nothing_else : (secret bytes : List ℕ) → IsLeftOut roots repository (length (chain_of repository s).texts) secret → IsPublished later repository bytes
       → IsPublished s repository bytes ⊎ ((bytes ≡ next) ⊎ IsSealedWithout k secret bytes)
 
 -- so behind each rotation that was done, in every state that commands reach from nothing

@@ -1,5 +1,5 @@
 -- Every published file is read again as what it is, and enough of the keys that the published Roots give its role have signed it.
-use Rattle.std.specs.Prelude.{◌≡◌, ℕ, ◌+◌, ◌<◌, ◌≤◌, ◌⊎◌, List, Some, IsTrue, Result, Ok, map}
+use Rattle.std.specs.Prelude.{◌≡◌, ℕ, ◌+◌, ◌<◌, ◌≤◌, ◌⊎◌, List, Some, IsTrue, Result, Ok, length, map}
 use Rattle.up_canon.specs.Names.{Name}
 use Rattle.up_canon.specs.declared.refusal.Refusal.{Refusal}
 use Rattle.up_sign.specs.Envelopes.{is_accepted}
@@ -21,7 +21,7 @@ use Rattle.up_machine.specs.Files.{file, numbered_root_name}
 use Rattle.up_machine.specs.Machine.{Timed, run}
 use Rattle.up_machine.specs.Made.{roots_of}
 use Rattle.up_machine.specs.Replies.{kept_reply, reply_json}
-use Rattle.up_machine.specs.State.{State, empty_state, root_number}
+use Rattle.up_machine.specs.State.{State, empty_state, chain_of, root_number, image_root_number}
 use Rattle.up_primary.specs.Following.{KeysAgree}
 use Rattle.up_primary.specs.Laws.{AreGiven}
 
@@ -68,8 +68,8 @@ pub record IsFollowed (k : Rules) (s : State) (repository : Repository) (i : ℕ
 -- to be shown alike: two that collide would make a Root that can't be read.
 abbrev pub RootsVerify : Type 0
 RootsVerify = (k : Rules) (ts : List Timed) (repository : Repository) (i : ℕ) → IsScheme k → AreGiven ts → KeysAgree k (roots_of k empty_state ts)
-    → 1 ≤ i → i ≤ root_number (run k empty_state ts)
-    → IsSignedRoot k (run k empty_state ts) repository i × (i < root_number (run k empty_state ts) → IsFollowed k (run k empty_state ts) repository i)
+    → 1 ≤ i → i ≤ length (chain_of repository (run k empty_state ts)).texts
+    → IsSignedRoot k (run k empty_state ts) repository i × (i < length (chain_of repository (run k empty_state ts)).texts → IsFollowed k (run k empty_state ts) repository i)
 
 -- ---- other files
 
@@ -98,7 +98,7 @@ TimestampVerifies = Verifies timestamp_in (λ f. f.repository) (λ root. root.ti
 pub record IsNumbered (s : State) (repository : Repository) (bytes : List ℕ) : Type 0 where
   pub number : ℕ
   pub from : 1 ≤ number
-  pub to : number ≤ root_number s
+  pub to : number ≤ length (chain_of repository s).texts
   pub is : file s repository (numbered_root_name number) ≡ Some bytes
 
 -- Whatever is published, under whatever name, is a Root, or one of the Image repository's other files, which verify under the last Root.
@@ -106,9 +106,9 @@ abbrev pub FilesVerify : Type 0
 FilesVerify = (k : Rules) (ts : List Timed) (repository : Repository) (name : Name) (bytes : List ℕ) → IsScheme k → AreGiven ts
     → KeysAgree k (roots_of k empty_state ts) → file (run k empty_state ts) repository name ≡ Some bytes
     → IsNumbered (run k empty_state ts) repository bytes
-    ⊎ ((repository ≡ Image) × (TargetsVerify k (run k empty_state ts) Image (root_number (run k empty_state ts)) bytes
-    ⊎ (SnapshotVerifies k (run k empty_state ts) Image (root_number (run k empty_state ts)) bytes
-    ⊎ TimestampVerifies k (run k empty_state ts) Image (root_number (run k empty_state ts)) bytes)))
+    ⊎ ((repository ≡ Image) × (TargetsVerify k (run k empty_state ts) Image (image_root_number (run k empty_state ts)) bytes
+    ⊎ (SnapshotVerifies k (run k empty_state ts) Image (image_root_number (run k empty_state ts)) bytes
+    ⊎ TimestampVerifies k (run k empty_state ts) Image (image_root_number (run k empty_state ts)) bytes)))
 
 -- ---- replies
 
