@@ -1,5 +1,5 @@
 -- The tables of images and of campaigns, read whole.
-use Rattle.std.proofs.Common.{◌≡◌, ℕ, ◌+◌, ◌<◌, List, [], ◌∷◌, Bool, true, false, Option, Some, None, length, take, get_or, refl, sym, ap, ◌∙◌}
+use Rattle.std.proofs.Common.{◌≡◌, ℕ, ◌+◌, ◌<◌, List, [], ◌∷◌, Bool, true, Option, Some, None, length, take, get_or, refl, sym, ap, ◌∙◌}
 use Rattle.std.specs.FinMap as table
 use Rattle.up_store.specs.declared.second_hashes.SecondHash.{SecondHash}
 use Rattle.up_store.proofs.Common.{Name, Table, if_passes, CampaignData, ImageData, CampaignShown, ImageShown, sha512_line, IsImage, IsCampaign, AreImages, AreSha512s, AreHashesOf, AreRunning, values_where, campaign_shown_line, hash_line, image_line, image_lines, image_shown_line, line_of_campaign, second_hash, sha512_lines, campaign_lines, IsTypedImage, IsTypedCampaign}

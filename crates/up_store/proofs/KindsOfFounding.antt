@@ -1,9 +1,9 @@
 -- The row of `meta`, the rows of keys and those of files have the columns that the statements show.
-use Rattle.std.proofs.Common.{◌≡◌, ℕ, pos, ◌+◌, ◌-◌, ◌<◌, ◌≤◌, ◌^◌, zero, suc, Bool, cond, length, bytes_eq, false, List, [], ◌∷◌, ◌++◌, Option, Some, None, Ok, Err, map, codes, refl, ap, ◌∙◌, subst, arith, true, IsUtf8}
+use Rattle.std.proofs.Common.{◌≡◌, ℕ, ◌+◌, ◌-◌, zero, suc, Bool, cond, length, bytes_eq, false, List, [], ◌∷◌, ◌++◌, Option, Some, None, Ok, Err, map, codes, refl, ap, ◌∙◌, subst, arith, true, IsUtf8}
 use Rattle.up_metadata.specs.declared.role_files.RoleTexts.{RoleTexts}
 use Rattle.up_store.specs.declared.keys.RoleKey.{RoleKey}
 use Rattle.up_machine.specs.State.{last_text}
-use Rattle.up_store.proofs.Common.{⊤, IsTrue, IfOk, IfErr, IfSome, OnOk, Result, find, slice_get, if◌then◌else◌, option_map, option_or, option_to_list, AllByRecursion, enumerate_from, Text, Row, Connected, Name, is_file_name, RepoKeys, Founding, File, texts_in, Repository, Director, Image, text_named, root_named, other_text, text_held, StateRows, MetaRow, StoreFault, Memory, FitImageRepository, FitMeta, file_places, image_repository_values, keys_shown, meta_values, role_key_places, HoldsOfImageRepository, HoldsOfMeta, image_repository_shown, meta_shown, IsWords, columns_at, image_repository_row, meta_row, HasTables, IsWithin, ListsAll, ListsPairs, Reads, HoldsOfAll, HoldsOfFiles, AreLines, EachSays, IsLine, IsTold, Tells, image_repository_table, meta_table, repo_file_table, role_key_table, up_schema, ServedFile, key_row, repository_word, repository_lines, founding_lines, file_line, file_lines, file_row, ListsRows, files_lines, SaysFile, SaysKey, SaysNumbers, SaysOwn, IsFoundingOf, ImageRepositoryRow, meta_told, own_told, AreTyped, AreTypedTexts, IsTypedFile, IsTypedFounding, IsTypedKey, each_said, lines_said, numbered_root_name, numbered_roots, root_texts, ◌==◌}
+use Rattle.up_store.proofs.Common.{IsTrue, IfOk, IfErr, IfSome, OnOk, Result, find, slice_get, if◌then◌else◌, option_map, option_or, option_to_list, AllByRecursion, enumerate_from, Text, Row, Connected, Name, is_file_name, RepoKeys, Founding, File, texts_in, Repository, Director, Image, text_named, root_named, other_text, text_held, StateRows, MetaRow, StoreFault, Memory, FitImageRepository, FitMeta, file_places, image_repository_values, keys_shown, meta_values, role_key_places, HoldsOfImageRepository, HoldsOfMeta, image_repository_shown, meta_shown, IsWords, columns_at, image_repository_row, meta_row, HasTables, IsWithin, ListsAll, ListsPairs, Reads, HoldsOfAll, HoldsOfFiles, AreLines, EachSays, IsLine, IsTold, Tells, image_repository_table, meta_table, repo_file_table, role_key_table, up_schema, ServedFile, key_row, repository_word, repository_lines, founding_lines, file_line, file_lines, file_row, ListsRows, files_lines, SaysFile, SaysKey, SaysNumbers, SaysOwn, IsFoundingOf, ImageRepositoryRow, meta_told, own_told, AreTyped, AreTypedTexts, IsTypedFile, IsTypedFounding, IsTypedKey, each_said, lines_said, numbered_root_name, numbered_roots, root_texts, ◌==◌}
 use Rattle.up_store.proofs.ColumnFound.{has_tables, numbers_are}
 use Rattle.up_store.proofs.FoundingReads.{key_line}
 use Rattle.up_store.proofs.KindsOfTexts.{file_name, printed, utf8}

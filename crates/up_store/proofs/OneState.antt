@@ -1,5 +1,5 @@
 -- Tables that show two sound states show one.
-use Rattle.std.proofs.Common.{◌≡◌, ℕ, suc, List, [], ◌∷◌, ◌++◌, Bool, true, false, Option, Some, None, map, length, refl, sym, ap, ap₂, ◌∙◌, arith, codes}
+use Rattle.std.proofs.Common.{◌≡◌, ℕ, suc, List, [], ◌∷◌, ◌++◌, Bool, true, false, Option, Some, None, map, length, refl, sym, ap, ap₂, ◌∙◌, codes}
 use Rattle.std.specs.FinMap as table
 use Rattle.up_columns.specs.Columns.{names_column, names_in, file_names_in, needs_column, needs_in}
 use Rattle.up_columns.specs.PlanColumns.{plan_column, plan_in}

@@ -1,5 +1,5 @@
 -- What rows are read as, whoever wrote them: each column as what it says, so that a row that says no image, campaign or kept manifest isn't read.
-use Rattle.std.specs.Prelude.{◌≡◌, ◌≢◌, ◌<◌, ◌++◌, ◌∷◌, ◌⊎◌, ℕ, pos, List, [], Option, Some, None, Result, true, false, length, get_or, map, filter}
+use Rattle.std.specs.Prelude.{◌≡◌, ◌≢◌, ◌∷◌, ℕ, pos, List, [], Option, Some, None, Result, length, map, filter}
 use Rattle.std.specs.Prelude.{bytes_eq, Ok, IfOk, IfSome, IsSomeAnd, MatchOption, option_map}
 use Rattle.std.specs.FinMap as table
 use Rattle.std.specs.List.{list_any}

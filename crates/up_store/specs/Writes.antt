@@ -19,7 +19,7 @@ use Rattle.up_tables.specs.Lines.{retired_line}
 use Rattle.up_tables.specs.Texts.{update_image_repository_text, insert_image_text, insert_sha512_text, insert_campaign_text, close_campaign_text, insert_vehicle_text}
 use Rattle.up_tables.specs.Texts.{insert_retired_text, insert_kept_text, update_meta_text, replace_ecu_text, insert_ecu_text, update_ecu_text}
 use Rattle.up_tables.specs.Texts.{delete_role_keys_text, insert_role_key_text, upsert_file_text, upsert_vehicle_text}
-use Rattle.up_tables.specs.Tried.{Makes, RefusesOne}
+use Rattle.up_tables.specs.Tried.{RefusesOne}
 use Rattle.up_store.specs.declared.files.ServedFile.{ServedFile}
 use Rattle.up_store.specs.Fitting.{IsNextRoot, IsSameRoot, IsNewImage, IsNewVehicle, IsReplacement, IsNewCampaign, IsClosing, IsRecorded}
 use Rattle.up_store.specs.Lines.{file_row, root_file_lines, role_file_lines, repository_lines, image_lines, sha512_lines}

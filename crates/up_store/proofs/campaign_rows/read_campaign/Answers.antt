@@ -1,7 +1,5 @@
-use Rattle.std.proofs.Common.{◌≡◌, Err, true, false, sym, ap, ◌∙◌}
-use Rattle.up_store.proofs.Common.{campaign_fits, ok_then}
-use Rattle.up_store.proofs.ColumnReads.{same_campaign}
-use Rattle.up_store.proofs.MemoryAlone.{memory_on, of_column, read_again, fits_alone}
+use Rattle.std.proofs.Common.{Err, ◌∙◌}
+use Rattle.up_store.proofs.MemoryAlone.{memory_on, of_column}
 use Rattle.up_store.proofs.campaign_rows.read_campaign.Goals as goal
 
 pub returns-in_err-reach-clause-fault : goal.returns-in_err-reach-clause-fault
