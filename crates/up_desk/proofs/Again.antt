@@ -5,7 +5,7 @@ use Rattle.std.specs.List.{AllByRecursion, enumerate_from}
 use Rattle.std.specs.Cmp.Lexicographic.{bytes_decides}
 use Rattle.std.specs.FinMap as table
 use Rattle.std.proofs.Math.Logic.{∥∥₁_map}
-use Rattle.std.proofs.lemmas.Bool.{ne_eqb, or_parts}
+use Rattle.std.proofs.lemmas.Bool.{or_parts}
 use Rattle.std.proofs.lemmas.List.{length-append}
 use Rattle.sqlite_disk.specs.declared.Disk.{Ghosts as DiskGhosts}
 use Rattle.sqlite.specs.Files.{over_files, file_state}
@@ -15,7 +15,7 @@ use Rattle.sqlite.specs.Tree.{Trees}
 use Rattle.sqlite_trees.specs.declared.store.Store.{Ghosts}
 use Rattle.up_canon.specs.Moments.{last_command_moment}
 use Rattle.up_canon.specs.Names.{Name}
-use Rattle.up_canon.specs.Steps.{unless, refuse_if, or_error, value_of}
+use Rattle.up_canon.specs.Steps.{unless, or_error, value_of}
 use Rattle.up_canon.specs.declared.refusal.Refusal.{Refusal}
 use Rattle.up_canon.specs.declared.refusal.Refusal.TheVariants.{UnknownVehicle, WrongPrimary, BadManifestSignature, NotFounded}
 use Rattle.up_canon.proofs.Steps.{bind-ok, first_ok, same_ok}
@@ -25,12 +25,10 @@ use Rattle.up_manifest.specs.Manifests.{incoming_in}
 use Rattle.up_machine.specs.declared.command.Command.{Command}
 use Rattle.up_machine.specs.declared.command.Command.TheVariants.{Found, Rotate, AddImage, Refresh, AddVehicle, ReplaceEcu, OpenCampaign, CloseCampaign, Deliver, Fetch}
 use Rattle.up_machine.specs.declared.answer.Answer.TheVariants.{Reply as Replied, Refused}
-use Rattle.up_machine.specs.State.{Entry, Vehicle, State, nth, version}
+use Rattle.up_machine.specs.State.{Entry, Vehicle, State, is_founded, nth, version}
 use Rattle.up_machine.specs.Deciding.{Outcome, already}
 use Rattle.up_machine.specs.Deliveries.{Received, receive_manifest, receive, is_signed_by, check_new, entry_of, with_entry, accepted, decide_received, decide_delivery}
-use Rattle.up_machine.specs.Laws.{RunsGrow}
 use Rattle.up_machine.specs.Machine.{decide, outcome_of, step}
-use Rattle.up_machine.specs.Replies.{reply_text, reply_to}
 use Rattle.up_machine.specs.RepeatLaws.{RepeatsAreStale, CountersFindRepeats, ServedIsThinned, ServedStaysSound}
 use Rattle.up_machine.specs.Repeats.{KeptEntry, Sent, entry_signed, repeat_in, repeat_of, served_as, serve, meet, after, thinned, vehicle_of, delivers_own}
 use Rattle.up_machine.specs.Sound.{IsSound}
@@ -44,6 +42,7 @@ use Rattle.up_machine.proofs.Places.{nth_last}
 use Rattle.up_machine.proofs.Fetched.{in_time}
 use Rattle.up_rows.specs.StateRows.{rows_of_state}
 use Rattle.up_store.specs.Connections.{KeepsState}
+use Rattle.up_desk.proofs.Founded.{run_founded}
 use Rattle.up_desk.specs.Laws.{ActsOnce, replaced_in, replaces_own, LeaveAlone, ActsOnceFrom, DeliveriesActOnce, FindsState, IsDelivered, CrashesActOnce, ReopenedActsOnce, ReopenedOutlast}
 use Rattle.up_records.specs.Standing.{HoldsState}
 
@@ -74,11 +73,11 @@ other_vehicle k s at body o name v other is there =
 stays_outcome : (k : Rules) (s : State) (at : ℕ) (c : Command) (o : Outcome) (name : Name) (v : Vehicle) → owns name c ≡ false → replaces name c ≡ false → Has name v s → decide k s at c ≡ Ok o → Has name v o.next
 stays_outcome k s at (Found keys) o name v other apart there h = subst (λ (o : Outcome). Has name v o.next) (found_ok k s at keys o h).is there
 stays_outcome k s at (Rotate keys) o name v other apart there h = subst (λ (o : Outcome). Has name v o.next) (rotate_ok k s at keys o h).is there
-stays_outcome k s at (AddImage image) o name v other apart there h = elim (image_ok s at image o h) [
+stays_outcome k s at (AddImage image) o name v other apart there h = elim (image_ok k s at image o h) [
   | inl same ↦ unchanged s o name v same there
   | inr new ↦ subst (λ (o : Outcome). Has name v o.next) new.is there
 ]
-stays_outcome k s at (Refresh version) o name v other apart there h = subst (λ (o : Outcome). Has name v o.next) (refresh_ok s at version o h).is there
+stays_outcome k s at (Refresh version) o name v other apart there h = subst (λ (o : Outcome). Has name v o.next) (refresh_ok k s at version o h).is there
 stays_outcome k s at (AddVehicle new) o name v other apart there h = elim (vehicle_ok k s at new o h) [
   | inl same ↦ unchanged s o name v same there
   | inr is ↦ subst (λ (o : Outcome). Has name v o.next) is.is (kept_by_insert s.vehicles new.vehicle name _ v is.none there)
@@ -96,7 +95,7 @@ stays_outcome k s at (CloseCampaign campaign) o name v other apart there h = eli
   | inr is ↦ subst (λ (o : Outcome). Has name v o.next) is.is there
 ]
 stays_outcome k s at (Deliver body) o name v other apart there h = other_vehicle k s at body o name v other (delivery_ok k s at body o h) there
-stays_outcome k s at (Fetch repository file) o name v other apart there h = subst (λ (o : Outcome). Has name v o.next) (fetch_ok k s at repository file o h).2 there
+stays_outcome k s at (Fetch repository file) o name v other apart there h = subst (λ (o : Outcome). Has name v o.next) (fetch_ok s at repository file o h).2 there
 
 stays_served : (k : Rules) (s : State) (at : ℕ) (c : Command) (name : Name) (v : Vehicle) → owns name c ≡ false → replaces name c ≡ false → Has name v s → Has name v (serve k s at c).next
 unfolding serve step
@@ -120,23 +119,17 @@ vehicle_stays : (k : Rules) (s : State) (name : Name) (v : Vehicle) (between : L
 vehicle_stays k s name v [] none there = there
 vehicle_stays k s name v (m ∷ between) none there = vehicle_stays k (meet k s m).next name v between none.1 (stays_met k s m name v m.lost refl none.0 there)
 
-stays_founded : RunsGrow → ServedIsThinned → (k : Rules) (s : State) (between : List Sent) → 0 < length s.roots → 0 < length (after k s between).roots
-stays_founded grow thin k s between founded =
-    let later = grow k s (thinned k s between) in
-    let size = ap length later.roots ∙ length-append s.roots later.more_roots in
-    subst (λ (t : State). 0 < length t.roots) (sym (thin k s between)) (omega arith)
+stays_founded : ServedIsThinned → (k : Rules) (s : State) (between : List Sent) → is_founded s ≡ true → is_founded (after k s between) ≡ true
+stays_founded thin k s between founded = subst (λ (t : State). is_founded t ≡ true) (sym (thin k s between)) (run_founded k s (thinned k s between) founded)
 
 -- ---- it is received again
 
-some_root : (n : ℕ) → 0 < n → refuse_if (n == 0) NotFounded ≡ Ok tt
-some_root n h = ap (λ b. refuse_if b NotFounded) (ne_eqb n 0 (λ e. omega arith))
-
-received_again : (k : Rules) (s : State) (at : ℕ) (body : List ℕ) (incoming : Incoming) (v : Vehicle) → at ≤ last_command_moment → 0 < length s.roots → incoming_in body ≡ Ok incoming
+received_again : (k : Rules) (s : State) (at : ℕ) (body : List ℕ) (incoming : Incoming) (v : Vehicle) → at ≤ last_command_moment → is_founded s ≡ true → incoming_in body ≡ Ok incoming
     → Has incoming.manifest.vehicle v s → incoming.manifest.primary ≡ v.primary → is_signed_by k v.ecus v.primary incoming.envelope ≡ true
     → receive k s at body ≡ Ok (record { vehicle = v; incoming = incoming })
 unfolding receive receive_manifest
 received_again k s at body incoming v moment founded reads there primary signed =
-    bind-ok _ _ tt (in_time at moment) ∙ bind-ok _ _ incoming reads ∙ bind-ok _ _ tt (some_root (length s.roots) founded)
+    bind-ok _ _ tt (in_time at moment) ∙ bind-ok _ _ incoming reads ∙ bind-ok _ _ tt (ap (λ b. unless b NotFounded) founded)
     ∙ bind-ok _ _ v (ap (or_error UnknownVehicle) there)
     ∙ bind-ok _ _ tt (ap (λ b. unless b WrongPrimary) ((bytes_decides incoming.manifest.primary v.primary).1 primary))
     ∙ bind-ok _ _ tt (ap (λ b. unless b BadManifestSignature) signed)
@@ -168,7 +161,7 @@ last_found signed n (x ∷ entries) e none is =
 record IsAccepted (k : Rules) (s : State) (at : ℕ) (body : List ℕ) (incoming : Incoming) (o : Outcome) : Type 0 where
   vehicle : Vehicle
   there : Has incoming.manifest.vehicle vehicle s
-  founded : 0 < length s.roots
+  founded : is_founded s ≡ true
   primary : incoming.manifest.primary ≡ vehicle.primary
   signed : is_signed_by k vehicle.ecus vehicle.primary incoming.envelope ≡ true
   checked : check_new k (record { vehicle = vehicle; incoming = incoming }) ≡ Ok tt
@@ -228,10 +221,6 @@ is_accepted stale counters k s at body incoming o sound reads decides =
 
 -- ---- it acts once
 
-same_reply : (k : Rules) (s : State) (name other : Name) (v : Vehicle) (e : Entry) (number : ℕ) (of_entry : Entry) → reply_to name number of_entry ≡ reply_to k (with_entry s other v e) name number of_entry
-unfolding reply_text
-same_reply k s name other v e number of_entry = refl
-
 served_new : (k : Rules) (s : State) (at : ℕ) (body : List ℕ) (r : Received) → receive k s at body ≡ Ok r → repeat_in r ≡ None → check_new k r ≡ Ok tt → serve k s at (Deliver body) ≡ accepted k s at r
 unfolding serve step decide_delivery decide_received
 served_new k s at body r receives none checked =
@@ -248,7 +237,7 @@ acts_new : (k : Rules) (s : State) (at : ℕ) (body : List ℕ) (incoming : Inco
     → check_new k (record { vehicle = v; incoming = incoming }) ≡ Ok tt → ActsOnce k incoming (serve k s at (Deliver body))
 acts_new k s at body incoming v receives new none checked =
     let r : Received = record { vehicle = v; incoming = incoming } in
-    let e = entry_of s at r in
+    let e = entry_of k s at r in
     let name = incoming.manifest.vehicle in
     let number : length (v.entries ++ e ∷ []) ≡ version v.entries + 1 = length-append v.entries (e ∷ []) in
     subst (ActsOnce k incoming) (sym (served_new k s at body r receives none checked)) (record {
@@ -258,7 +247,7 @@ acts_new k s at body incoming v receives new none checked =
       there = get_same s.vehicles name (more v e);
       once = only_last incoming.envelope.signed 1 v.entries e new ((bytes_decides incoming.envelope.signed incoming.envelope.signed).1 refl);
       numbered = ap (nth (v.entries ++ e ∷ [])) (sym number) ∙ nth_last v.entries e;
-      answer = ap Replied (same_reply k s name name v e (version v.entries + 1) e);
+      answer = refl;
     })
 
 -- where it is there already it is a repeat
@@ -284,31 +273,31 @@ acts_kept k s at body incoming v e there receives new text =
 
 -- ---- the laws
 
-from_before : RunsGrow → ServedIsThinned → (k : Rules) (s : State) (at : ℕ) (body : List ℕ) (incoming : Incoming) (o : Outcome) → incoming_in body ≡ Ok incoming → IsAccepted k s at body incoming o
+from_before : ServedIsThinned → (k : Rules) (s : State) (at : ℕ) (body : List ℕ) (incoming : Incoming) (o : Outcome) → incoming_in body ≡ Ok incoming → IsAccepted k s at body incoming o
     → ActsOnceFrom k s body incoming
-from_before grow thin k s at body incoming o reads is = λ between again none moment.
+from_before thin k s at body incoming o reads is = λ between again none moment.
     let there = vehicle_stays k s incoming.manifest.vehicle is.vehicle between none is.there in
-    let founded = stays_founded grow thin k s between is.founded in
+    let founded = stays_founded thin k s between is.founded in
     acts_new k (after k s between) again body incoming is.vehicle
     (received_again k (after k s between) again body incoming is.vehicle moment founded reads there is.primary is.signed) is.new is.unseen is.checked
 
-from_next : RunsGrow → ServedIsThinned → (k : Rules) (s : State) (at : ℕ) (body : List ℕ) (incoming : Incoming) (o : Outcome) → incoming_in body ≡ Ok incoming → IsAccepted k s at body incoming o
+from_next : ServedIsThinned → (k : Rules) (s : State) (at : ℕ) (body : List ℕ) (incoming : Incoming) (o : Outcome) → incoming_in body ≡ Ok incoming → IsAccepted k s at body incoming o
     → ActsOnceFrom k o.next body incoming
-from_next grow thin k s at body incoming o reads is = subst (λ (p : Outcome). ActsOnceFrom k p.next body incoming) is.is (λ between again none moment.
+from_next thin k s at body incoming o reads is = subst (λ (p : Outcome). ActsOnceFrom k p.next body incoming) is.is (λ between again none moment.
     let r : Received = record { vehicle = is.vehicle; incoming = incoming } in
-    let e = entry_of s at r in
+    let e = entry_of k s at r in
     let name = incoming.manifest.vehicle in
     let next = (accepted k s at r).next in
     let there = vehicle_stays k next name (more is.vehicle e) between none (get_same s.vehicles name (more is.vehicle e)) in
-    let founded = stays_founded grow thin k next between is.founded in
+    let founded = stays_founded thin k next between is.founded in
     acts_kept k (after k next between) again body incoming is.vehicle e there
     (received_again k (after k next between) again body incoming (more is.vehicle e) moment founded reads there is.primary is.signed) is.new
     ((bytes_decides incoming.envelope.signed incoming.envelope.signed).1 refl))
 
-pub acts_once : RepeatsAreStale → CountersFindRepeats → RunsGrow → ServedIsThinned → DeliveriesActOnce
-acts_once stale counters grow thin k s at body incoming o sound reads decides =
+pub acts_once : RepeatsAreStale → CountersFindRepeats → ServedIsThinned → DeliveriesActOnce
+acts_once stale counters thin k s at body incoming o sound reads decides =
     let is = is_accepted stale counters k s at body incoming o sound reads decides in
-    (from_before grow thin k s at body incoming o reads is, from_next grow thin k s at body incoming o reads is)
+    (from_before thin k s at body incoming o reads is, from_next thin k s at body incoming o reads is)
 
 -- a delivery that the plain machine accepts is served as that
 served_as_accepted : RepeatsAreStale → CountersFindRepeats → (k : Rules) (s : State) (at : ℕ) (body : List ℕ) (incoming : Incoming) (o : Outcome) → IsSound k s → incoming_in body ≡ Ok incoming
@@ -328,11 +317,11 @@ either g k s at body incoming old new it clean left may =
     ]
 
 -- in both states it acts once
-both_act : RepeatsAreStale → CountersFindRepeats → RunsGrow → ServedIsThinned → ServedStaysSound
+both_act : RepeatsAreStale → CountersFindRepeats → ServedIsThinned → ServedStaysSound
     → (k : Rules) (s : State) (at : ℕ) (body : List ℕ) (incoming : Incoming) (o : Outcome) → IsSound k s → incoming_in body ≡ Ok incoming → decide k s at (Deliver body) ≡ Ok o
     → (IsShown : State → Type 0) → IsShown s ⊎ IsShown (serve k s at (Deliver body)).next → FindsState k body incoming IsShown
-both_act stale counters grow thin stays k s at body incoming o sound reads decides IsShown shown =
-    let both = acts_once stale counters grow thin k s at body incoming o sound reads decides in
+both_act stale counters thin stays k s at body incoming o sound reads decides IsShown shown =
+    let both = acts_once stale counters thin k s at body incoming o sound reads decides in
     let next : (serve k s at (Deliver body)).next ≡ o.next = ap (λ (p : Outcome). p.next) (served_as_accepted stale counters k s at body incoming o sound reads decides) in
     elim shown [
       | inl was ↦ record { found = s; sound = sound; shown = was; acts = both.0 }
@@ -344,15 +333,15 @@ both_act stale counters grow thin stays k s at body incoming o sound reads decid
       }
     ]
 
-pub crashes_act_once : {S : Type 0} (g : Ghosts S) → RepeatsAreStale → CountersFindRepeats → RunsGrow → ServedIsThinned → ServedStaysSound → CrashesActOnce g
-crashes_act_once g stale counters grow thin stays k s at body incoming old new it clean left may =
-    both_act stale counters grow thin stays k s at body incoming it.accepted it.sound it.reads it.accepts (λ t. HoldsState t left) (either g k s at body incoming old new it clean left may)
+pub crashes_act_once : {S : Type 0} (g : Ghosts S) → RepeatsAreStale → CountersFindRepeats → ServedIsThinned → ServedStaysSound → CrashesActOnce g
+crashes_act_once g stale counters thin stays k s at body incoming old new it clean left may =
+    both_act stale counters thin stays k s at body incoming it.accepted it.sound it.reads it.accepts (λ t. HoldsState t left) (either g k s at body incoming old new it clean left may)
 
-pub reopened_acts_once : {D : Type 0} (g : DiskGhosts D) → RepeatsAreStale → CountersFindRepeats → RunsGrow → ServedIsThinned → ServedStaysSound → ReopenedActsOnce g
-reopened_acts_once g stale counters grow thin stays k s at body incoming old new it clean stopped again whole left may opened is found =
+pub reopened_acts_once : {D : Type 0} (g : DiskGhosts D) → RepeatsAreStale → CountersFindRepeats → ServedIsThinned → ServedStaysSound → ReopenedActsOnce g
+reopened_acts_once g stale counters thin stays k s at body incoming old new it clean stopped again whole left may opened is found =
     let f = again whole left may opened is found in
     let next = (serve k s at (Deliver body)).next in
-    ∥∥₁_map f.left (λ r. both_act stale counters grow thin stays k s at body incoming it.accepted it.sound it.reads it.accepts (λ t. KeepsState t (file_state opened))
+    ∥∥₁_map f.left (λ r. both_act stale counters thin stays k s at body incoming it.accepted it.sound it.reads it.accepts (λ t. KeepsState t (file_state opened))
     (elim (either over_files k s at body incoming old new it clean (file_state opened).committed.trees r) [
       | inl was ↦ inl (f.shown (rows_of_state s) was)
       | inr made ↦ inr (f.shown (rows_of_state next) made)

@@ -34,11 +34,11 @@ no_reply o p reply is replied never = never (ap (λ (q : Outcome). q.answer) is 
 changed : (k : Rules) (s : State) (at : ℕ) (c : Command) (o : Outcome) (reply : Reply) → decide k s at c ≡ Ok o → o.answer ≡ Replied reply → o.next ≡ s → ⊥
 changed k s at (Found keys) o reply h replied = λ same. no_reply o _ reply (found_ok k s at keys o h).is replied (λ e. cc)
 changed k s at (Rotate keys) o reply h replied = λ same. no_reply o _ reply (rotate_ok k s at keys o h).is replied (λ e. cc)
-changed k s at (AddImage image) o reply h replied = λ same. elim (image_ok s at image o h) [
+changed k s at (AddImage image) o reply h replied = λ same. elim (image_ok k s at image o h) [
   | inl is ↦ no_reply o _ reply is replied (λ e. cc)
   | inr is ↦ no_reply o _ reply is.is replied (λ e. cc)
 ]
-changed k s at (Refresh version) o reply h replied = λ same. no_reply o _ reply (refresh_ok s at version o h).is replied (λ e. cc)
+changed k s at (Refresh version) o reply h replied = λ same. no_reply o _ reply (refresh_ok k s at version o h).is replied (λ e. cc)
 changed k s at (AddVehicle new) o reply h replied = λ same. elim (vehicle_ok k s at new o h) [
   | inl is ↦ no_reply o _ reply is replied (λ e. cc)
   | inr is ↦ no_reply o _ reply is.is replied (λ e. cc)
@@ -55,8 +55,8 @@ changed k s at (CloseCampaign name) o reply h replied = λ same. elim (close_ok 
 changed k s at (Deliver body) o reply h replied = λ same.
     let is = delivery_ok k s at body o h in
     let r = is.received in
-    one_more s r.vehicle r.incoming.manifest.vehicle (entry_of s at r) (received k s at body r is.receives).vehicle (ap (λ (p : Outcome). p.next) is.is ∙ same)
-changed k s at (Fetch repository name) o reply h replied = λ same. no_reply o _ reply (fetch_ok k s at repository name o h).2 replied (λ e. cc)
+    one_more s r.vehicle r.incoming.manifest.vehicle (entry_of k s at r) (received k s at body r is.receives).vehicle (ap (λ (p : Outcome). p.next) is.is ∙ same)
+changed k s at (Fetch repository name) o reply h replied = λ same. no_reply o _ reply (fetch_ok s at repository name o h).2 replied (λ e. cc)
 
 decided : (k : Rules) (s : State) (at : ℕ) (c : Command) (reply : Reply) (d : Result Outcome Refusal) → decide k s at c ≡ d → (outcome_of s d).answer ≡ Replied reply → (outcome_of s d).next ≡ s → ⊥
 decided k s at c reply (Ok o) is replied same = changed k s at c o reply is replied same

@@ -9,5 +9,6 @@ pub mod Outlasting
 pub mod Calls
 pub mod Runs
 pub mod Groups
+pub mod Founded
 pub mod Commits
 pub mod Again

@@ -4,7 +4,7 @@ ghost use Rattle.up_desk.specs.Laws.{ReopenedActsOnce, ReopenedOutlast};
 
 use sqlite::Alter;
 use sqlite_disk::Disk;
-use up_machine::laws::{repeats_are_found, repeats_change_nothing, states_only_grow};
+use up_machine::laws::{repeats_are_found, repeats_change_nothing};
 
 /// The reply to a newly accepted manifest is a commit: the state changes with it.
 pub fn new_replies_commit()
@@ -20,7 +20,6 @@ pub fn deliveries_act_once<D: Alter>()
 {
     repeats_are_found();
     repeats_change_nothing();
-    states_only_grow();
 }
 
 /// So a delivery does where the program stopped, and the files are opened again as a crash left them.
@@ -29,7 +28,6 @@ pub fn reopened_deliveries_act_once<D: Disk>()
 {
     repeats_are_found();
     repeats_change_nothing();
-    states_only_grow();
 }
 
 /// Of a whole list: where behind a commit that was answered no command changes the state, a crash leaves the state after the

@@ -1,6 +1,6 @@
 -- What is computed is never `Store`: only a database refuses so.
-use Rattle.std.proofs.Common.{◌≡◌, ℕ, ◌==◌, List, [], ◌∷◌, Bool, true, false, Option, Some, None, Result, Ok, Err, length, ap}
-use Rattle.std.specs.Prelude.{nat_le, nat_lt, not, if◌then◌else◌, bytes_eq, codes, find}
+use Rattle.std.proofs.Common.{◌≡◌, ℕ, List, [], ◌∷◌, Bool, true, false, Option, Some, None, Result, Ok, Err, length, ap}
+use Rattle.std.specs.Prelude.{nat_le, nat_lt, if◌then◌else◌, bytes_eq, codes, find}
 use Rattle.std.specs.List.{list_all}
 use Rattle.std.specs.FinMap as table
 use Rattle.serde_json.specs.Data.{Data}
@@ -35,8 +35,8 @@ use Rattle.up_machine.specs.Deliveries.{Received, is_signed_by, report_name, rec
 use Rattle.up_machine.specs.Files.{file}
 use Rattle.up_machine.specs.Inventory.{same_vehicle, same_campaign, reach_is_known, has_its_image, has_its_hardware, decide_new_vehicle, decide_vehicle, decide_replacement, decide_replace, decide_new_campaign, decide_open, decide_close}
 use Rattle.up_machine.specs.Repeats.{KeptEntry, repeat_in}
-use Rattle.up_machine.specs.Repositories.{same_image, decide_found, decide_rotate, decide_new_image, decide_image, decide_refresh, decide_fetch}
-use Rattle.up_machine.specs.State.{Vehicle, State, is_taken, last_counter}
+use Rattle.up_machine.specs.Repositories.{are_roots_full, same_image, decide_found, decide_rotate, decide_new_image, decide_image, decide_refresh, decide_fetch}
+use Rattle.up_machine.specs.State.{Vehicle, State, is_founded, root_number, image_root_number, is_taken, last_counter}
 use Rattle.up_machine.specs.Vehicles.{NewVehicleData, has_ecu, ecu_names, public_fits}
 
 -- its error, if it has one, is another
@@ -280,7 +280,7 @@ never_late : (at : ℕ) → NeverStore (check_moment at)
 never_late at = never_if (nat_lt last_command_moment at) MomentOutOfRange (λ is. cc)
 
 never_unfounded : (s : State) → NeverStore (check_founded s)
-never_unfounded s = never_if (length s.roots == 0) NotFounded (λ is. cc)
+never_unfounded s = never_unless (is_founded s) NotFounded (λ is. cc)
 
 never_limit : (s : State) → NeverStore (check_version s)
 never_limit s = never_if (nat_le max_count s.image_version) VersionLimit (λ is. cc)
@@ -306,7 +306,7 @@ unfolding decide_found
 never_found k s at keys =
     never_then _ _ (never_late at) (λ _.
     never_then (check_keys k keys) _ (never_keys k keys) (λ _.
-    never_then _ _ (never_if (not (length s.roots == 0)) AlreadyFounded (λ is. cc)) (λ _. never_ok _)))
+    never_then _ _ (never_if (is_founded s) AlreadyFounded (λ is. cc)) (λ _. never_ok _)))
 
 pub never_rotate : (k : Rules) (s : State) (at : ℕ) (keys : KeySet) → NeverStore (decide_rotate k s at keys)
 unfolding decide_rotate
@@ -314,31 +314,31 @@ never_rotate k s at keys =
     never_then _ _ (never_late at) (λ _.
     never_then (check_keys k keys) _ (never_keys k keys) (λ _.
     never_then _ _ (never_unfounded s) (λ _.
-    never_then _ _ (never_if (nat_le 64 (length s.roots)) RootFull (λ is. cc)) (λ _.
+    never_then _ _ (never_if (are_roots_full (root_number s) (image_root_number s)) RootFull (λ is. cc)) (λ _.
     never_then _ _ (never_limit s) (λ _. never_ok _)))))
 
-pub never_new_image : (s : State) (at : ℕ) (image : ImageData) → NeverStore (decide_new_image k s at image)
+pub never_new_image : (k : Rules) (s : State) (at : ℕ) (image : ImageData) → NeverStore (decide_new_image k s at image)
 unfolding decide_new_image
-never_new_image s at image =
+never_new_image k s at image =
     never_then _ _ (never_if (nat_le 1024 (table.len s.images)) RegisterFull (λ is. cc)) (λ _. never_then _ _ (never_limit s) (λ _. never_ok _))
 
-pub never_image : (s : State) (at : ℕ) (image : ImageData) → NeverStore (decide_image k s at image)
+pub never_image : (k : Rules) (s : State) (at : ℕ) (image : ImageData) → NeverStore (decide_image k s at image)
 unfolding decide_image
-never_image s at image =
+never_image k s at image =
     never_then _ _ (never_late at) (λ _.
     never_then _ _ (never_unfounded s) (λ _.
-    never_where_new s (same_image image) ImageTaken (table.get s.images image.file) (decide_new_image k s at image) (λ is. cc) (never_new_image s at image)))
+    never_where_new s (same_image image) ImageTaken (table.get s.images image.file) (decide_new_image k s at image) (λ is. cc) (never_new_image k s at image)))
 
-pub never_refresh : (s : State) (at version : ℕ) → NeverStore (decide_refresh k s at version)
+pub never_refresh : (k : Rules) (s : State) (at version : ℕ) → NeverStore (decide_refresh k s at version)
 unfolding decide_refresh
-never_refresh s at version =
+never_refresh k s at version =
     never_then _ _ (never_late at) (λ _.
     never_then _ _ (never_unfounded s) (λ _.
     never_then _ _ (never_if (nat_le version s.image_version) VersionNotGreater (λ is. cc)) (λ _. never_ok _)))
 
-pub never_fetch : (k : Rules) (s : State) (at : ℕ) (repository : Repository) (name : Name) → NeverStore (decide_fetch s at repository name)
+pub never_fetch : (s : State) (at : ℕ) (repository : Repository) (name : Name) → NeverStore (decide_fetch s at repository name)
 unfolding decide_fetch
-never_fetch k s at repository name =
+never_fetch s at repository name =
     never_then _ _ (never_late at) (λ _.
     never_then _ _ (never_unfounded s) (λ _.
     never_then _ _ (never_else UnknownFile (file s repository name) (λ is. cc)) (λ text. never_ok _)))

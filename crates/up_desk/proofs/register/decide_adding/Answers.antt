@@ -16,11 +16,12 @@ use Rattle.up_desk.proofs.register.decide_adding.Goals as goal
 pub returns-in-Ok-Already : goal.returns-in-Ok-Already
 returns-in-Ok-Already g c inside =
     let G = g.D.Store in
+    let k = g.K.Scheme.rules c.args.scheme.now in
     let image = c.args.image.now in
-    decides_on G (then_on G (then_on G (none_on G inside) c.in-Ok.ensures.found) (rows_on G _ (λ j s x is. is) c.in-Ok-find_image.ensures)) (g.K.Scheme.rules c.args.scheme.now) refl (Ok Already) (λ s. never_image s c.args.at image) (λ s r h. h)
-    (λ s sound _ found. when_there s c.args.at image c.in-Ok-Already.field-0 (decide_image k s c.args.at image) c.in-Ok-Already.field-0-is
-    (subst (λ (at : ℕ). GivesNewImage s at image (Ok c.in-Ok-Already.field-0) (decide_image k s at image)) c.moment-at.ensures.value
-    (c.in-Ok-Already.ensures.decided s found.0.1 (c.as_ref.ensures.value ∙ found.1 ∙ ap (λ (d : ImageData). table.get s.images d.file) c.image.view_is))))
+    decides_on G (then_on G (then_on G (none_on G inside) c.in-Ok.ensures.found) (rows_on G _ (λ j s x is. is) c.in-Ok-find_image.ensures)) (g.K.Scheme.rules c.args.scheme.now) refl (Ok Already) (λ s. never_image k s c.args.at image) (λ s r h. h)
+    (λ s sound _ found. when_there k s c.args.at image c.in-Ok-Already.field-0 (decide_image k s c.args.at image) c.in-Ok-Already.field-0-is
+    (subst (λ (at : ℕ). GivesNewImage k s at image (Ok c.in-Ok-Already.field-0) (decide_image k s at image)) c.moment-at.ensures.value
+    (c.in-Ok-Already.ensures.decided k s found.0.1 (c.as_ref.ensures.value ∙ found.1 ∙ ap (λ (d : ImageData). table.get s.images d.file) c.image.view_is))))
 
 pub returns-in-Err : goal.returns-in-Err
 returns-in-Err g c inside = let G = g.D.Store in fails_on G (none_on G inside) (g.K.Scheme.rules c.args.scheme.now) refl c.refusal_of.ensures c.in-Err.ensures.found
@@ -33,10 +34,11 @@ returns-in-Err-find_image g c inside =
 pub returns-in-Err-decide_image : goal.returns-in-Err-decide_image
 returns-in-Err-decide_image g c inside =
     let G = g.D.Store in
+    let k = g.K.Scheme.rules c.args.scheme.now in
     let image = c.args.image.now in
-    due_on G (then_on G (then_on G (none_on G inside) c.in-Ok.ensures.found) (rows_on G _ (λ j s x is. is) c.in-Ok-find_image.ensures)) (g.K.Scheme.rules c.args.scheme.now) refl (λ s. never_image s c.args.at image)
+    due_on G (then_on G (then_on G (none_on G inside) c.in-Ok.ensures.found) (rows_on G _ (λ j s x is. is) c.in-Ok-find_image.ensures)) (g.K.Scheme.rules c.args.scheme.now) refl (λ s. never_image k s c.args.at image)
     (λ s sound _ found. or_memory _ (subst (λ (at : ℕ). decide_image k s at image ≡ Err c.in-Err-decide_image.refusal) c.moment-at.ensures.value
-    (c.in-Err-decide_image.ensures.decided s found.0.1 (c.as_ref.ensures.value ∙ found.1 ∙ ap (λ (d : ImageData). table.get s.images d.file) c.image.view_is))))
+    (c.in-Err-decide_image.ensures.decided k s found.0.1 (c.as_ref.ensures.value ∙ found.1 ∙ ap (λ (d : ImageData). table.get s.images d.file) c.image.view_is))))
 
 pub returns-in-Ok-find_images : goal.returns-in-Ok-find_images
 returns-in-Ok-find_images g c inside =
@@ -44,10 +46,10 @@ returns-in-Ok-find_images g c inside =
     let k = g.K.Scheme.rules c.args.scheme.now in
     let image = c.args.image.now in
     let made = c.in_ok-decide_new_image-in-Ok-find_images.field-0 in
-    decides_on G (then_on G (then_on G (then_on G (none_on G inside) c.in-Ok.ensures.found) (rows_on G _ (λ j s x is. is) c.in-Ok-find_image.ensures)) (rows_on G _ (λ j s x is. is) c.in-Ok-find_images.ensures)) k refl (Ok (New made)) (λ s. never_image s c.args.at image) (λ s r h. h)
+    decides_on G (then_on G (then_on G (then_on G (none_on G inside) c.in-Ok.ensures.found) (rows_on G _ (λ j s x is. is) c.in-Ok-find_image.ensures)) (rows_on G _ (λ j s x is. is) c.in-Ok-find_images.ensures)) k refl (Ok (New made)) (λ s. never_image k s c.args.at image) (λ s r h. h)
     (λ s sound _ found. subst (λ (at : ℕ). IsDone (HasRegisterRows (stamped k (with_image s image) at (s.image_version + 1))) (stamped k (with_image s image) at (s.image_version + 1)) made (decide_image k s at image)) c.moment-at.ensures.value
-    (new_rows (HasRegisterRows (stamped k (with_image s image) c.moment-at.result (s.image_version + 1))) (stamped k (with_image s image) c.moment-at.result (s.image_version + 1)) s c.moment-at.result image c.in-Ok-New.field-0 c.in-Ok-New.founding (decide_image k s c.moment-at.result image) (Ok made) c.in-Ok-New.field-0-is
-    (c.in-Ok-New.ensures.decided s found.0.0.1 (c.as_ref.ensures.value ∙ found.0.1 ∙ ap (λ (d : ImageData). table.get s.images d.file) c.image.view_is))
+    (new_rows k (HasRegisterRows (stamped k (with_image s image) c.moment-at.result (s.image_version + 1))) (stamped k (with_image s image) c.moment-at.result (s.image_version + 1)) s c.moment-at.result image c.in-Ok-New.field-0 c.in-Ok-New.founding (decide_image k s c.moment-at.result image) (Ok made) c.in-Ok-New.field-0-is
+    (c.in-Ok-New.ensures.decided k s found.0.0.1 (c.as_ref.ensures.value ∙ found.0.1 ∙ ap (λ (d : ImageData). table.get s.images d.file) c.image.view_is))
     (λ founded new. c.in_ok-decide_new_image-in-Ok-find_images.ensures.decided s sound founded found.1 new)))
 
 pub returns-in_err-decide_new_image-in-Ok-find_images : goal.returns-in_err-decide_new_image-in-Ok-find_images
@@ -56,11 +58,11 @@ returns-in_err-decide_new_image-in-Ok-find_images g c inside =
     let k = g.K.Scheme.rules c.args.scheme.now in
     let image = c.args.image.now in
     let refusal = c.in_err-decide_new_image-in-Ok-find_images.field-0.0 in
-    decides_on G (then_on G (then_on G (then_on G (none_on G inside) c.in-Ok.ensures.found) (rows_on G _ (λ j s x is. is) c.in-Ok-find_image.ensures)) (rows_on G _ (λ j s x is. is) c.in-Ok-find_images.ensures)) k refl c.from_residual.result (λ s. never_image s c.args.at image) (λ s r h. h)
+    decides_on G (then_on G (then_on G (then_on G (none_on G inside) c.in-Ok.ensures.found) (rows_on G _ (λ j s x is. is) c.in-Ok-find_image.ensures)) (rows_on G _ (λ j s x is. is) c.in-Ok-find_images.ensures)) k refl c.from_residual.result (λ s. never_image k s c.args.at image) (λ s r h. h)
     (λ s sound _ found. rows_refused (HasRegisterRows (stamped k (with_image s image) c.args.at (s.image_version + 1))) s (stamped k (with_image s image) c.args.at (s.image_version + 1)) c.from_residual.result refusal (decide_image k s c.args.at image) c.from_residual.ensures.1
     (subst (λ (at : ℕ). GivesRows (HasRegisterRows (stamped k (with_image s image) at (s.image_version + 1))) (stamped k (with_image s image) at (s.image_version + 1)) (Err refusal) (decide_image k s at image)) c.moment-at.ensures.value
-    (new_rows (HasRegisterRows (stamped k (with_image s image) c.moment-at.result (s.image_version + 1))) (stamped k (with_image s image) c.moment-at.result (s.image_version + 1)) s c.moment-at.result image c.in-Ok-New.field-0 c.in-Ok-New.founding (decide_image k s c.moment-at.result image) (Err refusal) c.in-Ok-New.field-0-is
-    (c.in-Ok-New.ensures.decided s found.0.0.1 (c.as_ref.ensures.value ∙ found.0.1 ∙ ap (λ (d : ImageData). table.get s.images d.file) c.image.view_is))
+    (new_rows k (HasRegisterRows (stamped k (with_image s image) c.moment-at.result (s.image_version + 1))) (stamped k (with_image s image) c.moment-at.result (s.image_version + 1)) s c.moment-at.result image c.in-Ok-New.field-0 c.in-Ok-New.founding (decide_image k s c.moment-at.result image) (Err refusal) c.in-Ok-New.field-0-is
+    (c.in-Ok-New.ensures.decided k s found.0.0.1 (c.as_ref.ensures.value ∙ found.0.1 ∙ ap (λ (d : ImageData). table.get s.images d.file) c.image.view_is))
     (λ founded new. c.in_err-decide_new_image-in-Ok-find_images.ensures.decided s sound founded found.1 new))))
 
 pub decide_new_image-requires-clause-keys : goal.decide_new_image-requires-clause-keys

@@ -6,7 +6,7 @@ pub returns-in_ok-register_rows-in-Ok : goal.returns-in_ok-register_rows-in-Ok
 returns-in_ok-register_rows-in-Ok g c inside =
     let G = g.D.Store in
     all_on G (then_on G (none_on G inside) (rows_on G _ (λ k s x is. is) c.in-Ok.ensures)) _ _
-    (λ k of s found next has same. c.in_ok-register_rows-in-Ok.ensures next has (found.1 ∙ sym same))
+    (λ k of s found next has new same. c.in_ok-register_rows-in-Ok.ensures next has new (found.1 ∙ sym same))
 
 pub returns-in_err-register_rows-in-Ok : goal.returns-in_err-register_rows-in-Ok
 returns-in_err-register_rows-in-Ok g c inside =
