@@ -24,10 +24,10 @@ use Rattle.up_manifest.specs.declared.manifest.Incoming.{Incoming}
 use Rattle.up_manifest.specs.Manifests.{incoming_in}
 use Rattle.up_machine.specs.declared.command.Command.{Command}
 use Rattle.up_machine.specs.declared.command.Command.TheVariants.{Found, Rotate, AddImage, Refresh, AddVehicle, ReplaceEcu, OpenCampaign, CloseCampaign, Deliver, Fetch}
-use Rattle.up_machine.specs.declared.answer.Answer.TheVariants.{Reply as Replied, Refused}
+use Rattle.up_machine.specs.declared.answer.Answer.TheVariants.{Refused}
 use Rattle.up_machine.specs.State.{Entry, Vehicle, State, is_founded, nth, version}
 use Rattle.up_machine.specs.Deciding.{Outcome, already}
-use Rattle.up_machine.specs.Deliveries.{Received, receive_manifest, receive, is_signed_by, check_new, entry_of, with_entry, accepted, decide_received, decide_delivery}
+use Rattle.up_machine.specs.Deliveries.{Received, receive_manifest, receive, is_signed_by, check_new, entry_of, accepted, decide_received, decide_delivery}
 use Rattle.up_machine.specs.Machine.{decide, outcome_of, step}
 use Rattle.up_machine.specs.RepeatLaws.{RepeatsAreStale, CountersFindRepeats, ServedIsThinned, ServedStaysSound}
 use Rattle.up_machine.specs.Repeats.{KeptEntry, Sent, entry_signed, repeat_in, repeat_of, served_as, serve, meet, after, thinned, vehicle_of, delivers_own}

@@ -34,7 +34,7 @@ cleaned laws k at c r old new obeys =
 serves : (laws : CallLaws) (k : Rules) (at : ℕ) (c : Command) (r : Result Answer Refusal) (old new : Standing) → IsTrue (is_command c) → Obeys k at c r old new → ServesCall k at c (told r) old new
 serves laws k at c r old new fits obeys = λ now s sound was.
     let it = answered k s new at c r laws.sound fits sound ((obeys.serves s sound was).leaves now) in
-    (it.next, it.answered, answered_stays k s it.next at c (told r) laws.served laws.replies sound it.answered, it.sound, it.keeps)
+    (it.next, it.answered, answered_stays k s it.next at c (told r) laws.served laws.replies it.answered, it.sound, it.keeps)
 
 told_call : {S : Type 0} (laws : CallLaws) (k : Rules) (at : ℕ) (c : Command) (r : Result Answer Refusal) (old new : Standing) (before after : S) → IsTrue (is_command c) → Obeys k at c r old new
     → IfSome (outright k at c) (RefusesUnread before after r) → IsCalled k at c (told r) old new

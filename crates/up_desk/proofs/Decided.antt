@@ -3,7 +3,6 @@ use Rattle.std.proofs.Common.{◌≡◌, Some, Result, Ok, ap, ◌∙◌, subst}
 use Rattle.std.specs.FinMap as table
 use Rattle.up_canon.specs.Names.{Name}
 use Rattle.up_canon.specs.declared.refusal.Refusal.{Refusal}
-use Rattle.up_sign.specs.Schemes.{Rules}
 use Rattle.up_plan.specs.Campaigns.{CampaignData}
 use Rattle.up_machine.specs.declared.decision.Decision.{Decision}
 use Rattle.up_machine.specs.declared.decision.Decision.TheVariants.{Already, New}
@@ -46,23 +45,23 @@ when_closing s name Already row computed is h = cc
 when_closing s name (New other) row computed is h = let same : other ≡ row = cc in
     subst (λ (c : CampaignData). IsClosed s name c computed) same (record { was = h.0; there = h.1; is = h.2; decided = h.3 })
 
-pub when_repeated : (k : Rules) (s : State) (name : Name) (d : Delivered) (reply : Reply) (computed : Result Outcome Refusal) → d ≡ Repeat reply
+pub when_repeated : (s : State) (name : Name) (d : Delivered) (reply : Reply) (computed : Result Outcome Refusal) → d ≡ Repeat reply
     → GivesDelivered s name (Ok d) computed → computed ≡ Ok (record { answer = Replied reply; next = s })
-when_repeated k s name (Repeat other) reply computed is h =
+when_repeated s name (Repeat other) reply computed is h =
     let same : other ≡ reply = cc in h ∙ ap (λ (r : Reply). Ok (record { answer = Replied r; next = s })) same
-when_repeated k s name (Accepted rows) reply computed is h = cc
+when_repeated s name (Accepted rows) reply computed is h = cc
 
 -- the vehicle and the entry that an accepted manifest gives it
-pub record IsAccepted (k : Rules) (s : State) (name : Name) (rows : AcceptedRows) (computed : Result Outcome Refusal) : Type 0 where
+pub record IsAccepted (s : State) (name : Name) (rows : AcceptedRows) (computed : Result Outcome Refusal) : Type 0 where
   pub vehicle : Vehicle
   pub entry : Entry
   pub found : table.get s.vehicles name ≡ Some vehicle
   pub decided : computed ≡ Ok (record { answer = Replied (reply_kept rows.kept); next = with_entry s name vehicle entry })
-  pub has : HasAcceptedRows s name vehicle entry rows
+  pub has : HasAcceptedRows name vehicle entry rows
 
-pub when_accepted : (k : Rules) (s : State) (name : Name) (d : Delivered) (rows : AcceptedRows) (computed : Result Outcome Refusal) → d ≡ Accepted rows
-    → GivesDelivered s name (Ok d) computed → IsAccepted k s name rows computed
-when_accepted k s name (Repeat reply) rows computed is h = cc
-when_accepted k s name (Accepted other) rows computed is h =
+pub when_accepted : (s : State) (name : Name) (d : Delivered) (rows : AcceptedRows) (computed : Result Outcome Refusal) → d ≡ Accepted rows
+    → GivesDelivered s name (Ok d) computed → IsAccepted s name rows computed
+when_accepted s name (Repeat reply) rows computed is h = cc
+when_accepted s name (Accepted other) rows computed is h =
     let same : other ≡ rows = cc in
-    subst (λ (r : AcceptedRows). IsAccepted k s name r computed) same (record { vehicle = h.0; entry = h.1; found = h.2; decided = h.3; has = h.4 })
+    subst (λ (r : AcceptedRows). IsAccepted s name r computed) same (record { vehicle = h.0; entry = h.1; found = h.2; decided = h.3; has = h.4 })

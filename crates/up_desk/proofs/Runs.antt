@@ -363,7 +363,7 @@ ran_all laws k old cs answers new sound ran =
       state = state;
       with_repeats = state ∙ laws.repeats k old (sent cs answers) whole.fits sound;
       stays = λ vehicle number reply kept.
-          subst (λ (s : State). kept_reply s vehicle number ≡ Some reply) (sym state) (laws.replies k old (thinned k old (sent cs answers)) vehicle number reply sound kept);
+          subst (λ (s : State). kept_reply s vehicle number ≡ Some reply) (sym state) (laws.replies k old (thinned k old (sent cs answers)) vehicle number reply kept);
       apart = λ name.
           let alone = laws.apart k old name (sent cs answers) in
           (ap (λ (s : State). table.get s.vehicles name) whole.state ∙ alone.0, alone.1);

@@ -19,7 +19,7 @@ returns-in-Ok-Repeat g c inside =
     let k = g.K.Scheme.rules c.args.scheme.now in
     let name = c.args.incoming.now.manifest.vehicle in
     unchanged_with g.D.Store k (λ s fits. fits) (record { fits = c.decide.ensures.kept.fits inside; can = c.decide.ensures.kept.can }) (Replied c.in-Ok-Repeat.reply) (c.in-Ok-Repeat.ensures.decided inside) refl (λ s commit. commit refl)
-    (λ s gives. when_repeated k s name c.in-Ok-Repeat.field-0 c.in-Ok-Repeat.reply _ c.in-Ok-Repeat.field-0-is gives)
+    (λ s gives. when_repeated s name c.in-Ok-Repeat.field-0 c.in-Ok-Repeat.reply _ c.in-Ok-Repeat.field-0-is gives)
 
 pub returns-in-Err : goal.returns-in-Err
 returns-in-Err g c inside =
@@ -40,7 +40,7 @@ returns-in-Ok g c inside =
     (λ all lists held. record { rows = all; lists = lists; recorded = held.0; fits = held.1 }) (λ s fits. fits) (record { fits = c.decide.ensures.kept.fits inside; can = c.decide.ensures.kept.can })
     (λ s sound gives.
     let computed = decide_incoming k s c.args.at c.args.incoming.now in
-    let it = when_accepted k s name c.in-Ok-Accepted.field-0 rows computed c.in-Ok-Accepted.field-0-is gives in
+    let it = when_accepted s name c.in-Ok-Accepted.field-0 rows computed c.in-Ok-Accepted.field-0-is gives in
     record {
       next = with_entry s name it.vehicle it.entry;
       computed_is = subst (λ r. computed ≡ Ok (record { answer = Replied r; next = with_entry s name it.vehicle it.entry })) (sym c.reply_in.ensures) it.decided;
@@ -48,6 +48,6 @@ returns-in-Ok g c inside =
       write = accepting_fits k s name it.vehicle it.entry rows sound c.rows_are_found.ensures.vehicles c.manifests_are_added.ensures c.ecus_tell_their_hash.ensures it.found it.has;
     })
     (λ s sound gives same.
-    let it = when_accepted k s name c.in-Ok-Accepted.field-0 rows (decide_incoming k s c.args.at c.args.incoming.now) c.in-Ok-Accepted.field-0-is gives in
+    let it = when_accepted s name c.in-Ok-Accepted.field-0 rows (decide_incoming k s c.args.at c.args.incoming.now) c.in-Ok-Accepted.field-0-is gives in
     entry_fits s name it.vehicle it.entry _ it.found same)
     c.put_accepted-put.result c.put_of.ensures inside (λ within. of_made g.D.Store (c.put_accepted-put.ensures within))
