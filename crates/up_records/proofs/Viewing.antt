@@ -87,7 +87,7 @@ read_over {A = A} g of_state opened old new result is kept it k =
       reads = reads_over k it.reads kept;
     })
   where
-    found : (r : Result A StoreFault) → IfOk r (λ found. (j : Rules) (s : State) → IfClean (KeepsState j s) (state g opened.held) → found ≡ of_state j s)
+    found : (r : Result A StoreFault) → IfOk r (λ found. (j : Rules) (s : State) → IfClean (KeepsState s) (state g opened.held) → found ≡ of_state j s)
         → IfOk r (λ found. (s : State) → standing.IfClean (ShowsState s) (standing.state g opened) → found ≡ of_state k s)
     found (Ok x) told = λ s was. told k s (λ clean. (was clean).tables)
     found (Err f) told = tt
