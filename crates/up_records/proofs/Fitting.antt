@@ -290,7 +290,7 @@ accepted_numbers k s name v e new sound has =
     let size : length (v.entries ++ e ∷ []) ≡ length v.entries + 1 = length-append v.entries (e ∷ []) in
     let version : version v.entries + 1 < 2 ^ 63 = omega (arith, counts.0, counts.1, size) in
     let grounded = last_of (IsGrounded next) v.entries e (sound.vehicles name after there).grounded in
-    let root : e.root < 2 ^ 63 = omega (arith, grounded.to, sound.repositories.root_limit) in
+    let root : e.root < 2 ^ 63 = omega (arith, grounded.to, sound.repositories.director_limit) in
     record {
       vehicle = subst FitsVehicle (sym has.vehicle) (vehicle_numbers k next name after sound there);
       version = subst (λ (row : Kept). row.version < 2 ^ 63) (sym has.kept) version;
