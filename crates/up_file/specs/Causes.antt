@@ -45,7 +45,7 @@ NamesUs row = column row 0 ≡ Text (codes "uptane_desk")
 
 -- the row names a schema above the latest that this program knows
 abbrev pub NamesNewer : Row → Type 0
-NamesNewer row = (number : ℤ) × (column row 1 ≡ Int number) × IsTrue (int_lt (pos 3) number)
+NamesNewer row = (number : ℤ) × (column row 1 ≡ Int number) × IsTrue (int_lt (pos 4) number)
 
 -- what is told of the row of `meta`, in a database that isn't taken
 abbrev pub RowTells : Row → Unopened → Type 0
