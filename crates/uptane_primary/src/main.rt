@@ -4,8 +4,8 @@
 use std::io::{self, Write};
 use std::process::ExitCode;
 use std::{env, fs};
+use up_primary_files::manifest::manifest_of;
 use up_primary_files::round::{Outcome, judge_files};
-use up_reporting::built::manifest_of;
 
 /// How the program ends.
 enum Ended {

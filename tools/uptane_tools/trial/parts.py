@@ -43,7 +43,7 @@ LANES = {
         "up_desk": "commands, the headline", "up_service": "scripts, streams",
         "up_shipped": "what ships", "up_main": "the programs' parts", "uptane_desk": "under HMAC",
         "uptane_desk_ed25519": "under Ed25519", "up_primary_files": "a Primary's files",
-        "up_reporting": "its manifests", "uptane_primary": "a Primary"}, "bytes and HTTP": {
+        "uptane_primary": "a Primary"}, "bytes and HTTP": {
             "up_pieces": "bytes in pieces", "up_lines": "lines", "up_script": "lines of scripts",
             "up_heads": "heads, routes", "up_http": "requests", "up_connections": "many at once",
             "up_sockets": "their sockets", "up_program": "statuses, messages"}}

@@ -2,7 +2,7 @@
 ghost use Rattle.std.specs.Prelude.{◌≡◌, IfOk, IsTrue};
 ghost use Rattle.up_canon.specs.Members.{object_of_map};
 ghost use Rattle.up_canon.specs.Refusals.{Gives};
-ghost use Rattle.up_reporting.specs.Listed.{secret_in};
+ghost use Rattle.up_primary_files.specs.Manifests.{secret_in};
 
 use serde_json::{Map, Value};
 use std::alloc::Global;
@@ -12,7 +12,7 @@ use up_canon::refusal::Refusal;
 use up_sign::scheme::Scheme;
 
 /// The secret of the member `key`, of 64 hexadecimal digits, where it is one of the scheme.
-#[tactic(auto, unfolding(crate::specs::Listed::secret_in, up_canon::specs::Steps::and_then))]
+#[tactic(auto, unfolding(crate::specs::Manifests::secret_in, up_canon::specs::Steps::and_then))]
 pub(crate) fn secret_at<K: Scheme>(
     alloc: Global,
     scheme: &K,

@@ -5,7 +5,7 @@ ghost use Rattle.serde_json.specs.View.{view};
 ghost use Rattle.up_canon.specs.Members.{object_of_map, values_of};
 ghost use Rattle.up_canon.specs.Refusals.{Gives};
 ghost use Rattle.up_canon.specs.Steps.{each};
-ghost use Rattle.up_reporting.specs.Listed.{envelope_of as envelope_of_value, report_of as report_of_value, image_of as image_of_value, moment_as, time_in, second_hash_in};
+ghost use Rattle.up_primary_files.specs.Manifests.{envelope_of as envelope_of_value, report_of as report_of_value, image_of as image_of_value, moment_as, time_in, second_hash_in};
 ghost use Rattle.up_sign.specs.Formats.{envelope_fits};
 
 use crate::signing::secret_at;
@@ -40,7 +40,7 @@ pub(crate) fn envelopes_of<K: Scheme>(
     Ok(Listed::new(envelopes))
 }
 
-#[tactic(auto, unfolding(crate::specs::Listed::envelope_of, up_canon::specs::Steps::and_then))]
+#[tactic(auto, unfolding(crate::specs::Manifests::envelope_of, up_canon::specs::Steps::and_then))]
 fn envelope_of<K: Scheme>(alloc: Global, scheme: &K, value: &Value) -> Result<Envelope, Refusal>
     ensures value { Gives result (envelope_of_value (K.rules scheme.now) (view value.now)) }
     ensures limits { IfOk result (λ envelope. IsTrue (envelope_fits envelope)) }
@@ -55,7 +55,7 @@ fn envelope_of<K: Scheme>(alloc: Global, scheme: &K, value: &Value) -> Result<En
     Ok(built?)
 }
 
-#[tactic(auto, unfolding(crate::specs::Listed::report_of, up_canon::specs::Steps::and_then))]
+#[tactic(auto, unfolding(crate::specs::Manifests::report_of, up_canon::specs::Steps::and_then))]
 fn report_of(alloc: Global, map: &Map<String, Value>) -> Result<Report, Refusal>
     ensures { Gives result (report_of_value (object_of_map map.now.entries)) }
 {
@@ -69,7 +69,7 @@ fn report_of(alloc: Global, map: &Map<String, Value>) -> Result<Report, Refusal>
 }
 
 /// The moment of the member `time`, in seconds.
-#[tactic(auto, unfolding(crate::specs::Listed::time_in, up_canon::specs::Steps::and_then))]
+#[tactic(auto, unfolding(crate::specs::Manifests::time_in, up_canon::specs::Steps::and_then))]
 fn time_at(map: &Map<String, Value>) -> Result<Moment, Refusal>
     ensures { Gives result (time_in (object_of_map map.now.entries)) }
 {
@@ -86,7 +86,7 @@ fn moment_of(second: u64) -> Result<Moment, Refusal>
     }
 }
 
-#[tactic(auto, unfolding(crate::specs::Listed::image_of, up_canon::specs::Steps::and_then))]
+#[tactic(auto, unfolding(crate::specs::Manifests::image_of, up_canon::specs::Steps::and_then))]
 fn image_of(alloc: Global, map: &Map<String, Value>) -> Result<Installed, Refusal>
     ensures { Gives result (image_of_value (object_of_map map.now.entries)) }
 {
@@ -99,7 +99,7 @@ fn image_of(alloc: Global, map: &Map<String, Value>) -> Result<Installed, Refusa
 }
 
 /// The SHA-512, where there is one.
-#[tactic(auto, unfolding(crate::specs::Listed::second_hash_in, up_canon::specs::Steps::and_then))]
+#[tactic(auto, unfolding(crate::specs::Manifests::second_hash_in, up_canon::specs::Steps::and_then))]
 fn second_hash_at(map: &Map<String, Value>) -> Result<Option<[u8; 64]>, Refusal>
     ensures { Gives result (second_hash_in (object_of_map map.now.entries)) }
 {

@@ -4,8 +4,8 @@ use Rattle.std.specs.List.{list_all}
 use Rattle.up_canon.specs.Members.{values_of}
 use Rattle.up_canon.specs.Steps.{each, and_then}
 use Rattle.up_sign.specs.Formats.{envelope_fits}
-use Rattle.up_reporting.specs.Listed.{envelope_of}
-use Rattle.up_reporting.proofs.report.envelopes_of.Given as goal
+use Rattle.up_primary_files.specs.Manifests.{envelope_of}
+use Rattle.up_primary_files.proofs.report.envelopes_of.Given as goal
 
 -- an envelope for each value so far, each within its limits
 abbrev pub invariant-loop-value : goal.invariant-loop-value

@@ -6,7 +6,7 @@ ghost use Rattle.serde_json.specs.Find.{get};
 ghost use Rattle.serde_json.specs.View.{view};
 ghost use Rattle.up_canon.specs.Members.{IsFault, object_of_map};
 ghost use Rattle.up_canon.specs.Refusals.{Gives, GivesAs};
-ghost use Rattle.up_reporting.specs.Listed.{manifest_in, manifest_of as manifest_of_value, manifest_by, method_as, counter_in, reports_in};
+ghost use Rattle.up_primary_files.specs.Manifests.{manifest_in, manifest_of as manifest_of_value, manifest_by, method_as, counter_in, reports_in};
 ghost use Rattle.up_sign.specs.Formats.{envelope_fits};
 ghost use Rattle.up_canon.specs.Canon.{max_count};
 
@@ -36,7 +36,7 @@ const MOST_REPORTS: usize = 64;
 /// the Primary's secret `key` in hex, `counter`, and `reports`, each an `ecu` with its `key`, `counter`, `time` in seconds,
 /// `attack`, and its image: `file`, `length`, `sha256`, and `sha512` where it has one. `NotJson`, `BadShape` with the name of the
 /// first member at fault, `Memory`.
-#[tactic(auto, unfolding(crate::specs::Listed::manifest_in, up_canon::specs::Steps::and_then))]
+#[tactic(auto, unfolding(crate::specs::Manifests::manifest_in, up_canon::specs::Steps::and_then))]
 pub fn manifest_of(alloc: Global, text: &str) -> Result<String, Refusal>
     ensures { GivesAs string_bytes result (manifest_in text.now) }
 {
@@ -47,7 +47,7 @@ pub fn manifest_of(alloc: Global, text: &str) -> Result<String, Refusal>
     built
 }
 
-#[tactic(auto, unfolding(crate::specs::Listed::manifest_of, up_canon::specs::Steps::and_then))]
+#[tactic(auto, unfolding(crate::specs::Manifests::manifest_of, up_canon::specs::Steps::and_then))]
 fn built_of(alloc: Global, value: &Value) -> Result<String, Refusal>
     ensures { GivesAs string_bytes result (manifest_of_value (view value.now)) }
 {
@@ -73,7 +73,7 @@ fn method_at<'a>(map: &'a Map<String, Value>) -> Result<&'a str, &'static str>
     }
 }
 
-#[tactic(auto, unfolding(crate::specs::Listed::manifest_by, up_canon::specs::Steps::and_then))]
+#[tactic(auto, unfolding(crate::specs::Manifests::manifest_by, up_canon::specs::Steps::and_then))]
 fn built_by<K: Scheme>(
     alloc: Global,
     scheme: &K,
@@ -103,7 +103,7 @@ fn built_by<K: Scheme>(
 }
 
 /// The counter, from 1 on.
-#[tactic(auto, unfolding(crate::specs::Listed::counter_in, up_canon::specs::Steps::and_then))]
+#[tactic(auto, unfolding(crate::specs::Manifests::counter_in, up_canon::specs::Steps::and_then))]
 fn counter_at(map: &Map<String, Value>) -> Result<Count, Refusal>
     ensures value { Gives result (counter_in (object_of_map map.now.entries)) }
     ensures limits { IfOk result (λ n. (1 ≤ n) × (n ≤ max_count)) }
@@ -116,7 +116,7 @@ fn counter_at(map: &Map<String, Value>) -> Result<Count, Refusal>
 }
 
 /// The envelopes of at most 64 reports.
-#[tactic(auto, unfolding(crate::specs::Listed::reports_in, up_canon::specs::Steps::and_then))]
+#[tactic(auto, unfolding(crate::specs::Manifests::reports_in, up_canon::specs::Steps::and_then))]
 fn reports_at<K: Scheme>(
     alloc: Global,
     scheme: &K,

@@ -1,2 +1,0 @@
--- The manifest that a list of reports means.
-pub mod Listed
