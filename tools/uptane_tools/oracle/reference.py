@@ -401,8 +401,10 @@ class Desk:
         return meta
 
     def keys(self, repository: str, role: str) -> list[bytes]:
-        """The secrets of a role, of the last root version."""
-        sql = "SELECT secret FROM role_key WHERE repository = ? AND role = ? ORDER BY place"
+        """The secrets of a role, in its repository's last root version."""
+        of = {"director": "meta", "image": "image_repository"}[repository]
+        sql = ("SELECT secret FROM role_key WHERE root = (SELECT root FROM %s) AND repository = ? "
+               "AND role = ? ORDER BY place") % of
         return [row[0] for row in self.all(sql, repository, role)]
 
     def images(self) -> dict[str, dict[str, Any]]:
