@@ -365,7 +365,7 @@ def marks(before: dict[str, list[list[Any]]],
 def but_for(wanted: Any, rows: Any, marked: Any) -> Any:
     """The rows that are wanted, with the damaged value where it still stands."""
     for (table, at, column), value in marked:
-        if rows[table][at][column] == value:
+        if at < len(rows[table]) and rows[table][at][column] == value:
             wanted[table][at][column] = value
     return wanted
 
