@@ -29,8 +29,7 @@ use Rattle.up_verify.specs.declared.trust.Trust.{Trust}
 use Rattle.up_verify.specs.Verifiers.{Verifier, is_signed_for}
 use Rattle.up_verify.specs.Roots.{same_repository, or_unread}
 use Rattle.up_verify.specs.declared.asked.Asked.{Asked}
-use Rattle.up_verify.specs.declared.asked.Says.{Says}
-use Rattle.up_verify.specs.Files.{same_vehicle, of_file, check_file, check_timestamp, check_snapshot, check_targets, check_files}
+use Rattle.up_verify.specs.Files.{Says, same_vehicle, of_file, check_file, check_timestamp, check_snapshot, check_targets, check_files}
 use Rattle.up_primary.specs.Following.{can_read, AreUpTo}
 use Rattle.up_primary.proofs.NextRoot.{Known, ReadRoles, sealed_for, same_one, among_itself}
 use Rattle.up_verify.proofs.Steps.{go_ok, pass}

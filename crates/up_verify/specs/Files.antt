@@ -23,9 +23,15 @@ use Rattle.up_verify.specs.declared.refused.Refused.TheVariants.{File}
 use Rattle.up_verify.specs.declared.trust.Trust.{Trust}
 use Rattle.up_verify.specs.declared.served.Checked.{Checked}
 use Rattle.up_verify.specs.declared.asked.Asked.{Asked}
-use Rattle.up_verify.specs.declared.asked.Says.{Says}
 use Rattle.up_verify.specs.Verifiers.{Verifier, is_signed_for}
 use Rattle.up_verify.specs.Roots.{same_repository, or_unread}
+
+-- what a file says of itself
+pub record Says : Type 0 where
+  pub repository : Repository
+  pub vehicle : Option Name
+  pub version : ℕ
+  pub expires : ℕ
 
 -- both name the same vehicle, or none
 abbrev pub same_vehicle : Option Name → Option Name → Bool

@@ -12,10 +12,10 @@ pub struct Asked {
 }
 
 /// What a file says of itself.
-#[derive(Drop)]
-pub struct Says {
-    pub repository: Repository,
-    pub vehicle: Option<Ident>,
-    pub version: u64,
-    pub expires: Moment,
+#[derive(Clone, Copy)]
+pub(crate) struct Says<'a> {
+    pub(crate) repository: Repository,
+    pub(crate) vehicle: &'a Option<Ident>,
+    pub(crate) version: u64,
+    pub(crate) expires: Moment,
 }

@@ -130,8 +130,16 @@ fn check_timestamp<K: Shows>(
 ) -> Result<TimestampFile, Fault>
     ensures { ChecksFile result (check_timestamp_of (verifier (K.rules scheme.now) (K.reading scheme.now) held.now) asked.now trust.now bytes.now) }
 {
-    let (file, envelope) = timestamp_at(alloc, bytes)?;
-    match test_timestamp(alloc, scheme, held, asked, trust, &file, &envelope) {
+    let (file, envelope) = read_timestamp(alloc, bytes)?;
+    let says = Says {
+        repository: file.repository,
+        vehicle: &file.vehicle,
+        version: file.version,
+        expires: file.expires,
+    };
+    let role = &trust.root.timestamp;
+    let last = trust.versions.timestamp;
+    match check_file(alloc, scheme, held, asked, role, last, says, &envelope) {
         Ok(()) => {
             drop(envelope);
             Ok(file)
@@ -142,37 +150,6 @@ fn check_timestamp<K: Shows>(
             drop(envelope);
             Err(fault)
         }
-    }
-}
-
-fn test_timestamp<K: Shows>(
-    alloc: Global,
-    scheme: &K,
-    held: &[KnownKey],
-    asked: &Asked,
-    trust: &Trust,
-    file: &TimestampFile,
-    envelope: &Envelope,
-) -> Result<(), Fault>
-    ensures { ChecksFile result (check_file_of (verifier (K.rules scheme.now) (K.reading scheme.now) held.now) asked.now trust.now.root.timestamp trust.now.versions.timestamp (record { repository = file.now.repository; vehicle = file.now.vehicle; version = file.now.version; expires = file.now.expires }) envelope.now) }
-{
-    let says = Says {
-        repository: file.repository,
-        vehicle: file.vehicle.copy(alloc)?,
-        version: file.version,
-        expires: file.expires,
-    };
-    let role = &trust.root.timestamp;
-    let last = trust.versions.timestamp;
-    check_file(alloc, scheme, held, asked, role, last, &says, envelope)
-}
-
-fn timestamp_at(alloc: Global, bytes: &[u8]) -> Result<(TimestampFile, Envelope), Fault>
-    ensures { ChecksFile result (or_unread (timestamp_in bytes.now)) }
-{
-    match read_timestamp(alloc, bytes) {
-        Ok(read) => Ok(read),
-        Err(refusal) => Err(Fault::Unread(refusal)),
     }
 }
 
@@ -191,13 +168,21 @@ fn check_snapshot<K: Shows>(
 ) -> Result<SnapshotFile, Fault>
     ensures { ChecksFile result (check_snapshot_of (verifier (K.rules scheme.now) (K.reading scheme.now) held.now) asked.now trust.now timestamp.now bytes.now) }
 {
-    let (file, envelope) = snapshot_at(alloc, bytes)?;
+    let (file, envelope) = read_snapshot(alloc, bytes)?;
     if !is_named(timestamp, bytes, file.version) {
         drop(file);
         drop(envelope);
         return Err(Fault::NotNamed);
     }
-    match test_snapshot(alloc, scheme, held, asked, trust, &file, &envelope) {
+    let says = Says {
+        repository: file.repository,
+        vehicle: &file.vehicle,
+        version: file.version,
+        expires: file.expires,
+    };
+    let role = &trust.root.snapshot;
+    let last = trust.versions.snapshot;
+    match check_file(alloc, scheme, held, asked, role, last, says, &envelope) {
         Ok(()) => {
             drop(envelope);
             Ok(file)
@@ -216,37 +201,6 @@ fn is_named(timestamp: &TimestampFile, bytes: &[u8], version: u64) -> bool
 {
     let hash = Sha256::digest(bytes);
     hash[..] == timestamp.snapshot_sha256[..] && version == timestamp.snapshot_version
-}
-
-fn test_snapshot<K: Shows>(
-    alloc: Global,
-    scheme: &K,
-    held: &[KnownKey],
-    asked: &Asked,
-    trust: &Trust,
-    file: &SnapshotFile,
-    envelope: &Envelope,
-) -> Result<(), Fault>
-    ensures { ChecksFile result (check_file_of (verifier (K.rules scheme.now) (K.reading scheme.now) held.now) asked.now trust.now.root.snapshot trust.now.versions.snapshot (record { repository = file.now.repository; vehicle = file.now.vehicle; version = file.now.version; expires = file.now.expires }) envelope.now) }
-{
-    let says = Says {
-        repository: file.repository,
-        vehicle: file.vehicle.copy(alloc)?,
-        version: file.version,
-        expires: file.expires,
-    };
-    let role = &trust.root.snapshot;
-    let last = trust.versions.snapshot;
-    check_file(alloc, scheme, held, asked, role, last, &says, envelope)
-}
-
-fn snapshot_at(alloc: Global, bytes: &[u8]) -> Result<(SnapshotFile, Envelope), Fault>
-    ensures { ChecksFile result (or_unread (snapshot_in bytes.now)) }
-{
-    match read_snapshot(alloc, bytes) {
-        Ok(read) => Ok(read),
-        Err(refusal) => Err(Fault::Unread(refusal)),
-    }
 }
 
 // ---- Targets
@@ -270,7 +224,15 @@ fn check_targets<K: Shows>(
         drop(envelope);
         return Err(Fault::NotNamed);
     }
-    match test_targets(alloc, scheme, held, asked, trust, &file, &envelope) {
+    let says = Says {
+        repository: file.repository,
+        vehicle: &file.vehicle,
+        version: file.version,
+        expires: file.expires,
+    };
+    let role = &trust.root.targets;
+    let last = trust.versions.targets;
+    match check_file(alloc, scheme, held, asked, role, last, says, &envelope) {
         Ok(()) => {
             drop(envelope);
             Ok(file)
@@ -281,28 +243,6 @@ fn check_targets<K: Shows>(
             Err(fault)
         }
     }
-}
-
-fn test_targets<K: Shows>(
-    alloc: Global,
-    scheme: &K,
-    held: &[KnownKey],
-    asked: &Asked,
-    trust: &Trust,
-    file: &TargetsFile,
-    envelope: &Envelope,
-) -> Result<(), Fault>
-    ensures { ChecksFile result (check_file_of (verifier (K.rules scheme.now) (K.reading scheme.now) held.now) asked.now trust.now.root.targets trust.now.versions.targets (record { repository = file.now.repository; vehicle = file.now.vehicle; version = file.now.version; expires = file.now.expires }) envelope.now) }
-{
-    let says = Says {
-        repository: file.repository,
-        vehicle: file.vehicle.copy(alloc)?,
-        version: file.version,
-        expires: file.expires,
-    };
-    let role = &trust.root.targets;
-    let last = trust.versions.targets;
-    check_file(alloc, scheme, held, asked, role, last, &says, envelope)
 }
 
 fn targets_at(alloc: Global, bytes: &[u8]) -> Result<(TargetsFile, Envelope), Fault>
@@ -330,15 +270,15 @@ fn check_file<K: Shows>(
     asked: &Asked,
     role: &RoleKeys,
     last: u64,
-    says: &Says,
+    says: Says<'_>,
     envelope: &Envelope,
 ) -> Result<(), Fault>
-    ensures { ChecksFile result (check_file_of (verifier (K.rules scheme.now) (K.reading scheme.now) held.now) asked.now role.now last says.now envelope.now) }
+    ensures { ChecksFile result (check_file_of (verifier (K.rules scheme.now) (K.reading scheme.now) held.now) asked.now role.now last (record { repository = says.entry.repository; vehicle = says.entry.vehicle.now; version = says.entry.version; expires = says.entry.expires }) envelope.now) }
 {
     if !same_repository(says.repository, asked.repository) {
         return Err(Fault::OtherRepository);
     }
-    if !same_vehicle(&says.vehicle, &asked.vehicle) {
+    if !same_vehicle(says.vehicle, &asked.vehicle) {
         return Err(Fault::OtherVehicle);
     }
     if !is_signed_for(alloc, scheme, held, role, envelope)? {

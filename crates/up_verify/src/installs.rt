@@ -78,7 +78,12 @@ fn check_target_for(
 fn own_ecu<'a>(ecus: &'a [OwnEcu], name: &Ident) -> Option<&'a OwnEcu>
     ensures { option_copied result ≡ own_ecu_in ecus.now name.now }
 {
-    ecus.iter().find(|own| own.ecu.text() == name.text())
+    for own in ecus {
+        if own.ecu.text() == name.text() {
+            return Some(own);
+        }
+    }
+    None
 }
 
 /// Of an ECU that the vehicle hasn't: whether it was replaced, or never there.
@@ -97,14 +102,24 @@ fn not_own(alloc: Global, replaced: &[Ident], name: &Ident) -> Result<Refused, A
 fn is_among(names: &[Ident], name: &Ident) -> bool
     ensures { result ≡ list_any (bytes_eq name.now) names.now }
 {
-    names.iter().any(|other| name.text() == other.text())
+    for other in names {
+        if name.text() == other.text() {
+            return true;
+        }
+    }
+    false
 }
 
 /// Whether it is one of these images.
 fn is_image(images: &[Target], target: &Target) -> bool
     ensures { result ≡ list_any (same_target_as target.now) images.now }
 {
-    images.iter().any(|image| same_target(target, image))
+    for image in images {
+        if same_target(target, image) {
+            return true;
+        }
+    }
+    false
 }
 
 fn same_target(a: &Target, b: &Target) -> bool

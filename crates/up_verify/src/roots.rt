@@ -149,14 +149,23 @@ fn same_keys(a: &RoleKeys, b: &RoleKeys) -> bool
 fn have_ids(keys: &[RootKey], others: &[RootKey]) -> bool
     ensures { result ≡ list_all (has_id_in keys.now) others.now }
 {
-    others.iter().all(|key| has_id(keys, key))
+    for key in others {
+        if !has_id(keys, key) {
+            return false;
+        }
+    }
+    true
 }
 
 fn has_id(keys: &[RootKey], key: &RootKey) -> bool
     ensures { result ≡ has_id_in keys.now key.now }
 {
-    keys.iter()
-        .any(|own| own.keyid.as_str() == key.keyid.as_str())
+    for own in keys {
+        if own.keyid.as_str() == key.keyid.as_str() {
+            return true;
+        }
+    }
+    false
 }
 
 /// Each Root in its turn. What was verified stays, whatever comes behind it.

@@ -185,7 +185,12 @@ fn has_signed<K: Shows>(
 fn any_signs<K: Shows>(scheme: &K, held: &[KnownKey], key: &RootKey, envelope: &Envelope) -> bool
     ensures { result ≡ list_any (λ p. is_of_key key.now p && is_satisfied (K.rules scheme.now) envelope.now p) held.now }
 {
-    held.iter().any(|own| signs(scheme, own, key, envelope))
+    for own in held {
+        if signs(scheme, own, key, envelope) {
+            return true;
+        }
+    }
+    false
 }
 
 /// Whether the public part has the key's identifier, and has signed the envelope.
