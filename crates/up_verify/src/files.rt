@@ -1,8 +1,6 @@
 //! A repository's Timestamp, Snapshot and Targets under its trusted Root.
 ghost use Rattle.std.specs.Prelude.{◌≡◌, ◌==◌, ◌&&◌, bytes_eq};
 ghost use Rattle.sha2.specs.Sha256.{sha256};
-ghost use Rattle.up_roles.specs.Timestamp.{timestamp_in};
-ghost use Rattle.up_roles.specs.Snapshot.{snapshot_in};
 ghost use Rattle.up_roles.specs.Targets.{targets_in};
 ghost use Rattle.up_verify.specs.Files.{same_vehicle as same_vehicle_as, check_file as check_file_of, check_timestamp as check_timestamp_of, check_snapshot as check_snapshot_of, check_targets as check_targets_of, of_file, check_files as check_files_of};
 ghost use Rattle.up_verify.specs.Results.{ChecksFile, Verifies};
@@ -21,7 +19,6 @@ use crate::trust::{Trust, Versions};
 use sha2::{Digest, Sha256};
 use std::alloc::Global;
 use up_canon::ident::Ident;
-use up_canon::listed::Duplicate;
 use up_metadata::role_files::RoleTexts;
 use up_roles::root::RoleKeys;
 use up_roles::snapshot::{SnapshotFile, read_snapshot};

@@ -152,16 +152,10 @@ impl Item for Ident {
     ghost is_fit = { is_ident };
 
     fn take(alloc: Global, cursor: &mut Cursor<'_>) -> Result<Ident, Unread> {
-        let name = ident(alloc, cursor)?;
+        let text = cursor.quoted()?.to_string(alloc)?;
+        let name = Ident::new(text).ok_or(Unread)?;
         // Noted for the proof: what an identifier is.
         name.text();
         Ok(name)
     }
-}
-
-fn ident(alloc: Global, cursor: &mut Cursor<'_>) -> Result<Ident, Unread>
-    ensures { IfOk result (λ name. cursor.old.rest.now ≡ text_of (string name) ++ cursor.new.rest.now) }
-{
-    let text = cursor.quoted()?.to_string(alloc)?;
-    Ident::new(text).ok_or(Unread)
 }

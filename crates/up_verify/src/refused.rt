@@ -1,5 +1,5 @@
 //! Why what was served isn't accepted.
-use std::alloc::{AllocError, AllocFailed};
+use std::alloc::AllocError;
 use up_canon::file_name::FileName;
 use up_canon::ident::Ident;
 use up_canon::refusal::Refusal;
@@ -98,17 +98,6 @@ impl From<AllocError> for Refused {
     ghost from_gives = { λ _ e. e ≡ Memory };
 
     fn from(_: AllocError) -> Self {
-        Refused::Memory
-    }
-}
-
-impl<T: Drop> From<AllocFailed<T>> for Refused {
-    ghost use Rattle.std.specs.Prelude.{◌≡◌};
-    ghost use Rattle.up_verify.specs.declared.refused.Refused.TheVariants.{Memory};
-
-    ghost from_gives = { λ _ e. e ≡ Memory };
-
-    fn from(_: AllocFailed<T>) -> Self {
         Refused::Memory
     }
 }

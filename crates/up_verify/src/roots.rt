@@ -1,9 +1,8 @@
 //! From the trusted Root to the latest one, version by version.
 ghost use Rattle.std.specs.Prelude.{◌≡◌, ◌==◌, ◌+◌};
 ghost use Rattle.std.specs.List.{list_all, list_any};
-ghost use Rattle.up_roles.specs.Root.{root_in};
 ghost use Rattle.up_verify.specs.Results.{ChecksFile, PassesFile, Follows};
-ghost use Rattle.up_verify.specs.Roots.{same_repository as same_repository_as, or_unread, if_next as if_next_of, next_root as next_root_of, has_id as has_id_in, same_keys as same_keys_as, kept_if as kept_if_of, same_listing_keys as same_listing_keys_as, with_root as with_root_of, follow as follow_roots};
+ghost use Rattle.up_verify.specs.Roots.{same_repository as same_repository_as, if_next as if_next_of, next_root as next_root_of, has_id as has_id_in, same_keys as same_keys_as, kept_if as kept_if_of, same_listing_keys as same_listing_keys_as, with_root as with_root_of, follow as follow_roots};
 ghost use Rattle.up_verify.specs.Verifiers.{verifier};
 
 use crate::known_key::KnownKey;
@@ -37,7 +36,7 @@ pub fn next_root<K: Shows>(
 ) -> Result<RootFile, Fault>
     ensures { ChecksFile result (next_root_of (verifier (K.rules scheme.now) (K.reading scheme.now) held.now) repository before.now bytes.now) }
 {
-    let (root, envelope) = root_at(alloc, bytes)?;
+    let (root, envelope) = read_root(alloc, bytes)?;
     match test_root(alloc, scheme, held, repository, before, &root, &envelope) {
         Ok(()) => {
             drop(envelope);
@@ -80,16 +79,6 @@ fn test_root<K: Shows>(
         return Err(Fault::NotSigned);
     }
     Ok(())
-}
-
-/// The Root that the bytes are, and its envelope.
-fn root_at(alloc: Global, bytes: &[u8]) -> Result<(RootFile, Envelope), Fault>
-    ensures { ChecksFile result (or_unread (root_in bytes.now)) }
-{
-    match read_root(alloc, bytes) {
-        Ok(read) => Ok(read),
-        Err(refusal) => Err(Fault::Unread(refusal)),
-    }
 }
 
 fn is_next(before: u64, version: u64) -> bool

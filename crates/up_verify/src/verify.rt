@@ -3,7 +3,7 @@
 ghost use Rattle.std.specs.Prelude.{◌≡◌, IfOk, None, Some, nat_lt};
 ghost use Rattle.up_verify.specs.Files.{of_file, check_files as check_files_of};
 ghost use Rattle.up_verify.specs.Results.{Verifies, lacked_memory as lacked_memory_of};
-ghost use Rattle.up_verify.specs.Roots.{follow as follow_roots, latest as latest_of, unless_expired as unless_expired_of};
+ghost use Rattle.up_verify.specs.Roots.{follow as follow_roots, latest as latest_of};
 ghost use Rattle.up_verify.specs.Verifiers.{verifier};
 ghost use Rattle.up_verify.specs.Verify.{are_of_version as are_of_version_as, check_reply as check_reply_of, check_some as check_some_of, check_images as check_images_of, check_installs as check_installs_of, verify as verify_of, is_root as is_root_of, is_expired as is_expired_of, is_old as is_old_of, with_roots as with_roots_of};
 ghost use Rattle.up_verify.specs.declared.refused.Role.TheVariants.{Root as RootRole};
@@ -95,30 +95,17 @@ fn latest_root<K: Shows>(
 fn named_latest(repository: Repository, now: u64, followed: Followed) -> Result<Trust, Refused>
     ensures { result ≡ of_file repository RootRole (latest_of now followed) }
 {
-    match latest(now, followed) {
-        Ok(trust) => Ok(trust),
-        Err(fault) => Err(Refused::File(repository, Role::Root, fault)),
-    }
-}
-
-fn latest(now: u64, followed: Followed) -> Result<Trust, Fault>
-    ensures { result ≡ latest_of now followed }
-{
     let Followed { trust, fault } = followed;
     match fault {
-        Some(fault) => Err(fault),
-        None => unless_expired(now, trust),
-    }
-}
-
-fn unless_expired(now: u64, trust: Trust) -> Result<Trust, Fault>
-    ensures { result ≡ unless_expired_of now trust None }
-{
-    if is_fresh(now, &trust.root) {
-        Ok(trust)
-    } else {
-        drop(trust);
-        Err(Fault::Expired)
+        None if is_fresh(now, &trust.root) => Ok(trust),
+        None => {
+            drop(trust);
+            Err(Refused::File(repository, Role::Root, Fault::Expired))
+        }
+        Some(fault) => {
+            drop(trust);
+            Err(Refused::File(repository, Role::Root, fault))
+        }
     }
 }
 
