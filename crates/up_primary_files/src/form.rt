@@ -1,9 +1,9 @@
 //! Members of JSON objects that files of Primaries have.
 ghost use Rattle.std.specs.Prelude.{◌≡◌, IfOk};
-ghost use Rattle.serde_json.specs.View.{view};
-ghost use Rattle.up_canon.specs.Members.{object_of_map, text_in, text_of as text_of_value};
+ghost use Rattle.up_canon.specs.Members.{list_in, object_of_map, text_in};
 ghost use Rattle.up_canon.specs.Refusals.{Gives};
-ghost use Rattle.up_primary_files.specs.Served.{texts_in, text_or_empty as text_or_empty_of};
+ghost use Rattle.up_canon.specs.Steps.{and_then, each};
+ghost use Rattle.up_primary_files.specs.Served.{text_or_empty as text_or_empty_of};
 
 use serde_json::{Map, Value};
 use std::alloc::Global;
@@ -39,16 +39,16 @@ pub(crate) fn text_of_member(
     Ok(Text::new(text_at(map, name)?.to_string(alloc)?))
 }
 
-/// The texts in the list of a member, each as its bytes.
-#[tactic(auto, unfolding(crate::specs::Served::texts_in, up_canon::specs::Steps::and_then))]
-pub(crate) fn texts_of_member(
+/// What the values in the list of a member mean, in order; the member's name is their place.
+#[tactic(auto, unfolding(up_canon::specs::Steps::and_then))]
+pub(crate) fn each_at<R: Reading>(
     alloc: Global,
     map: &Map<String, Value>,
     name: &'static str,
-) -> Result<Listed<Bytes>, Refusal>
-    ensures { Gives result (texts_in name.now (object_of_map map.now.entries)) }
+) -> Result<Listed<R::Item>, Refusal>
+    ensures { Gives result (and_then (list_in name.now (object_of_map map.now.entries)) (each (R.meaning name.now))) }
 {
-    each_of::<TextReading>(alloc, list_at(map, name)?.as_slice(), name)
+    each_of::<R>(alloc, list_at(map, name)?.as_slice(), name)
 }
 
 /// Texts, each as its bytes; the list's name is the fault of a value that is none.
@@ -62,13 +62,7 @@ impl Reading for TextReading {
     ghost meaning = { text_of_value };
 
     fn read(alloc: Global, value: &Value, place: &'static str) -> Result<Bytes, Refusal> {
-        bytes_of(alloc, value, place)
+        let text = text_of(value, place)?;
+        Ok(Bytes::new(text.as_bytes().to_vec(alloc)?))
     }
-}
-
-fn bytes_of(alloc: Global, value: &Value, place: &'static str) -> Result<Bytes, Refusal>
-    ensures { Gives result (text_of_value place.now (view value.now)) }
-{
-    let text = text_of(value, place)?;
-    Ok(Bytes::new(text.as_bytes().to_vec(alloc)?))
 }

@@ -1,5 +1,6 @@
 //! The files of a Primary's state and of what was served: the verdict, and the file of the state behind it.
-ghost use Rattle.std.specs.Prelude.{◌≡◌, IfOk, Ok, string_bytes};
+ghost use Rattle.std.specs.Prelude.{◌≡◌, ◌++◌, IfOk, Ok, codes, string_bytes};
+ghost use Rattle.up_canon.specs.Refusals.{refusal_text};
 ghost use Rattle.up_primary_files.specs.Rounds.{IsVerified, IsUnread, IsFrom, IsOutcome};
 ghost use Rattle.up_primary_files.specs.Written.{IsWhole};
 
@@ -65,14 +66,15 @@ fn outcome_of(
 fn unread(alloc: Global, state: &str, refusal: &Refusal) -> Result<Outcome, AllocError>
     ensures { IfOk result (IsUnread state.now refusal.now) }
 {
+    let told = told_unread(alloc, refusal)?;
+    with_state(false, told, state.to_string(alloc))
+}
+
+fn told_unread(alloc: Global, refusal: &Refusal) -> Result<String, AllocError>
+    ensures { IfOk result (λ told. string_bytes told ≡ codes "refused reply " ++ refusal_text refusal.now ++ codes "\n") }
+{
     let named = refusal.text(alloc)?;
-    let told = format!(in alloc; "refused reply {named}\n")?;
-    let state = state.to_string(alloc)?;
-    Ok(Outcome {
-        is_accepted: false,
-        told,
-        state,
-    })
+    format!(in alloc; "refused reply {named}\n")
 }
 
 fn verified(alloc: Global, now: u64, before: &State, served: &Served) -> Result<Outcome, AllocError>

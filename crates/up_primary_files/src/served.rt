@@ -4,7 +4,7 @@ ghost use Rattle.serde_json.specs.View.{view};
 ghost use Rattle.up_canon.specs.Members.{object_of_map};
 ghost use Rattle.up_primary_files.specs.Served.{texts_in, AreTexts, IsServedBy, IsServed};
 
-use crate::form::{text_or_empty, texts_of_member};
+use crate::form::{TextReading, each_at, text_or_empty};
 use crate::reply::read_reply;
 use serde_json::{Map, Value};
 use std::alloc::Global;
@@ -64,14 +64,15 @@ struct Files {
     image: RoleTexts,
 }
 
+#[tactic(auto, unfolding(crate::specs::Served::texts_in))]
 fn files_at(alloc: Global, map: &Map<String, Value>) -> Result<Files, Refusal>
     ensures director { IfOk result (λ f. texts_in (codes "director_roots") (object_of_map map.now.entries) ≡ Ok f.director_roots) }
     ensures image { IfOk result (λ f. texts_in (codes "image_roots") (object_of_map map.now.entries) ≡ Ok f.image_roots) }
     ensures files { IfOk result (λ f. AreTexts (object_of_map map.now.entries) f.image) }
 {
     Ok(Files {
-        director_roots: texts_of_member(alloc, map, "director_roots")?,
-        image_roots: texts_of_member(alloc, map, "image_roots")?,
+        director_roots: each_at::<TextReading>(alloc, map, "director_roots")?,
+        image_roots: each_at::<TextReading>(alloc, map, "image_roots")?,
         image: image_at(alloc, map)?,
     })
 }

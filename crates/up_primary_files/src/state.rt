@@ -1,17 +1,15 @@
 //! A Primary's state as a JSON file: its scheme, what it knows of its vehicle, and what it trusts.
 ghost use Rattle.serde_json.specs.View.{view};
-ghost use Rattle.up_canon.specs.HexText.{hex_of as hex_of_value};
 ghost use Rattle.up_canon.specs.Members.{object_of_map};
 ghost use Rattle.up_canon.specs.Refusals.{Gives};
-ghost use Rattle.up_primary_files.specs.States.{versions_of, root_of, trust_of, both_of, ecu_in, ecu_of as ecu_of_value, ecus_of, replaced_of, own_of, primary_of, method_of, held_of, texts_of, kept_of, state_behind as state_behind_of, state_of as state_of_value, state_in};
+ghost use Rattle.up_primary_files.specs.States.{versions_of, root_of, trust_of, both_of, ecu_in, own_of, primary_of, method_of, texts_of, kept_of, state_behind as state_behind_of, state_of as state_of_value, state_in};
 
-use crate::form::text_of_member;
+use crate::form::{each_at, text_of_member};
 use crate::method::Method;
 use serde_json::{Map, Value};
 use std::alloc::Global;
-use up_canon::bytes::Bytes;
-use up_canon::each::{Reading, each_of};
-use up_canon::fields::{count_at, list_at, object_at, text_at};
+use up_canon::each::Reading;
+use up_canon::fields::{count_at, object_at, text_at};
 use up_canon::hex_text::hex_of;
 use up_canon::ident::Ident;
 use up_canon::json_text::value_of_text;
@@ -113,7 +111,7 @@ pub struct Kept {
     pub roots: RootTexts,
 }
 
-#[tactic(auto, unfolding(crate::specs::States::kept_of, up_canon::specs::Steps::and_then))]
+#[tactic(auto, unfolding(crate::specs::States::kept_of, crate::specs::States::held_of, up_canon::specs::Steps::and_then))]
 fn kept_at(
     alloc: Global,
     map: &Map<String, Value>,
@@ -123,7 +121,7 @@ fn kept_at(
     ensures { Gives result (kept_of (object_of_map map.now.entries) (object_of_map director.now.entries) (object_of_map image.now.entries)) }
 {
     let roots = texts_at(alloc, director, image)?;
-    match held_at(alloc, map) {
+    match each_at::<KeyReading>(alloc, map, "held") {
         Ok(held) => Ok(Kept { held, roots }),
         Err(refusal) => {
             drop(roots);
@@ -146,13 +144,6 @@ fn texts_at(
     })
 }
 
-#[tactic(auto, unfolding(crate::specs::States::held_of, up_canon::specs::Steps::and_then))]
-fn held_at(alloc: Global, map: &Map<String, Value>) -> Result<Listed<KnownKey>, Refusal>
-    ensures { Gives result (held_of (object_of_map map.now.entries)) }
-{
-    each_of::<KeyReading>(alloc, list_at(map, "held")?.as_slice(), "held")
-}
-
 /// Public parts; the list's name is the fault of a value that is none.
 pub struct KeyReading;
 
@@ -164,15 +155,8 @@ impl Reading for KeyReading {
     ghost meaning = { hex_of_value 2 128 };
 
     fn read(alloc: Global, value: &Value, place: &'static str) -> Result<KnownKey, Refusal> {
-        key_of(alloc, value, place)
+        Ok(KnownKey::new(alloc, hex_of(alloc, value, place, 2, 128)?)?)
     }
-}
-
-fn key_of(alloc: Global, value: &Value, place: &'static str) -> Result<KnownKey, Refusal>
-    ensures { Gives result (hex_of_value 2 128 place.now (view value.now)) }
-{
-    let public: Bytes = hex_of(alloc, value, place, 2, 128)?;
-    Ok(KnownKey::new(alloc, public)?)
 }
 
 // ---- what is known and trusted
@@ -217,29 +201,15 @@ pub struct Own {
     pub replaced: Listed<Ident>,
 }
 
-#[tactic(auto, unfolding(crate::specs::States::own_of, up_canon::specs::Steps::and_then))]
+#[tactic(auto, unfolding(crate::specs::States::own_of, crate::specs::States::ecus_of, crate::specs::States::replaced_of, up_canon::specs::Steps::and_then))]
 fn own_at(alloc: Global, map: &Map<String, Value>) -> Result<Own, Refusal>
     ensures { Gives result (own_of (object_of_map map.now.entries)) }
 {
     Ok(Own {
         vehicle: ident_at(alloc, map, "vehicle")?,
-        ecus: ecus_at(alloc, map)?,
-        replaced: replaced_at(alloc, map)?,
+        ecus: each_at::<EcuReading>(alloc, map, "ecus")?,
+        replaced: each_at::<IdentReading>(alloc, map, "replaced")?,
     })
-}
-
-#[tactic(auto, unfolding(crate::specs::States::ecus_of, up_canon::specs::Steps::and_then))]
-fn ecus_at(alloc: Global, map: &Map<String, Value>) -> Result<Listed<OwnEcu>, Refusal>
-    ensures { Gives result (ecus_of (object_of_map map.now.entries)) }
-{
-    each_of::<EcuReading>(alloc, list_at(map, "ecus")?.as_slice(), "ecus")
-}
-
-#[tactic(auto, unfolding(crate::specs::States::replaced_of, up_canon::specs::Steps::and_then))]
-fn replaced_at(alloc: Global, map: &Map<String, Value>) -> Result<Listed<Ident>, Refusal>
-    ensures { Gives result (replaced_of (object_of_map map.now.entries)) }
-{
-    each_of::<IdentReading>(alloc, list_at(map, "replaced")?.as_slice(), "replaced")
 }
 
 /// ECUs; the list's name is the fault of a value that is no object.
@@ -252,16 +222,10 @@ impl Reading for EcuReading {
 
     ghost meaning = { ecu_of_value };
 
+    #[tactic(auto, unfolding(crate::specs::States::ecu_of, up_canon::specs::Steps::and_then))]
     fn read(alloc: Global, value: &Value, place: &'static str) -> Result<OwnEcu, Refusal> {
-        ecu_of(alloc, value, place)
+        ecu_at(alloc, object_of(value, place)?)
     }
-}
-
-#[tactic(auto, unfolding(crate::specs::States::ecu_of, up_canon::specs::Steps::and_then))]
-fn ecu_of(alloc: Global, value: &Value, place: &'static str) -> Result<OwnEcu, Refusal>
-    ensures { Gives result (ecu_of_value place.now (view value.now)) }
-{
-    ecu_at(alloc, object_of(value, place)?)
 }
 
 #[tactic(auto, unfolding(crate::specs::States::ecu_in, up_canon::specs::Steps::and_then))]
