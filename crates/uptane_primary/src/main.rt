@@ -40,16 +40,25 @@ fn told(rt: &HostRuntime, status: u8, line: &str) -> ExitCode {
 }
 
 fn carried_out(rt: &HostRuntime) -> Ended {
-    let Ok(mut words) = env::args(rt) else {
+    let Ok(words) = env::args(rt) else {
         return Ended::Usage;
     };
-    words.next();
-    let (Some(first), Some(second)) = (words.next(), words.next()) else {
-        return Ended::Usage;
-    };
-    match (words.next(), words.next()) {
-        (None, None) => built(rt, first.as_str(), second.as_str()),
-        (Some(served), None) => round(rt, first.as_str(), second.as_str(), served.as_str()),
+    match words.collect::<Vec<String>>(rt.alloc()) {
+        Ok(words) => {
+            let ended = asked(rt, words.as_slice());
+            // Dropped by name: at the end of a scope it would be proved part by part.
+            drop(words);
+            ended
+        }
+        Err(_) => Ended::Usage,
+    }
+}
+
+/// What the words ask, the first of which is the program's name.
+fn asked(rt: &HostRuntime, words: &[String]) -> Ended {
+    match words {
+        [_, word, file] => built(rt, word.as_str(), file.as_str()),
+        [_, state, now, served] => round(rt, state.as_str(), now.as_str(), served.as_str()),
         _ => Ended::Usage,
     }
 }
