@@ -41,15 +41,12 @@ fn all_known<K: Shows>(
 ) -> Result<bool, AllocError>
     ensures { IfOk result (λ known. known ≡ list_all (is_known_to (verifier (K.rules scheme.now) (K.reading scheme.now) held.now)) keys.now) }
 {
-    match keys {
-        [] => Ok(true),
-        [key, more @ ..] => {
-            if !is_known(alloc, scheme, held, key)? {
-                return Ok(false);
-            }
-            all_known(alloc, scheme, held, more)
+    for key in keys {
+        if !is_known(alloc, scheme, held, key)? {
+            return Ok(false);
         }
     }
+    Ok(true)
 }
 
 /// Whether the key is one of the scheme, with a public part that is shown so.
@@ -86,15 +83,12 @@ fn any_shown<K: Shows>(
 ) -> Result<bool, AllocError>
     ensures { IfOk result (λ any. any ≡ list_any (λ p. is_of_key key.now p && bytes_eq ((K.rules scheme.now).shown p) key.now.shown) held.now) }
 {
-    match held {
-        [] => Ok(false),
-        [own, more @ ..] => {
-            if is_shown(alloc, scheme, own, key)? {
-                return Ok(true);
-            }
-            any_shown(alloc, scheme, more, key)
+    for own in held {
+        if is_shown(alloc, scheme, own, key)? {
+            return Ok(true);
         }
     }
+    Ok(false)
 }
 
 /// Whether the public part has the key's identifier, and is shown so.
