@@ -7,8 +7,8 @@ pub mod cursor;
 pub mod manifest;
 pub mod manifest_read;
 mod plain;
-pub mod plain_members;
-pub mod plain_report;
+mod plain_members;
+mod plain_report;
 pub mod report;
 mod writing;
 

@@ -1,4 +1,5 @@
-//! Members of objects in canonical text: a piece that ends with the key's colon, and the value behind it.
+//! Members of objects in the form in which Primaries write manifests: a piece that ends with the key's colon, and the value
+//! behind it.
 ghost use Rattle.std.specs.Prelude.{◌≡◌, ◌++◌, IsTrue, IfOk, decimal, length};
 ghost use Rattle.std.specs.List.{list_all};
 ghost use Rattle.hex.specs.Hex.{encode_lower};
@@ -18,7 +19,7 @@ use up_canon::note::Note;
 use up_canon::text::Text;
 
 /// Takes a count.
-pub fn count_behind(cursor: &mut Cursor<'_>, key: &str) -> Result<Count, Unread>
+pub(crate) fn count_behind(cursor: &mut Cursor<'_>, key: &str) -> Result<Count, Unread>
     ensures { IfOk result (λ n. cursor.old.rest.now ≡ key.now ++ (decimal n ++ cursor.new.rest.now)) }
 {
     cursor.pass(key)?;
@@ -38,7 +39,7 @@ pub(crate) fn ident_behind(
 }
 
 /// Takes a filename.
-pub fn file_name_behind(
+pub(crate) fn file_name_behind(
     alloc: Global,
     cursor: &mut Cursor<'_>,
     key: &str,
@@ -59,7 +60,7 @@ pub(crate) fn note_behind(alloc: Global, cursor: &mut Cursor<'_>, key: &str) -> 
 }
 
 /// Takes a moment.
-pub fn moment_behind(cursor: &mut Cursor<'_>, key: &str) -> Result<Moment, Unread>
+pub(crate) fn moment_behind(cursor: &mut Cursor<'_>, key: &str) -> Result<Moment, Unread>
     ensures { IfOk result (λ m. cursor.old.rest.now ≡ key.now ++ (json_string (moment_text m) ++ cursor.new.rest.now)) }
 {
     let text = text_behind(cursor, key)?;
@@ -67,7 +68,7 @@ pub fn moment_behind(cursor: &mut Cursor<'_>, key: &str) -> Result<Moment, Unrea
 }
 
 /// Takes a text of 1 byte or more, and of so many at most.
-pub fn short_text_behind(
+pub(crate) fn short_text_behind(
     alloc: Global,
     cursor: &mut Cursor<'_>,
     key: &str,
@@ -84,7 +85,7 @@ pub fn short_text_behind(
 }
 
 /// Takes a byte or more in hexadecimal digits in lower case, and so many at most.
-pub fn bytes_behind(
+pub(crate) fn bytes_behind(
     alloc: Global,
     cursor: &mut Cursor<'_>,
     key: &str,

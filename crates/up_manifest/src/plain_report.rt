@@ -53,7 +53,7 @@ pub(crate) fn signatures(
 }
 
 /// A copy of the text up to where the rest begins.
-pub fn text_before(alloc: Global, begun: &str, rest: &str) -> Result<Text, Unread>
+pub(crate) fn text_before(alloc: Global, begun: &str, rest: &str) -> Result<Text, Unread>
     ensures { IfOk result (λ t. (part : List ℕ) → begun.now ≡ part ++ rest.now → t ≡ part) }
 {
     let size = begun.len().saturating_sub(rest.len());
@@ -61,8 +61,7 @@ pub fn text_before(alloc: Global, begun: &str, rest: &str) -> Result<Text, Unrea
     Ok(Text::new(taken.to_string(alloc)?))
 }
 
-/// Takes a signature of an envelope.
-pub fn signature(alloc: Global, cursor: &mut Cursor<'_>) -> Result<Signature, Unread>
+fn signature(alloc: Global, cursor: &mut Cursor<'_>) -> Result<Signature, Unread>
     ensures text { IfOk result (λ s. cursor.old.rest.now ≡ text (signature_value s) ++ cursor.new.rest.now) }
     ensures fits { IfOk result (λ s. IsTrue (signature_fits s)) }
     ensures bytes { IfOk result (λ s. IsTrue (list_all is_byte s.sig)) }
@@ -113,8 +112,7 @@ fn installed(alloc: Global, cursor: &mut Cursor<'_>) -> Result<Installed, Unread
     })
 }
 
-/// Takes the object of a SHA-256 and, where there is one, a SHA-512.
-pub fn hashes(cursor: &mut Cursor<'_>) -> Result<([u8; 32], Option<[u8; 64]>), Unread>
+fn hashes(cursor: &mut Cursor<'_>) -> Result<([u8; 32], Option<[u8; 64]>), Unread>
     ensures { IfOk result (λ h. cursor.old.rest.now ≡ text (hashes_value h.0 h.1) ++ cursor.new.rest.now) }
 {
     cursor.pass("{\"sha256\":")?;

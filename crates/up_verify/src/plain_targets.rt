@@ -10,9 +10,9 @@ ghost use Rattle.up_canon.specs.Names.{hardware_fits as hardware_fits_of, is_ide
 ghost use Rattle.up_roles.specs.Targets.{target_fits, target_is_typed, target_value, targets_fits, targets_in, targets_is_typed, targets_payload};
 ghost use Rattle.up_roles.specs.declared.repository.Repository.TheVariants.{Image};
 
-use crate::plain_envelope::signatures;
-use crate::plain_hashes::typed_hashes;
+use crate::plain_envelope::{signatures, text_before};
 use crate::plain_list::{Item, listed};
+use crate::plain_members::{count_behind, file_name_behind, hashes, moment_behind};
 use std::alloc::Global;
 use std::str;
 use up_canon::ident::Ident;
@@ -20,8 +20,6 @@ use up_canon::listed::Listed;
 use up_canon::moment::moment_laws;
 use up_canon::named::hardware_fits;
 use up_manifest::cursor::{Cursor, Unread};
-use up_manifest::plain_members::{count_behind, file_name_behind, moment_behind};
-use up_manifest::plain_report::text_before;
 use up_roles::repository::Repository;
 use up_roles::targets::{Target, TargetsFile};
 use up_sign::envelope::Envelope;
@@ -112,7 +110,7 @@ fn target(alloc: Global, cursor: &mut Cursor<'_>) -> Result<Target, Unread>
     cursor.pass(",\"hardware\":")?;
     let hardware = hardware(alloc, cursor)?;
     cursor.pass(",\"hashes\":")?;
-    let (sha256, sha512) = typed_hashes(cursor)?;
+    let (sha256, sha512) = hashes(cursor)?;
     let length = count_behind(cursor, ",\"length\":")?;
     let release = count_behind(cursor, ",\"release\":")?;
     cursor.pass("}")?;
