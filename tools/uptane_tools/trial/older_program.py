@@ -1,16 +1,18 @@
-"""Has files that an older program of ours wrote raised by this one, and compares what they hold and
-answer. Takes some minutes, needs `strace`, and is no part of the gate, which has no such program.
+"""Has files that an older program of ours wrote raised by this one, and compares what they hold
+and answer. Takes some minutes, needs `strace`, and is no part of the gate, which has no such
+program.
 
     tools/run older_program OLDER PROGRAM [FIRST [NUMBER [SWEPT]]]
 
 OLDER is a program of the scheme that is tried, of an earlier commit, built as `tools/run unproved`
-does it there. Each seed from FIRST (1) on, NUMBER (40) of them, makes a script of `tools/run fuzz`,
-without commands that OLDER doesn't know. OLDER carries it out over a file, to its end or to a moment
-at which it is killed, which leaves a log. PROGRAM then takes the file: each file of the repositories
-is served and each manifest that was answered is answered again as before, byte for byte, over HTTP;
-the rows are those that the file had; and what the script asks is answered by the rules from then on,
-as is a script of another seed behind it. It is killed in the raise, too, at moments in turn; and of
-the first SWEPT (1) seeds at each call of its files, which also fails, alone or with all after it.
+does it there. Each seed from FIRST (1) on, NUMBER (40) of them, makes a script of `tools/run
+fuzz`, without commands that OLDER doesn't know. OLDER carries it out over a file, to its end or to
+a moment at which it is killed, which leaves a log. PROGRAM then takes the file: each file of the
+repositories is served, and each manifest that was answered is answered again, as before, byte for
+byte, over HTTP; the rows are those that the file had; and the rest of the script, the whole once
+more and the script of another seed are answered by the rules. It is killed in the raise, too, at
+moments in turn; and of the first SWEPT (1) seeds at each call of its files, which also fails, alone
+or with all after it.
 
 promise: file-adopted, tables-raised, store-opened
 """
@@ -44,12 +46,13 @@ class Story:
     answers: list[str]
     tables: list[Any]
 
-    def desk(self, done: int) -> reference.Desk:
-        """The rules after so many lines."""
-        desk = reference.Desk(sqlite3.connect(":memory:"))
-        for line in self.lines[:done]:
-            desk.answer(line)
-        return desk
+    def after(self, done: int, asked: list[bytes]) -> tuple[list[str], Any]:
+        """What is answered to other lines after so many of these, and the tables then."""
+        with closing(sqlite3.connect(":memory:")) as db:
+            desk = reference.Desk(db)
+            for line in self.lines[:done]:
+                desk.answer(line)
+            return [desk.answer(line) for line in asked], trials.rows_in(db)
 
 
 def story(lines: list[bytes]) -> Story:
@@ -124,7 +127,7 @@ def asked_over_http(port: int, requests: list[Any]) -> Iterator[tuple[int, bytes
 
 def served_alike(program: str, path: Path, had: Any, told: Story) -> bool:
     """Whether each file and each kept reply is served as the older program left it."""
-    requests, wanted = [], []
+    requests, wanted = list[Any](), []
     for repository, name, text in had["repo_file"]:
         requests.append(("GET", "/%s/%s" % (repository, name), None))
         wanted.append((200, text.encode()))
@@ -147,32 +150,28 @@ def raw_rows(path: Path) -> dict[str, list[Any]]:
             for table in ("repo_file", "kept")}
 
 
-def goes_on(program: str, path: Path, told: Story, done: int, more: list[bytes]) -> bool:
-    """Whether the rest of the script, the whole once more and another one are answered by the
-    rules, which then have the same rows.
-    """
-    asked = told.lines[done:] + told.lines + more
-    desk = told.desk(done)
-    wanted = [desk.answer(line) for line in asked]
-    return trials.printed(program, path, asked) == wanted and trials.rows(
-        path) == trials.rows_in(desk.db) and not trials.faults(path)
-
-
 @dataclass
 class Left:
     """A file that the older program left, its log, and what they hold."""
 
     path: Path
-    told: Story
-    done: int
-    rows: Any
-    more: list[bytes]
     number: int
+    rows: Any
+    told: Story
+    asked: list[bytes]
+    wanted: tuple[list[str], Any]
 
     def is_either(self, path: Path) -> bool:
         """Whether a file is of the older schema still, or raised, and has the same rows."""
-        return schemas.schema_of(path) in (
-            self.number, statements.SCHEMA) and schemas.rows(path) == self.rows and not trials.faults(path)
+        either = schemas.schema_of(path) in (self.number, statements.SCHEMA)
+        return either and schemas.rows(path) == self.rows and not trials.faults(path)
+
+    def goes_on(self, program: str, path: Path) -> bool:
+        """Whether the rest of the script, the whole once more and another one are answered by the
+        rules, and leave their rows.
+        """
+        answers = trials.printed(program, path, self.asked)
+        return (answers, trials.rows(path)) == self.wanted and not trials.faults(path)
 
 
 def left_by(older: str, seed: int, own: Path) -> Left | None:
@@ -181,12 +180,13 @@ def left_by(older: str, seed: int, own: Path) -> Left | None:
     answers = begun(older, path, told.lines, rng)
     if not path.exists() or stops_before_tables(path):
         return None
-    rows, more = schemas.rows(path), script(seed + 100_000)
+    rows = schemas.rows(path)
     done = done_in(told, answers, rows)
     if answers != told.answers[:len(answers)] or done is None:
         raise SystemExit("seed %d: the older program answers otherwise: %s" %
                          (seed, fuzz.first_other(told.lines, told.answers, answers)))
-    return Left(path, told, done, rows, more, schemas.schema_of(path))
+    asked = told.lines[done:] + told.lines + script(seed + 100_000)
+    return Left(path, schemas.schema_of(path), rows, told, asked, told.after(done, asked))
 
 
 def stops_before_tables(path: Path) -> bool:
@@ -202,7 +202,7 @@ def raised(program: str, left: Left, own: Path) -> trials.Cases:
     now = raw_rows(path)
     yield "keeps each file and each reply", had == now
     yield "serves them", served_alike(program, path, had, left.told)
-    yield "goes on by the rules", goes_on(program, path, left.told, left.done, left.more)
+    yield "goes on by the rules", left.goes_on(program, path)
 
 
 def kills(program: str, left: Left, own: Path) -> trials.Cases:
@@ -210,9 +210,8 @@ def kills(program: str, left: Left, own: Path) -> trials.Cases:
     for at in range(KILLS):
         path = trials.copied(left.path, own / ("killed %d" % at))
         file_cases.killed_soon(program, path, most * at / KILLS)
-        well = left.is_either(path)
-        yield "killed at part %d of %d" % (at, KILLS), well and goes_on(
-            program, path, left.told, left.done, left.more)
+        well = left.is_either(path) and left.goes_on(program, path)
+        yield "killed at part %d of %d" % (at, KILLS), well
 
 
 def swept(program: str, left: Left, call: str) -> tuple[int, list[str]]:
@@ -227,8 +226,7 @@ def swept(program: str, left: Left, call: str) -> tuple[int, list[str]]:
                 if not status and not message:
                     break
                 number += 1
-                if not left.is_either(path) or not goes_on(program, path, left.told, left.done,
-                                                           left.more):
+                if not left.is_either(path) or not left.goes_on(program, path):
                     wrong.append("%s:%s" % (call, how % k))
     return number, wrong
 
