@@ -12,7 +12,7 @@ repositories is served, and each manifest that was answered is answered again, a
 byte, over HTTP; the rows are those that the file had; and the rest of the script, the whole once
 more and the script of another seed are answered by the rules. It is killed in the raise, too, at
 moments in turn; and of the first SWEPT (1) seeds at each call of its files, which also fails, alone
-or with all after it.
+or with all after it; then views and files are those of the rules.
 
 promise: file-adopted, tables-raised, store-opened
 """
@@ -29,6 +29,7 @@ from pathlib import Path
 from typing import Any
 
 from uptane_tools import arguments
+from uptane_tools.measure import fleet
 from uptane_tools.operate import statements
 from uptane_tools.oracle import reference
 from uptane_tools.trial import file_cases, fuzz, http_cases, schemas, stops, trials
@@ -36,6 +37,8 @@ from uptane_tools.trial import file_cases, fuzz, http_cases, schemas, stops, tri
 # what no older program knows
 NEW_WORDS = (b"retire_vehicle", )
 KILLS = 4
+# bytes that a log may have without a frame
+HEAD = 64
 
 
 @dataclass
@@ -72,29 +75,30 @@ def known(lines: list[bytes]) -> list[bytes]:
     return [line for line in lines if not any(word in line for word in NEW_WORDS)]
 
 
-def killed(older: str, path: Path, lines: list[bytes], wait: float) -> list[str]:
-    """The lines printed by a program that is killed so many seconds after its start."""
+def killed(older: str, path: Path, lines: list[bytes], rng: random.Random) -> list[str]:
+    """The lines printed by a program that is killed soon after it answered some of these, and got
+    the rest.
+    """
+    cut = rng.randint(1, len(lines))
     with subprocess.Popen([older, "run", str(path)], stdin=subprocess.PIPE,
                           stdout=subprocess.PIPE) as it:
+        told = b""
         with suppress(BrokenPipeError):
-            it.stdin.write(b"".join(line + b"\n" for line in lines))
-            it.stdin.flush()
-        time.sleep(wait)
+            for given in (lines[:cut], lines[cut:]):
+                it.stdin.write(b"".join(line + b"\n" for line in given))
+                it.stdin.flush()
+                told = told or b"".join(it.stdout.readline() for _ in given)
+        time.sleep(0.1 * rng.random())
         it.kill()
-        told = it.stdout.read()
+        told += it.stdout.read()
     return told.decode("ascii").split("\n")[:-1]
 
 
 def begun(older: str, path: Path, lines: list[bytes], rng: random.Random) -> list[str]:
-    """The answers of a run to the end or to a kill, after which there is a file."""
-    begun = time.monotonic()
-    answers = trials.printed(older, path, lines)
-    took = time.monotonic() - begun
-    if answers is not None and rng.random() < 0.7:
-        for it in (path, trials.log_of(path)):
-            it.unlink(missing_ok=True)
-        answers = killed(older, path, lines, took * (0.1 + 0.9 * rng.random()))
-    return answers
+    """The answers of a run to the end, or to a kill."""
+    if rng.random() < 0.2:
+        return trials.printed(older, path, lines)
+    return killed(older, path, lines, rng)
 
 
 def done_in(told: Story, answers: list[str], rows: Any) -> int | None:
@@ -158,6 +162,9 @@ class Left:
     number: int
     rows: Any
     told: Story
+    # lines with what the rules answer to them, and the tables then: views alone, and more
+    views: list[bytes]
+    shown: tuple[list[str], Any]
     asked: list[bytes]
     wanted: tuple[list[str], Any]
 
@@ -165,6 +172,11 @@ class Left:
         """Whether a file is of the older schema still, or raised, and has the same rows."""
         either = schemas.schema_of(path) in (self.number, statements.SCHEMA)
         return either and schemas.rows(path) == self.rows and not trials.faults(path)
+
+    def shows(self, program: str, path: Path) -> bool:
+        """Whether views and files are those of the rules."""
+        answers = trials.printed(program, path, self.views)
+        return (answers, trials.rows(path)) == self.shown and not trials.faults(path)
 
     def goes_on(self, program: str, path: Path) -> bool:
         """Whether the rest of the script, the whole once more and another one are answered by the
@@ -185,8 +197,24 @@ def left_by(older: str, seed: int, own: Path) -> Left | None:
     if answers != told.answers[:len(answers)] or done is None:
         raise SystemExit("seed %d: the older program answers otherwise: %s" %
                          (seed, fuzz.first_other(told.lines, told.answers, answers)))
+    views = list(viewing(rows))
     asked = told.lines[done:] + told.lines + script(seed + 100_000)
-    return Left(path, schemas.schema_of(path), rows, told, asked, told.after(done, asked))
+    return Left(path, schemas.schema_of(path), rows, told, views, told.after(done, views), asked,
+                told.after(done, asked))
+
+
+def viewing(rows: Any) -> Iterator[bytes]:
+    """Lines that show each vehicle and fetch each file."""
+    for name, *_ in rows["vehicle"]:
+        yield fleet.line("show", vehicle=name).encode()
+    for repository, name, _ in rows["repo_file"]:
+        yield fleet.line("fetch", repository=repository, file=name).encode()
+
+
+def has_log(path: Path) -> bool:
+    """Whether a log beside the file has more than its head."""
+    log = trials.log_of(path)
+    return log.exists() and log.stat().st_size > HEAD
 
 
 def stops_before_tables(path: Path) -> bool:
@@ -226,7 +254,7 @@ def swept(program: str, left: Left, call: str) -> tuple[int, list[str]]:
                 if not status and not message:
                     break
                 number += 1
-                if not left.is_either(path) or not left.goes_on(program, path):
+                if not left.is_either(path) or not left.shows(program, path):
                     wrong.append("%s:%s" % (call, how % k))
     return number, wrong
 
@@ -239,7 +267,7 @@ def cases(older: str, program: str, first: int, number: int, sweeps: int) -> tri
             if left is None:
                 empty += 1
                 continue
-            logs += trials.log_of(left.path).exists()
+            logs += has_log(left.path)
             replies += len(raw_rows(left.path)["kept"])
             for what, well in [*raised(program, left, own), *kills(program, left, own)]:
                 yield "seed %d %s" % (seed, what), well
